@@ -1,0 +1,53 @@
+use Rattle.table.proofs.header.bad_leading.Statement.{statement}
+use Rattle.table.proofs.header.bad_leading.Tie as tie
+use Rattle.table.proofs.header.bad_leading.Reads as reads
+use Rattle.table.proofs.header.bad_leading.Lts as lts
+use Rattle.table.proofs.header.leading_ok.Reads as leading-ok-reads
+
+abbrev Inv-loop : tie.InvT-loop
+Inv-loop numbers lines line₀ line = ?
+
+abbrev μ-loop : tie.MeasureT-loop
+μ-loop numbers lines line₀ line = ?
+
+-- src/header.rt:61:5
+loop-holds : tie.Need-loop-holds Inv-loop μ-loop
+loop-holds c = ?
+
+-- src/header.rt:62:13
+leading-ok-requires : tie.Need-leading-ok-requires Inv-loop μ-loop
+leading-ok-requires c κs = ?
+
+-- src/header.rt:63:13
+returns : tie.Need-returns Inv-loop μ-loop
+returns c = ?
+
+-- src/header.rt:65:9
+add-line : tie.Need-add-line Inv-loop μ-loop
+add-line c = ?
+
+-- src/header.rt:61:5
+loop-less : tie.Need-loop-less Inv-loop μ-loop
+loop-less c = ?
+
+-- src/header.rt:61:5
+loop-again : tie.Need-loop-again Inv-loop μ-loop
+loop-again c = ?
+
+-- src/header.rt:57:1
+returns-2 : tie.Need-returns-2 Inv-loop μ-loop
+returns-2 c = ?
+
+pub bad-leading-spec : {M : Type 1} → statement M
+bad-leading-spec =
+    tie.close
+    (tie.spec
+    Inv-loop
+    μ-loop
+    loop-holds
+    leading-ok-requires
+    returns
+    add-line
+    loop-less
+    loop-again
+    returns-2)

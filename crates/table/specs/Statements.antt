@@ -1,0 +1,73 @@
+-- "Statement lines: 4, operation, operands from field 3 on", and the table of operations. Assumes nothing.
+use Prim.Native.Nat.{ℕ, zero, suc, _+_, _-_}
+use mathlib.Core.List.{List}
+use mathlib.Core.Bool.{Bool, true, false, _&&_, _||_}
+use lib.Dec.{eqb, leb, ltb}
+use lib.IntN.{ℤ}
+use Rattle.table.specs.Fields.{field, unused}
+use Rattle.table.specs.Header.{handles, routines, statementLine}
+use Rattle.table.specs.Handles.{routineOf, kindOf, handlesFrom, parameters}
+use Rattle.table.specs.Routines.{firstOf}
+use Rattle.table.specs.Until.{until}
+
+-- the operation of statement s, and its operands, counted from 0
+abbrev pub operation : List ℤ → ℕ → ℕ
+operation f s = field f (statementLine f s) 1
+
+abbrev pub operand : List ℤ → ℕ → ℕ → ℕ
+operand f s k = field f (statementLine f s) (2 + k)
+
+-- "Handles and targets belong to the statement's own routine": x is a handle of routine r
+unfoldable pub ownHandle : List ℤ → ℕ → ℕ → Bool
+ownHandle f r x = ltb x (handles f) && eqb (routineOf f x) r
+
+-- x is a handle of routine r and of a kind
+unfoldable pub ownOfKind : List ℤ → ℕ → ℕ → ℕ → Bool
+ownOfKind f r kind x = ownHandle f r x && eqb (kindOf f x) kind
+
+-- x is a statement of routine r
+unfoldable pub ownStatement : List ℤ → ℕ → ℕ → Bool
+ownStatement f r x = leb (firstOf f r) x && ltb x (firstOf f (r + 1))
+
+-- "Arguments are that routine's handles, as many as the named routine has parameters, kinds matching in order": argument k of a statement
+-- of routine r that names routine q
+unfoldable pub argumentOk : List ℤ → ℕ → ℕ → ℕ → ℕ → Bool
+argumentOk f r q k x =
+    elim (ltb k (parameters f q)) [ true ↦ ownOfKind f r (kindOf f (handlesFrom f q + k)) x | false ↦ eqb x 0 ]
+
+-- CALL and START: a routine, and its arguments
+unfoldable pub namingOk : List ℤ → ℕ → ℕ → Bool
+namingOk f r s =
+    ltb (operand f s 0) (routines f) && argumentOk f r (operand f s 0) 0 (operand f s 1) && argumentOk f r (operand f s 0) 1 (operand f s 2)
+    && argumentOk f r (operand f s 0) 2 (operand f s 3) && argumentOk f r (operand f s 0) 3 (operand f s 4) && unused f (statementLine f s) 7
+
+-- refusal 9: statement s of routine r has a known operation, right operands, and zeros behind them
+unfoldable pub statementOk : List ℤ → ℕ → ℕ → Bool
+statementOk f r s =
+    elim (eqb (operation f s) 1 || eqb (operation f s) 2)
+    [ true ↦ ownOfKind f r 1 (operand f s 0) && unused f (statementLine f s) 3
+    | false ↦ elim (eqb (operation f s) 3 || eqb (operation f s) 4)
+    [ true ↦ unused f (statementLine f s) 3
+    | false ↦ elim (eqb (operation f s) 5 || eqb (operation f s) 6)
+    [ true ↦ ownOfKind f r 2 (operand f s 0) && unused f (statementLine f s) 3
+    | false ↦ elim (eqb (operation f s) 7)
+    [ true ↦ ownHandle f r (operand f s 0) && ownOfKind f r (kindOf f (operand f s 0)) (operand f s 1) && unused f (statementLine f s) 4
+    | false ↦ elim (eqb (operation f s) 8 || eqb (operation f s) 9)
+    [ true ↦ namingOk f r s
+    | false ↦ elim (eqb (operation f s) 10 || eqb (operation f s) 11)
+    [ true ↦ ownStatement f r (operand f s 0) && unused f (statementLine f s) 3
+    | false ↦ eqb (operation f s) 12 && unused f (statementLine f s) 2 ] ] ] ] ] ]
+
+-- the lowest statement of the n routines from r on that breaks the rule, or the one behind their last
+unfoldable pub badStatement : List ℤ → ℕ → ℕ → ℕ
+badStatement f r zero = firstOf f r
+badStatement f r (suc n) =
+    let s = until (statementOk f r) (firstOf f r) (firstOf f (r + 1) - firstOf f r) in
+    elim (ltb s (firstOf f (r + 1))) [ true ↦ s | false ↦ badStatement f (r + 1) n ]
+
+-- refusal 10: routine r's last statement is JUMP or RETURN
+abbrev pub lastOf : List ℤ → ℕ → ℕ
+lastOf f r = firstOf f (r + 1) - 1
+
+unfoldable pub endOk : List ℤ → ℕ → Bool
+endOk f r = eqb (operation f (lastOf f r)) 10 || eqb (operation f (lastOf f r)) 12

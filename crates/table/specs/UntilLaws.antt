@@ -1,0 +1,70 @@
+-- What a loop that looks for the lowest failing place needs of `until`, and what `until` says of the places it passes. Assumes nothing.
+use mathlib.Core.Path.{_≡_, refl, sym, ap, _∙_, subst}
+use mathlib.Core.Bool.{Bool, true, false}
+use Prim.Native.Nat.{ℕ, zero, suc, _+_, _-_, _≤_, _<_, zero-le}
+use native.Mathlib.Omega.{arith}
+use native.Mathlib.Nat.{add-zero, le-refl}
+use native.Mathlib.Numerals.{add-one}
+use Rattle.table.specs.Until.{until}
+
+-- one step: the test at `from` decides
+abbrev pub step : Bool → ℕ → ℕ → ℕ
+step true from next = next
+step false from next = from
+
+pub until-step : (good : ℕ → Bool) (from n : ℕ) → until good from (suc n) ≡ step (good from) from (until good (from + 1) n)
+unfolding until
+until-step good from n = go (good from) refl
+  where
+    go : (b : Bool) → good from ≡ b → until good from (suc n) ≡ step (good from) from (until good (from + 1) n)
+    go true e = rw (e, until)
+    go false e = rw (e, until)
+
+-- of the places below `end`, what is left from i on
+abbrev pub rest : (ℕ → Bool) → ℕ → ℕ → ℕ
+rest good end i = until good i (end - i)
+
+left : (end i : ℕ) → i < end → end - i ≡ suc (end - (i + 1))
+left end i h = omega arith
+
+pub until-next : (good : ℕ → Bool) (end i : ℕ) → i < end → good i ≡ true → rest good end i ≡ rest good end (i + 1)
+until-next good end i h e = rw (left end i h, until-step, e)
+
+pub until-stop : (good : ℕ → Bool) (end i : ℕ) → i < end → good i ≡ false → rest good end i ≡ i
+until-stop good end i h e = rw (left end i h, until-step, e)
+
+none-left : (end i : ℕ) → end ≤ i → end - i ≡ 0
+none-left end i h = omega arith
+
+pub until-done : (good : ℕ → Bool) (end i : ℕ) → end ≤ i → rest good end i ≡ i
+unfolding until
+until-done good end i h = rw (none-left end i h)
+
+-- a loop's invariant: the place is not past the end, and what is left gives the whole
+pub record Looking (good : ℕ → Bool) (end from i : ℕ) : Type 0 where
+  pub passed : from ≤ i
+  pub whole : rest good end i ≡ rest good end from
+
+pub looking-start : (good : ℕ → Bool) (end from : ℕ) → Looking good end from from
+looking-start good end from = record { passed = le-refl from; whole = refl }
+
+pub looking-next : (good : ℕ → Bool) (end from i : ℕ) → Looking good end from i → i < end → good i ≡ true → Looking good end from (i + 1)
+looking-next good end from i l h e =
+    record { passed = omega (arith, l .passed); whole = sym (until-next good end i h e) ∙ l .whole }
+
+pub looking-stop : (good : ℕ → Bool) (end from i : ℕ) → Looking good end from i → i < end → good i ≡ false → i ≡ rest good end from
+looking-stop good end from i l h e = sym (until-stop good end i h e) ∙ l .whole
+
+pub looking-done : (good : ℕ → Bool) (end from i : ℕ) → Looking good end from i → end ≤ i → i ≡ rest good end from
+looking-done good end from i l h = sym (until-done good end i h) ∙ l .whole
+
+-- the place found: at or behind the first, at most one behind the last
+pub until-range : (good : ℕ → Bool) (from n : ℕ) → (from ≤ until good from n) × (until good from n ≤ from + n)
+unfolding until
+until-range good from zero = (le-refl from, omega arith)
+until-range good from (suc n) = rw until-step (go (good from) (until-range good (from + 1) n))
+  where
+    go : (b : Bool) → (from + 1 ≤ until good (from + 1) n) × (until good (from + 1) n ≤ from + 1 + n)
+        → (from ≤ step b from (until good (from + 1) n)) × (step b from (until good (from + 1) n) ≤ from + suc n)
+    go true (a , b) = (omega arith, omega arith)
+    go false (a , b) = (le-refl from, omega arith)

@@ -1,0 +1,1 @@
+// The handle lines: their rule, and where each routine's handles stand.

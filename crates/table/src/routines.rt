@@ -1,0 +1,1 @@
+// The routine lines: their rule, and where each routine's statements stand.

@@ -1,0 +1,1 @@
+// The statement lines: their rule.
