@@ -1,7 +1,7 @@
 -- "Handle lines: 2, routine, kind (1 cell, 2 lock), origin (0 parameter, 1 local), the cell or lock a local starts at (0 for a parameter), 0, 0, 0." Assumes nothing.
 use Prim.Native.Nat.{ℕ, zero, suc, _+_, _-_}
 use mathlib.Core.List.{List}
-use mathlib.Core.Bool.{Bool, true, false, not, _&&_, _||_}
+use mathlib.Core.Bool.{Bool, cond, not, _&&_, _||_}
 use lib.Dec.{eqb, leb, ltb}
 use lib.IntN.{ℤ}
 use Rattle.table.specs.Fields.{field, unused}
@@ -22,7 +22,7 @@ startOf f h = field f (handleLine h) 4
 
 -- how many things there are of a kind: cells for 1, locks for 2
 unfoldable pub things : List ℤ → ℕ → ℕ
-things f kind = elim (eqb kind 1) [ true ↦ cells f | false ↦ locks f ]
+things f kind = cond (eqb kind 1) (cells f) (locks f)
 
 -- the fields of one handle line: a routine, a kind, an origin, a start that the origin and the kind allow, and zeros
 unfoldable pub handleFieldsOk : List ℤ → ℕ → Bool

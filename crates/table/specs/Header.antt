@@ -1,7 +1,7 @@
 -- "One header: 1, cells (1 to 64), locks (0 to 16), handles (0 to 128), routines (1 to 32), statements (1 to 512), 0, 0", and the order of the lines. Assumes nothing.
 use Prim.Native.Nat.{ℕ, _+_}
 use mathlib.Core.List.{List}
-use mathlib.Core.Bool.{Bool, true, false, _&&_}
+use mathlib.Core.Bool.{Bool, cond, _&&_}
 use lib.Dec.{eqb, leb}
 use lib.IntN.{ℤ}
 use Rattle.table.specs.Fields.{field, unused}
@@ -48,7 +48,7 @@ lengthOk f lines = eqb lines (statementLine f (statements f))
 -- the first field that a later line's position needs
 unfoldable pub leading : List ℤ → ℕ → ℕ
 leading f line =
-    elim (leb line (handles f)) [ true ↦ 2 | false ↦ elim (leb line (handles f + routines f)) [ true ↦ 3 | false ↦ 4 ] ]
+    cond (leb line (handles f)) 2 (cond (leb line (handles f + routines f)) 3 4)
 
 -- refusal 5: a later line's first field is the one that its position needs
 unfoldable pub leadingOk : List ℤ → ℕ → Bool

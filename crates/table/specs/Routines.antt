@@ -1,7 +1,7 @@
 -- "Routine lines: 3, statement count (at least 1), six zeros. Statements are dealt out to the routines in order." Assumes nothing.
 use Prim.Native.Nat.{ℕ, zero, suc, _+_}
 use mathlib.Core.List.{List}
-use mathlib.Core.Bool.{Bool, true, false, _&&_}
+use mathlib.Core.Bool.{Bool, _&&_}
 use lib.Dec.{eqb}
 use lib.IntN.{ℤ}
 use Rattle.table.specs.Fields.{field, unused}

@@ -1,7 +1,7 @@
 -- "Statement lines: 4, operation, operands from field 3 on", and the table of operations. Assumes nothing.
 use Prim.Native.Nat.{ℕ, zero, suc, _+_, _-_}
 use mathlib.Core.List.{List}
-use mathlib.Core.Bool.{Bool, true, false, _&&_, _||_}
+use mathlib.Core.Bool.{Bool, cond, _&&_, _||_}
 use lib.Dec.{eqb, leb, ltb}
 use lib.IntN.{ℤ}
 use Rattle.table.specs.Fields.{field, unused}
@@ -33,7 +33,7 @@ ownStatement f r x = leb (firstOf f r) x && ltb x (firstOf f (r + 1))
 -- of routine r that names routine q
 unfoldable pub argumentOk : List ℤ → ℕ → ℕ → ℕ → ℕ → Bool
 argumentOk f r q k x =
-    elim (ltb k (parameters f q)) [ true ↦ ownOfKind f r (kindOf f (handlesFrom f q + k)) x | false ↦ eqb x 0 ]
+    cond (ltb k (parameters f q)) (ownOfKind f r (kindOf f (handlesFrom f q + k)) x) (eqb x 0)
 
 -- CALL and START: a routine, and its arguments
 unfoldable pub namingOk : List ℤ → ℕ → ℕ → Bool
@@ -44,26 +44,28 @@ namingOk f r s =
 -- refusal 9: statement s of routine r has a known operation, right operands, and zeros behind them
 unfoldable pub statementOk : List ℤ → ℕ → ℕ → Bool
 statementOk f r s =
-    elim (eqb (operation f s) 1 || eqb (operation f s) 2)
-    [ true ↦ ownOfKind f r 1 (operand f s 0) && unused f (statementLine f s) 3
-    | false ↦ elim (eqb (operation f s) 3 || eqb (operation f s) 4)
-    [ true ↦ unused f (statementLine f s) 3
-    | false ↦ elim (eqb (operation f s) 5 || eqb (operation f s) 6)
-    [ true ↦ ownOfKind f r 2 (operand f s 0) && unused f (statementLine f s) 3
-    | false ↦ elim (eqb (operation f s) 7)
-    [ true ↦ ownHandle f r (operand f s 0) && ownOfKind f r (kindOf f (operand f s 0)) (operand f s 1) && unused f (statementLine f s) 4
-    | false ↦ elim (eqb (operation f s) 8 || eqb (operation f s) 9)
-    [ true ↦ namingOk f r s
-    | false ↦ elim (eqb (operation f s) 10 || eqb (operation f s) 11)
-    [ true ↦ ownStatement f r (operand f s 0) && unused f (statementLine f s) 3
-    | false ↦ eqb (operation f s) 12 && unused f (statementLine f s) 2 ] ] ] ] ] ]
+    let end = eqb (operation f s) 12 && unused f (statementLine f s) 2 in
+    let jump = ownStatement f r (operand f s 0) && unused f (statementLine f s) 3 in
+    let naming = namingOk f r s in
+    let point =
+      ownHandle f r (operand f s 0) && ownOfKind f r (kindOf f (operand f s 0)) (operand f s 1) && unused f (statementLine f s) 4 in
+    let lock = ownOfKind f r 2 (operand f s 0) && unused f (statementLine f s) 3 in
+    let value = unused f (statementLine f s) 3 in
+    let cell = ownOfKind f r 1 (operand f s 0) && unused f (statementLine f s) 3 in
+    let from-10 = cond (eqb (operation f s) 10 || eqb (operation f s) 11) jump end in
+    let from-8 = cond (eqb (operation f s) 8 || eqb (operation f s) 9) naming from-10 in
+    let from-7 = cond (eqb (operation f s) 7) point from-8 in
+    let from-5 = cond (eqb (operation f s) 5 || eqb (operation f s) 6) lock from-7 in
+    let from-3 = cond (eqb (operation f s) 3 || eqb (operation f s) 4) value from-5 in
+    cond (eqb (operation f s) 1 || eqb (operation f s) 2) cell from-3
 
 -- the lowest statement of the n routines from r on that breaks the rule, or the one behind their last
 unfoldable pub badStatement : List ℤ → ℕ → ℕ → ℕ
 badStatement f r zero = firstOf f r
 badStatement f r (suc n) =
     let s = until (statementOk f r) (firstOf f r) (firstOf f (r + 1) - firstOf f r) in
-    elim (ltb s (firstOf f (r + 1))) [ true ↦ s | false ↦ badStatement f (r + 1) n ]
+    let later = badStatement f (r + 1) n in
+    cond (ltb s (firstOf f (r + 1))) s later
 
 -- refusal 10: routine r's last statement is JUMP or RETURN
 abbrev pub lastOf : List ℤ → ℕ → ℕ

@@ -1,6 +1,6 @@
 -- What a loop that looks for the lowest failing place needs of `until`, and what `until` says of the places it passes. Assumes nothing.
 use mathlib.Core.Path.{_≡_, refl, sym, ap, _∙_, subst}
-use mathlib.Core.Bool.{Bool, true, false}
+use mathlib.Core.Bool.{Bool, true, false, cond}
 use Prim.Native.Nat.{ℕ, zero, suc, _+_, _-_, _≤_, _<_, zero-le}
 use native.Mathlib.Omega.{arith}
 use native.Mathlib.Nat.{add-zero, le-refl}
@@ -8,17 +8,9 @@ use native.Mathlib.Numerals.{add-one}
 use Rattle.table.specs.Until.{until}
 
 -- one step: the test at `from` decides
-abbrev pub step : Bool → ℕ → ℕ → ℕ
-step true from next = next
-step false from next = from
-
-pub until-step : (good : ℕ → Bool) (from n : ℕ) → until good from (suc n) ≡ step (good from) from (until good (from + 1) n)
+pub until-step : (good : ℕ → Bool) (from n : ℕ) → until good from (suc n) ≡ cond (good from) (until good (from + 1) n) from
 unfolding until
-until-step good from n = go (good from) refl
-  where
-    go : (b : Bool) → good from ≡ b → until good from (suc n) ≡ step (good from) from (until good (from + 1) n)
-    go true e = rw (e, until)
-    go false e = rw (e, until)
+until-step good from n = refl
 
 -- of the places below `end`, what is left from i on
 abbrev pub rest : (ℕ → Bool) → ℕ → ℕ → ℕ
@@ -65,6 +57,6 @@ until-range good from zero = (le-refl from, omega arith)
 until-range good from (suc n) = rw until-step (go (good from) (until-range good (from + 1) n))
   where
     go : (b : Bool) → (from + 1 ≤ until good (from + 1) n) × (until good (from + 1) n ≤ from + 1 + n)
-        → (from ≤ step b from (until good (from + 1) n)) × (step b from (until good (from + 1) n) ≤ from + suc n)
+        → (from ≤ cond b (until good (from + 1) n) from) × (cond b (until good (from + 1) n) from ≤ from + suc n)
     go true (a , b) = (omega arith, omega arith)
     go false (a , b) = (le-refl from, omega arith)

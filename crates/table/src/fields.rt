@@ -12,23 +12,20 @@ fn plain_number(x: i32) -> usize
 }
 
 // The number in field `j` of `line`; 0 past the end.
-pub fn number_at(numbers: &[i32; 5384], line: usize, j: usize) -> i32
+pub fn number_at(numbers: &[i32], line: usize, j: usize) -> i32
     ensures { λ r. ⌜ r ≡ number (now (numbers .entry)) line j ⌝ }
 {
-    if line < 673 {
-        if j < 5384 {
-            let at = line * 8 + j;
-            if at < 5384 { numbers[at] } else { 0 }
-        } else {
-            0
+    let count = numbers.len();
+    if j < count {
+        if line <= (count - 1 - j) / 8 {
+            return numbers[line * 8 + j];
         }
-    } else {
-        0
     }
+    0
 }
 
 // Field `j` of `line` as the rules compare it.
-pub fn field_at(numbers: &[i32; 5384], line: usize, j: usize) -> usize
+pub fn field_at(numbers: &[i32], line: usize, j: usize) -> usize
     ensures is { λ r. ⌜ r ≡ field (now (numbers .entry)) line j ⌝ }
     ensures small { λ r. ⌜ r < 2 ^ 31 ⌝ }
 {
@@ -36,7 +33,7 @@ pub fn field_at(numbers: &[i32; 5384], line: usize, j: usize) -> usize
 }
 
 // Whether the fields of `line` from field `from` on are 0.
-pub fn is_unused(numbers: &[i32; 5384], line: usize, from: usize) -> bool
+pub fn is_unused(numbers: &[i32], line: usize, from: usize) -> bool
     ensures { λ r. ⌜ r ≡ unused (now (numbers .entry)) line from ⌝ }
 {
     let mut j = from;

@@ -13,7 +13,7 @@ pub fn is_within(low: usize, high: usize, n: usize) -> bool
 }
 
 // Refusal 3's rule.
-pub fn header_ok(numbers: &[i32; 5384]) -> bool
+pub fn header_ok(numbers: &[i32]) -> bool
     ensures { λ r. ⌜ r ≡ headerOk (now (numbers .entry)) ⌝ }
 {
     (field_at(numbers, 0, 0) == 1)
@@ -26,14 +26,14 @@ pub fn header_ok(numbers: &[i32; 5384]) -> bool
 }
 
 // Refusal 4's rule, for a text of so many lines.
-pub fn length_ok(numbers: &[i32; 5384], lines: usize) -> bool
+pub fn length_ok(numbers: &[i32], lines: usize) -> bool
     ensures { λ r. ⌜ r ≡ lengthOk (now (numbers .entry)) lines ⌝ }
 {
     lines == 1 + field_at(numbers, 0, 3) + field_at(numbers, 0, 4) + field_at(numbers, 0, 5)
 }
 
 // The first field that a later line's position needs.
-fn leading_of(numbers: &[i32; 5384], line: usize) -> usize
+fn leading_of(numbers: &[i32], line: usize) -> usize
     ensures { λ r. ⌜ r ≡ leading (now (numbers .entry)) line ⌝ }
 {
     let handles = field_at(numbers, 0, 3);
@@ -47,14 +47,14 @@ fn leading_of(numbers: &[i32; 5384], line: usize) -> usize
 }
 
 // Refusal 5's rule at a later line.
-fn leading_ok(numbers: &[i32; 5384], line: usize) -> bool
+fn leading_ok(numbers: &[i32], line: usize) -> bool
     ensures { λ r. ⌜ r ≡ leadingOk (now (numbers .entry)) line ⌝ }
 {
     field_at(numbers, line, 0) == leading_of(numbers, line)
 }
 
 // The lowest later line that breaks refusal 5's rule, or the number of lines.
-pub fn bad_leading(numbers: &[i32; 5384], lines: usize) -> usize
+pub fn bad_leading(numbers: &[i32], lines: usize) -> usize
     ensures { λ r. ⌜ r ≡ until (leadingOk (now (numbers .entry))) 1 (lines - 1) ⌝ }
 {
     let mut line = 1;

@@ -1,5 +1,7 @@
 -- `table::fields::field_at` meets its contract. Assumes nothing.
 use mathlib.Core.Path.{ap, _∙_}
+use mir.Facts.{toZ-ofZ}
+use mir.Syntax.{w32}
 use Rattle.table.specs.Fields.{plain}
 use borrow.Author.Needs.{needs}
 use Rattle.table.proofs.fields.field_at.Statement.{statement}
@@ -19,7 +21,7 @@ plain-number-requires c κs = search needs
 
 -- src/fields.rt:31:1
 returns : tie.Need-returns
-returns c = (c .plain-number .ensures .0 ∙ ap plain (c .before .number-at .ensures), c .plain-number .ensures .1)
+returns c = (c .plain-number .ensures .0 ∙ ap plain (toZ-ofZ {w = w32} (record { sfits = c .before .number-at .ok }) ∙ c .before .number-at .ensures), c .plain-number .ensures .1)
 
 pub field-at-spec : {M : Type 1} → statement M
 field-at-spec = tie.close (tie.spec number-at-requires plain-number-requires returns)

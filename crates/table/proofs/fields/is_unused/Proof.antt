@@ -3,6 +3,7 @@ use borrow.Author.Needs.{needs}
 use mathlib.Core.Path.{_≡_, refl, sym, ap, _∙_}
 use borrow.Author.Tests.{eq-eqb, ne-eqb, le-leb, lt-leb}
 use Prim.Native.Nat.{ℕ, _-_}
+use lib.Dec.{leb}
 use native.Mathlib.Omega.{arith}
 use Rattle.table.specs.Fields.{isZero, unused}
 use Rattle.table.specs.UntilLaws.{Looking, looking-start, looking-next, looking-stop, looking-done}
@@ -28,7 +29,8 @@ field-at-requires c κs = tt
 
 -- src/fields.rt:45:13
 returns : tie.Need-returns Inv-loop μ-loop
-returns c = ?r1
+unfolding unused
+returns c = sym (ap (leb 8) (sym (looking-stop _ _ _ _ (c .before .before .before .loop .inv) (c .before .before .loop-test .taken) (ne-eqb _ _ (λ e. c .if1 .taken (c .before .field-at .ensures .0 ∙ e))))) ∙ lt-leb _ _ (c .before .before .loop-test .taken))
 
 -- src/fields.rt:47:9
 add-j : tie.Need-add-j Inv-loop μ-loop
@@ -40,11 +42,12 @@ loop-less c = search needs
 
 -- src/fields.rt:43:5
 loop-again : tie.Need-loop-again Inv-loop μ-loop
-loop-again c = ?r2
+loop-again c = looking-next _ _ _ _ (c .before .before .before .loop .inv) (c .before .before .loop-test .taken) (eq-eqb _ _ (sym (c .before .field-at .ensures .0) ∙ c .if1 .left))
 
 -- src/fields.rt:39:1
 returns-2 : tie.Need-returns-2 Inv-loop μ-loop
-returns-2 c = ?r3
+unfolding unused
+returns-2 c = sym (ap (leb 8) (sym (looking-done _ _ _ _ (c .before .loop .inv) (c .loop-test .left))) ∙ le-leb _ _ (c .loop-test .left))
 
 pub is-unused-spec : {M : Type 1} → statement M
 is-unused-spec =

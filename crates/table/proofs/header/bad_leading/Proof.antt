@@ -1,3 +1,10 @@
+-- `table::header::bad_leading` meets its contract. Assumes nothing.
+use borrow.Author.Needs.{needs}
+use borrow.Author.Tests.{not-true, not-false}
+use mathlib.Core.Path.{sym, _∙_}
+use Prim.Native.Nat.{_-_}
+use Rattle.table.specs.Header.{leadingOk}
+use Rattle.table.specs.UntilLaws.{Looking, looking-start, looking-next, looking-stop, looking-done}
 use Rattle.table.proofs.header.bad_leading.Statement.{statement}
 use Rattle.table.proofs.header.bad_leading.Tie as tie
 use Rattle.table.proofs.header.bad_leading.Reads as reads
@@ -5,38 +12,38 @@ use Rattle.table.proofs.header.bad_leading.Lts as lts
 use Rattle.table.proofs.header.leading_ok.Reads as leading-ok-reads
 
 abbrev Inv-loop : tie.InvT-loop
-Inv-loop numbers lines line₀ line = ?
+Inv-loop numbers lines line₀ line = Looking (leadingOk numbers) lines 1 line
 
 abbrev μ-loop : tie.MeasureT-loop
-μ-loop numbers lines line₀ line = ?
+μ-loop numbers lines line₀ line = lines - line
 
 -- src/header.rt:61:5
 loop-holds : tie.Need-loop-holds Inv-loop μ-loop
-loop-holds c = ?
+loop-holds c = looking-start _ _ _
 
 -- src/header.rt:62:13
 leading-ok-requires : tie.Need-leading-ok-requires Inv-loop μ-loop
-leading-ok-requires c κs = ?
+leading-ok-requires c κs = tt
 
 -- src/header.rt:63:13
 returns : tie.Need-returns Inv-loop μ-loop
-returns c = ?
+returns c = looking-stop _ _ _ _ (c .before .before .before .loop .inv) (c .before .before .loop-test .taken) (sym (c .before .leading-ok .ensures) ∙ not-true _ (c .if1 .taken))
 
 -- src/header.rt:65:9
 add-line : tie.Need-add-line Inv-loop μ-loop
-add-line c = ?
+add-line c = search needs
 
 -- src/header.rt:61:5
 loop-less : tie.Need-loop-less Inv-loop μ-loop
-loop-less c = ?
+loop-less c = search needs
 
 -- src/header.rt:61:5
 loop-again : tie.Need-loop-again Inv-loop μ-loop
-loop-again c = ?
+loop-again c = looking-next _ _ _ _ (c .before .before .before .loop .inv) (c .before .before .loop-test .taken) (sym (c .before .leading-ok .ensures) ∙ not-false _ (c .if1 .left))
 
 -- src/header.rt:57:1
 returns-2 : tie.Need-returns-2 Inv-loop μ-loop
-returns-2 c = ?
+returns-2 c = looking-done _ _ _ _ (c .before .loop .inv) (c .loop-test .left)
 
 pub bad-leading-spec : {M : Type 1} → statement M
 bad-leading-spec =

@@ -1,3 +1,7 @@
+-- `table::header::leading_of` meets its contract. Assumes nothing.
+use mathlib.Core.Path.{sym}
+use borrow.Author.Tests.{le-leb, lt-leb}
+use Rattle.table.specs.Header.{leading}
 use borrow.Author.Needs.{needs}
 use Rattle.table.proofs.header.leading_of.Statement.{statement}
 use Rattle.table.proofs.header.leading_of.Tie as tie
@@ -11,7 +15,8 @@ field-at-requires c κs = search needs
 
 -- src/header.rt:41:9
 returns : tie.Need-returns
-returns c = ?
+unfolding leading
+returns c = rw (le-leb _ _ (rw (c .before .field-at .ensures .0) at (c .if1 .taken)))
 
 -- src/header.rt:43:26
 field-at-requires-2 : tie.Need-field-at-requires-2
@@ -23,11 +28,13 @@ add-if2 c = search needs
 
 -- src/header.rt:44:9
 returns-2 : tie.Need-returns-2
-returns-2 c = ?
+unfolding leading
+returns-2 c = rw (lt-leb _ _ (rw (c .before .before .before .field-at .ensures .0) at (c .before .before .if1 .left)), le-leb _ _ (rw (c .before .before .before .field-at .ensures .0, c .before .field-at2 .ensures .0) at (c .if2 .taken)))
 
 -- src/header.rt:36:1
 returns-3 : tie.Need-returns-3
-returns-3 c = ?
+unfolding leading
+returns-3 c = rw (lt-leb _ _ (rw (c .before .before .before .field-at .ensures .0) at (c .before .before .if1 .left)), lt-leb _ _ (rw (c .before .before .before .field-at .ensures .0, c .before .field-at2 .ensures .0) at (c .if2 .left)))
 
 pub leading-of-spec : {M : Type 1} → statement M
 leading-of-spec =

@@ -1,3 +1,5 @@
+-- `table::header::leading_ok` meets its contract. Assumes nothing.
+use Rattle.table.specs.Header.{leadingOk}
 use borrow.Author.Needs.{needs}
 use Rattle.table.proofs.header.leading_ok.Statement.{statement}
 use Rattle.table.proofs.header.leading_ok.Tie as tie
@@ -16,7 +18,8 @@ leading-of-requires c κs = search needs
 
 -- src/header.rt:50:1
 returns : tie.Need-returns
-returns c = ?
+unfolding leadingOk
+returns c = rw (c .before .field-at .ensures .0, c .leading-of .ensures)
 
 pub leading-ok-spec : {M : Type 1} → statement M
 leading-ok-spec = tie.close (tie.spec field-at-requires leading-of-requires returns)

@@ -1,3 +1,5 @@
+-- `table::header::length_ok` meets its contract. Assumes nothing.
+use Rattle.table.specs.Header.{lengthOk}
 use borrow.Author.Needs.{needs}
 use Rattle.table.proofs.header.length_ok.Statement.{statement}
 use Rattle.table.proofs.header.length_ok.Tie as tie
@@ -31,7 +33,8 @@ add-result-3 c = search needs
 
 -- src/header.rt:29:1
 returns : tie.Need-returns
-returns c = ?
+unfolding lengthOk
+returns c = rw (c .before .before .field-at .ensures .0, c .before .field-at2 .ensures .0, c .field-at3 .ensures .0)
 
 pub length-ok-spec : {M : Type 1} → statement M
 length-ok-spec =
