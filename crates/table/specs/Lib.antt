@@ -5,3 +5,5 @@ pub mod Header
 pub mod Handles
 pub mod Routines
 pub mod Statements
+pub mod Table
+pub mod Accepted

@@ -48,7 +48,7 @@ statementOk f r s =
     let jump = ownStatement f r (operand f s 0) && unused f (statementLine f s) 3 in
     let naming = namingOk f r s in
     let point =
-      ownHandle f r (operand f s 0) && ownOfKind f r (kindOf f (operand f s 0)) (operand f s 1) && unused f (statementLine f s) 4 in
+    ownHandle f r (operand f s 0) && ownOfKind f r (kindOf f (operand f s 0)) (operand f s 1) && unused f (statementLine f s) 4 in
     let lock = ownOfKind f r 2 (operand f s 0) && unused f (statementLine f s) 3 in
     let value = unused f (statementLine f s) 3 in
     let cell = ownOfKind f r 1 (operand f s 0) && unused f (statementLine f s) 3 in

@@ -58,5 +58,5 @@ until-range good from (suc n) = rw until-step (go (good from) (until-range good 
   where
     go : (b : Bool) → (from + 1 ≤ until good (from + 1) n) × (until good (from + 1) n ≤ from + 1 + n)
         → (from ≤ cond b (until good (from + 1) n) from) × (cond b (until good (from + 1) n) from ≤ from + suc n)
-    go true (a , b) = (omega arith, omega arith)
-    go false (a , b) = (le-refl from, omega arith)
+    go true (a, b) = (omega arith, omega arith)
+    go false (a, b) = (le-refl from, omega arith)

@@ -3,7 +3,8 @@ ghost use mathlib.Core.Path.{_≡_};
 ghost use Prim.Native.Nat.{_-_};
 ghost use Rattle.table.specs.Until.{until};
 ghost use Rattle.table.specs.Header.{within, headerOk, lengthOk, leading, leadingOk};
-use crate::fields::{field_at, is_unused};
+use crate::fields::field_at;
+use crate::fields::is_unused;
 
 // Whether n is from low to high.
 pub fn is_within(low: usize, high: usize, n: usize) -> bool
