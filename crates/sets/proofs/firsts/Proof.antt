@@ -1,24 +1,29 @@
+-- `sets::firsts` meets its contract. Assumes nothing.
+use Prim.Native.Nat.{ℕ, _-_, _^_, _<_, min}
+use Rattle.sets.proofs.Shift.{shifted}
+use Rattle.sets.specs.Set.{firsts}
 use borrow.Author.Needs.{needs}
+use lib.Pow.{pow-pos}
+use mathlib.Core.Path.{_≡_, sym, ap, _∙_}
+use native.Mathlib.Omega.{arith}
 use Rattle.sets.proofs.firsts.Statement.{statement}
 use Rattle.sets.proofs.firsts.Tie as tie
-use Rattle.sets.proofs.firsts.Reads as reads
-use Rattle.sets.proofs.firsts.Lts as lts
 
--- src/lib.rt:39:17
 shl-result : tie.Need-shl-result
 shl-result c = search needs
 
--- src/lib.rt:39:16
 sub-result : tie.Need-sub-result
-sub-result c = ?
+sub-result c = omega (arith, shifted (c .before .args .n) (c .if1 .taken), pow-pos (c .before .args .n))
 
--- src/lib.rt:39:9
 returns : tie.Need-returns
-returns c = ?
+unfolding firsts
+returns c =
+    let m : c .before .args .n ≡ min (c .before .args .n) 64 = omega arith in
+    ap (λ (x : ℕ). x - 1) (shifted (c .before .args .n) (omega arith) ∙ ap (λ (x : ℕ). 2 ^ x) m)
 
--- src/lib.rt:35:1
 returns-2 : tie.Need-returns-2
-returns-2 c = ?
+unfolding firsts
+returns-2 c = let m : 64 ≡ min (c .before .args .n) 64 = omega arith in ap (λ (x : ℕ). 2 ^ x - 1) m
 
 pub firsts-spec : {M : Type 1} → statement M
 firsts-spec = tie.close (tie.spec shl-result sub-result returns returns-2)

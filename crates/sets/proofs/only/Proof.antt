@@ -1,25 +1,27 @@
+-- `sets::only` meets its contract. Assumes nothing.
+use Rattle.sets.specs.Set.{isSingle}
+use Rattle.sets.specs.SetLaws.{only-when, only-unless}
 use borrow.Author.Needs.{needs}
+use borrow.Author.Tests.{eq-eqb, ne-eqb}
+use lib.Count.{trailing-le}
+use mathlib.Core.Path.{sym, _∙_}
+use native.Mathlib.Omega.{arith}
 use Rattle.sets.proofs.only.Statement.{statement}
 use Rattle.sets.proofs.only.Tie as tie
-use Rattle.sets.proofs.only.Reads as reads
-use Rattle.sets.proofs.only.Lts as lts
-use Rattle.sets.proofs.count.Reads as count-reads
 
--- src/lib.rt:114:8
 count-requires : tie.Need-count-requires
 count-requires c κs = search needs
 
--- src/lib.rt:115:31
 cast-t5 : tie.Need-cast-t5
-cast-t5 c = ?
+cast-t5 c = omega (arith, trailing-le 64 (c .before .before .args .s))
 
--- src/lib.rt:115:9
 returns : tie.Need-returns
-returns c = ?
+unfolding isSingle
+returns c = sym (only-when _ (eq-eqb _ 1 (sym (c .before .count .ensures) ∙ c .if1 .taken)))
 
--- src/lib.rt:111:1
 returns-2 : tie.Need-returns-2
-returns-2 c = ?
+unfolding isSingle
+returns-2 c = sym (only-unless _ (ne-eqb _ 1 (λ e. c .if1 .left (c .before .count .ensures ∙ e))))
 
 pub only-spec : {M : Type 1} → statement M
 only-spec = tie.close (tie.spec count-requires cast-t5 returns returns-2)
