@@ -1,0 +1,222 @@
+-- What edges come to: the least list is closed under every edge, holds the start, and is inside every other such list. Assumes nothing.
+use mathlib.Core.Path.{_≡_, refl, sym, ap, _∙_, subst}
+use mathlib.Core.Bool.{Bool, true, false}
+use mathlib.Core.List.{List, [], _∷_}
+use Prim.Native.Nat.{ℕ, zero, suc, _+_, _^_, _≤_, _<_, suc-le-suc}
+use native.Mathlib.Nat.{le-of-suc-le-suc, zero-lt-suc}
+use native.Mathlib.Omega.{arith}
+use lib.Dec.{eqb, ltb}
+use lib.ListN.{length, getD, set, length-set}
+use lib.Seq.{getD-set-same, getD-set-other, set-out, set-getD}
+use borrow.Author.Tests.{eqb-true, eqb-false, ltb-true, ltb-false}
+use Rattle.sets.specs.Set.{has, union}
+use Rattle.sets.specs.SetLaws.{has-union-left, has-union-right, union-cases, union-below}
+use Rattle.sets.specs.Least.{SetList, Inside, Steady, settled, along, passEdges, least, Held, Closed}
+use Rattle.sets.specs.InsideLaws.{inside-refl, inside-trans, inside-equal}
+use Rattle.sets.specs.Settled.{settled-keeps, settled-sets, settled-closed, settled-holds-start, settled-inside, settled-is, settled-induction}
+
+-- ---- one edge
+
+module _ (f t : ℕ) (s : List ℕ) where
+  pub along-length : length (along f t s) ≡ length s
+  unfolding along
+  along-length = length-set s t (union (getD s t 0) (getD s f 0))
+
+  -- past the end nothing is written
+  along-out : length s ≤ t → along f t s ≡ s
+  unfolding along
+  along-out h = set-out s t (union (getD s t 0) (getD s f 0)) h
+
+  along-here : t < length s → getD (along f t s) t 0 ≡ union (getD s t 0) (getD s f 0)
+  unfolding along
+  along-here h = getD-set-same s t (union (getD s t 0) (getD s f 0)) 0 h
+
+  -- every other place is kept
+  pub along-elsewhere : (i : ℕ) → (i ≡ t → ⊥) → getD (along f t s) i 0 ≡ getD s i 0
+  unfolding along
+  along-elsewhere i d = getD-set-other s t i (union (getD s t 0) (getD s f 0)) 0 d
+
+  -- a place is another one, or past the end, or the one that the edge leads to
+  along-places {ℓ} : {C : Type ℓ} (i : ℕ) → (getD (along f t s) i 0 ≡ getD s i 0 → C)
+      → (i ≡ t → t < length s → getD (along f t s) i 0 ≡ union (getD s t 0) (getD s f 0) → C) → C
+  along-places {C = C} i a b = go (eqb i t) refl (ltb t (length s)) refl
+    where
+      go : (x : Bool) → eqb i t ≡ x → (y : Bool) → ltb t (length s) ≡ y → C
+      go false d y l = a (along-elsewhere i (eqb-false i t d))
+      go true d false l = a (ap (λ (r : List ℕ). getD r i 0) (along-out (ltb-false t (length s) l)))
+      go true d true l =
+          let e : i ≡ t = eqb-true i t d in
+          b e (ltb-true t (length s) l) (ap (λ (j : ℕ). getD (along f t s) j 0) e ∙ along-here (ltb-true t (length s) l))
+
+  pub along-grows : Inside s (along f t s)
+  along-grows = record {
+    at = λ i e h.
+        along-places i (λ q. ap (λ (x : ℕ). has x e) q ∙ h)
+        (λ p l q. ap (λ (x : ℕ). has x e) q ∙ has-union-left (getD s t 0) (getD s f 0) e (ap (λ (j : ℕ). has (getD s j 0) e) (sym p) ∙ h))
+  }
+
+  -- an element that is there afterwards was there, or came along the edge
+  pub along-cases {ℓ} : {C : Type ℓ} (i e : ℕ) → (has (getD s i 0) e ≡ true → C) → (i ≡ t → t < length s → has (getD s f 0) e ≡ true → C)
+      → has (getD (along f t s) i 0) e ≡ true → C
+  along-cases i e a b h =
+      along-places i (λ q. a (ap (λ (x : ℕ). has x e) (sym q) ∙ h))
+      (λ p l q.
+      union-cases (getD s t 0) (getD s f 0) e (λ g. a (ap (λ (j : ℕ). has (getD s j 0) e) p ∙ g)) (b p l)
+      (ap (λ (x : ℕ). has x e) (sym q) ∙ h))
+
+  pub along-puts : t < length s → (e : ℕ) → has (getD s f 0) e ≡ true → has (getD (along f t s) t 0) e ≡ true
+  along-puts l e h = ap (λ (x : ℕ). has x e) (along-here l) ∙ has-union-right (getD s t 0) (getD s f 0) e h
+
+  pub along-sets : (n : ℕ) → SetList n s → SetList n (along f t s)
+  along-sets n h = record {
+    places = along-length ∙ h .places;
+    below = λ i.
+        along-places i (λ q. subst (λ (x : ℕ). x < 2 ^ 64) (sym q) (h .below i))
+        (λ p l q. subst (λ (x : ℕ). x < 2 ^ 64) (sym q) (union-below 64 (h .below t) (h .below f)))
+  }
+
+  -- an edge that has nothing to put changes nothing, and the other way round
+  pub held-still : Held s f t → along f t s ≡ s
+  held-still h =
+      inside-equal along-length
+      (record { at = λ i e g. along-cases i e (λ a. a) (λ p l b. ap (λ (j : ℕ). has (getD s j 0) e) p ∙ h .carried l e b) g })
+      along-grows
+
+  pub still-held : along f t s ≡ s → Held s f t
+  still-held q = record { carried = λ l e h. ap (λ (r : List ℕ). has (getD r t 0) e) (sym q) ∙ along-puts l e h }
+
+  -- what is inside a list with nothing to put stays inside it
+  pub along-inside : (r : List ℕ) → length s ≡ length r → Held r f t → Inside s r → Inside (along f t s) r
+  along-inside r l h a = record {
+    at = λ i e. along-cases i e (a .at i e)
+        (λ p m b. ap (λ (j : ℕ). has (getD r j 0) e) p ∙ h .carried (subst (λ (x : ℕ). t < x) l m) e (a .at f e b))
+  }
+
+along-monotone : (f t : ℕ) (s r : List ℕ) → length s ≡ length r → Inside s r → Inside (along f t s) (along f t r)
+along-monotone f t s r l a = record {
+  at = λ i e. along-cases f t s i e (λ h. along-grows f t r .at i e (a .at i e h))
+      (λ p m b. ap (λ (j : ℕ). has (getD (along f t r) j 0) e) p ∙ along-puts f t r (subst (λ (x : ℕ). t < x) l m) e (a .at f e b))
+}
+
+-- ---- a pass over the edges
+
+pass-sets : (n : ℕ) (from to s : List ℕ) → SetList n s → SetList n (passEdges from to s)
+unfolding passEdges
+pass-sets n [] to s h = h
+pass-sets n (f ∷ from) [] s h = h
+pass-sets n (f ∷ from) (t ∷ to) s h = pass-sets n from to (along f t s) (along-sets f t s n h)
+
+pass-length : (from to s : List ℕ) → length (passEdges from to s) ≡ length s
+unfolding passEdges
+pass-length [] to s = refl
+pass-length (f ∷ from) [] s = refl
+pass-length (f ∷ from) (t ∷ to) s = pass-length from to (along f t s) ∙ along-length f t s
+
+pass-grows : (from to s : List ℕ) → Inside s (passEdges from to s)
+unfolding passEdges
+pass-grows [] to s = inside-refl s
+pass-grows (f ∷ from) [] s = inside-refl s
+pass-grows (f ∷ from) (t ∷ to) s = inside-trans (along-grows f t s) (pass-grows from to (along f t s))
+
+pass-monotone : (from to s r : List ℕ) → length s ≡ length r → Inside s r → Inside (passEdges from to s) (passEdges from to r)
+unfolding passEdges
+pass-monotone [] to s r l a = a
+pass-monotone (f ∷ from) [] s r l a = a
+pass-monotone (f ∷ from) (t ∷ to) s r l a =
+    pass-monotone from to (along f t s) (along f t r) (along-length f t s ∙ l ∙ sym (along-length f t r)) (along-monotone f t s r l a)
+
+pub edges-steady : (n : ℕ) (from to : List ℕ) → Steady n (passEdges from to)
+edges-steady n from to = record {
+  keeps = λ s h. pass-sets n from to s h;
+  grows = λ s h. pass-grows from to s;
+  monotone = λ s t h k a. pass-monotone from to s t (h .places ∙ sym (k .places)) a
+}
+
+-- ---- a pass changes nothing just where every edge has nothing to put
+
+tail-closed : {f t : ℕ} {from to s : List ℕ} → Closed (f ∷ from) (t ∷ to) s → Closed from to s
+tail-closed c = record { edge = λ k h g. c .edge (suc k) (suc-le-suc h) (suc-le-suc g) }
+
+pub closed-still : (from to s : List ℕ) → Closed from to s → passEdges from to s ≡ s
+unfolding passEdges
+closed-still [] to s c = refl
+closed-still (f ∷ from) [] s c = refl
+closed-still (f ∷ from) (t ∷ to) s c =
+    ap (passEdges from to) (held-still f t s (c .edge 0 (zero-lt-suc (length from)) (zero-lt-suc (length to)))) ∙ closed-still from to s (tail-closed c)
+
+pub still-closed : (from to s : List ℕ) → passEdges from to s ≡ s → Closed from to s
+unfolding passEdges
+still-closed [] to s q = record { edge = λ k h g. absurd (omega arith) }
+still-closed (f ∷ from) [] s q = record { edge = λ k h g. absurd (omega arith) }
+still-closed (f ∷ from) (t ∷ to) s q =
+    let a : along f t s ≡ s =
+        inside-equal (along-length f t s) (subst (λ (r : List ℕ). Inside (along f t s) r) q (pass-grows from to (along f t s))) (along-grows f t s) in
+    let ih : Closed from to s = still-closed from to s (ap (passEdges from to) (sym a) ∙ q) in
+    record { edge = both (still-held f t s a) ih }
+  where
+    both : Held s f t → Closed from to s → (k : ℕ) → k < suc (length from) → k < suc (length to) → Held s (getD (f ∷ from) k 0) (getD (t ∷ to) k 0)
+    both h c zero l m = h
+    both h c (suc k) l m = c .edge k (le-of-suc-le-suc l) (le-of-suc-le-suc m)
+
+-- ---- what goes along the edges, and what no edge leads to
+
+pass-carries : (n : ℕ) (P : ℕ → ℕ → Type 0) (from to r : List ℕ) → SetList n r
+    → ((k : ℕ) → k < length from → k < length to → getD to k 0 < n → (e : ℕ) → P (getD from k 0) e → P (getD to k 0) e)
+    → ((i e : ℕ) → has (getD r i 0) e ≡ true → P i e)
+    → (i e : ℕ) → has (getD (passEdges from to r) i 0) e ≡ true → P i e
+unfolding passEdges
+pass-carries n P [] to r k f q = q
+pass-carries n P (a ∷ from) [] r k f q = q
+pass-carries n P (a ∷ from) (b ∷ to) r k f q =
+    pass-carries n P from to (along a b r) (along-sets a b r n k) (λ j l m. f (suc j) (suc-le-suc l) (suc-le-suc m))
+    (λ i e. along-cases a b r i e (q i e)
+    (λ p l g. subst (λ (j : ℕ). P j e) (sym p) (f 0 (zero-lt-suc (length from)) (zero-lt-suc (length to)) (subst (λ (x : ℕ). b < x) (k .places) l) e (q a e g))))
+
+pass-leaves : (i : ℕ) (from to r : List ℕ) → ((k : ℕ) → k < length from → k < length to → getD to k 0 ≡ i → ⊥) → getD (passEdges from to r) i 0 ≡ getD r i 0
+unfolding passEdges
+pass-leaves i [] to r d = refl
+pass-leaves i (a ∷ from) [] r d = refl
+pass-leaves i (a ∷ from) (b ∷ to) r d =
+    pass-leaves i from to (along a b r) (λ k l m. d (suc k) (suc-le-suc l) (suc-le-suc m))
+    ∙ along-elsewhere a b r i (λ e. d 0 (zero-lt-suc (length from)) (zero-lt-suc (length to)) (sym e))
+
+-- ---- the least list
+
+module _ (n : ℕ) (from to s : List ℕ) (h : SetList n s) where
+  pub least-sets : SetList n (least from to s)
+  unfolding least
+  least-sets = settled-sets n (passEdges from to) (edges-steady n from to) s h
+
+  pub least-holds-start : Inside s (least from to s)
+  unfolding least
+  least-holds-start = settled-holds-start n (passEdges from to) (edges-steady n from to) s h
+
+  pub least-closed : Closed from to (least from to s)
+  unfolding least
+  least-closed = still-closed from to (least from to s) (settled-closed n (passEdges from to) (edges-steady n from to) s h)
+
+  -- inside every closed list that holds the start
+  pub least-inside : (r : List ℕ) → SetList n r → Inside s r → Closed from to r → Inside (least from to s) r
+  unfolding least
+  least-inside r k a c =
+      settled-inside n (passEdges from to) (edges-steady n from to) s r h k a
+      (subst (λ (x : List ℕ). Inside x r) (sym (closed-still from to r c)) (inside-refl r))
+
+  -- a closed list between the start and the least list is the least list, whatever way it was come to
+  pub least-is : (r : List ℕ) → SetList n r → Inside s r → Inside r (least from to s) → Closed from to r → r ≡ least from to s
+  least-is r k a b c = inside-equal (k .places ∙ sym (least-sets .places)) b (least-inside r k a c)
+
+  -- what holds of every element at the start, and goes along every edge, holds of every element of the least list
+  pub least-induction : (P : ℕ → ℕ → Type 0)
+      → ((k : ℕ) → k < length from → k < length to → getD to k 0 < n → (e : ℕ) → P (getD from k 0) e → P (getD to k 0) e)
+      → ((i e : ℕ) → has (getD s i 0) e ≡ true → P i e)
+      → (i e : ℕ) → has (getD (least from to s) i 0) e ≡ true → P i e
+  unfolding least
+  least-induction P f p =
+      settled-induction n (passEdges from to) (edges-steady n from to) P
+      (λ r k q. pass-carries n P from to r k f q) s h p
+
+  -- a place that no edge leads to is kept
+  pub least-untouched : (i : ℕ) → ((k : ℕ) → k < length from → k < length to → getD to k 0 ≡ i → ⊥) → getD (least from to s) i 0 ≡ getD s i 0
+  unfolding least
+  least-untouched i d = settled-keeps (passEdges from to) (λ (r : List ℕ). getD r i 0 ≡ getD s i 0) (λ r q. pass-leaves i from to r d ∙ q) s refl

@@ -1,0 +1,6 @@
+pub mod Set
+pub mod SetLaws
+pub mod Least
+pub mod InsideLaws
+pub mod Settled
+pub mod LeastLaws
