@@ -3,7 +3,7 @@ use mathlib.Core.Path.{_≡_, refl, sym, ap, _∙_, subst}
 use mathlib.Core.Bool.{Bool, true, false, cond}
 use Prim.Native.Nat.{ℕ, zero, suc, _+_, _-_, _≤_, _<_, zero-le}
 use native.Mathlib.Omega.{arith}
-use native.Mathlib.Nat.{add-zero, le-refl}
+use native.Mathlib.Nat.{le-refl, sub-zero}
 use native.Mathlib.Numerals.{add-one}
 use Rattle.table.specs.Until.{until}
 
@@ -60,3 +60,10 @@ until-range good from (suc n) = rw until-step (go (good from) (until-range good 
         → (from ≤ cond b (until good (from + 1) n) from) × (cond b (until good (from + 1) n) from ≤ from + suc n)
     go true (a, b) = (omega arith, omega arith)
     go false (a, b) = (le-refl from, omega arith)
+
+-- the same for a loop that begins at 0
+pub stop-from-zero : (good : ℕ → Bool) (end i : ℕ) → Looking good end 0 i → i < end → good i ≡ false → i ≡ until good 0 end
+stop-from-zero good end i l h e = looking-stop good end 0 i l h e ∙ ap (until good 0) (sub-zero end)
+
+pub done-from-zero : (good : ℕ → Bool) (end i : ℕ) → Looking good end 0 i → end ≤ i → i ≡ until good 0 end
+done-from-zero good end i l h = looking-done good end 0 i l h ∙ ap (until good 0) (sub-zero end)
