@@ -1,3 +1,5 @@
+pub mod Tabulate
+pub mod TabulateLaws
 pub mod Until
 pub mod UntilLaws
 pub mod Fields

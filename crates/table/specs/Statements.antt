@@ -41,23 +41,27 @@ namingOk f r s =
     ltb (operand f s 0) (routines f) && argumentOk f r (operand f s 0) 0 (operand f s 1) && argumentOk f r (operand f s 0) 1 (operand f s 2)
     && argumentOk f r (operand f s 0) 2 (operand f s 3) && argumentOk f r (operand f s 0) 3 (operand f s 4) && unused f (statementLine f s) 7
 
--- refusal 9: statement s of routine r has a known operation, right operands, and zeros behind them
-unfoldable pub statementOk : List ℤ → ℕ → ℕ → Bool
-statementOk f r s =
-    let end = eqb (operation f s) 12 && unused f (statementLine f s) 2 in
+-- the rule of an operation: its operands, and zeros behind them; an unknown operation has none
+unfoldable pub operationOk : List ℤ → ℕ → ℕ → ℕ → Bool
+operationOk f r s op =
+    let end = eqb op 12 && unused f (statementLine f s) 2 in
     let jump = ownStatement f r (operand f s 0) && unused f (statementLine f s) 3 in
     let naming = namingOk f r s in
     let point =
-    ownHandle f r (operand f s 0) && ownOfKind f r (kindOf f (operand f s 0)) (operand f s 1) && unused f (statementLine f s) 4 in
+      ownHandle f r (operand f s 0) && ownOfKind f r (kindOf f (operand f s 0)) (operand f s 1) && unused f (statementLine f s) 4 in
     let lock = ownOfKind f r 2 (operand f s 0) && unused f (statementLine f s) 3 in
     let value = unused f (statementLine f s) 3 in
     let cell = ownOfKind f r 1 (operand f s 0) && unused f (statementLine f s) 3 in
-    let from-10 = cond (eqb (operation f s) 10 || eqb (operation f s) 11) jump end in
-    let from-8 = cond (eqb (operation f s) 8 || eqb (operation f s) 9) naming from-10 in
-    let from-7 = cond (eqb (operation f s) 7) point from-8 in
-    let from-5 = cond (eqb (operation f s) 5 || eqb (operation f s) 6) lock from-7 in
-    let from-3 = cond (eqb (operation f s) 3 || eqb (operation f s) 4) value from-5 in
-    cond (eqb (operation f s) 1 || eqb (operation f s) 2) cell from-3
+    let from-10 = cond (eqb op 10 || eqb op 11) jump end in
+    let from-8 = cond (eqb op 8 || eqb op 9) naming from-10 in
+    let from-7 = cond (eqb op 7) point from-8 in
+    let from-5 = cond (eqb op 5 || eqb op 6) lock from-7 in
+    let from-3 = cond (eqb op 3 || eqb op 4) value from-5 in
+    cond (eqb op 1 || eqb op 2) cell from-3
+
+-- refusal 9: statement s of routine r has a known operation, right operands, and zeros behind them
+unfoldable pub statementOk : List ℤ → ℕ → ℕ → Bool
+statementOk f r s = operationOk f r s (operation f s)
 
 -- the lowest statement of the n routines from r on that breaks the rule, or the one behind their last
 unfoldable pub badStatement : List ℤ → ℕ → ℕ → ℕ
