@@ -1,11 +1,13 @@
 pub mod Tabulate
 pub mod TabulateLaws
+pub mod Entry
 pub mod Until
 pub mod UntilLaws
 pub mod Fields
 pub mod Header
 pub mod Handles
 pub mod Routines
+pub mod LayoutLaws
 pub mod Statements
 pub mod Table
 pub mod Accepted

@@ -4,8 +4,9 @@ use mathlib.Core.List.{List, [], _∷_}
 use Prim.Native.Nat.{ℕ, zero, suc, _+_, _≤_, _<_, zero-le, suc-le-suc}
 use native.Mathlib.Omega.{arith}
 use native.Mathlib.Nat.{add-zero, zero-add, le-of-suc-le-suc, not-suc-le-zero}
-use lib.ListN.{length, getD}
-use lib.Seq.{ext-getD}
+use lib.ListN.{length, getD, set, length-set}
+use lib.Seq.{ext-getD, getD-set-same, getD-set-other}
+use native.Mathlib.Decide.{ℕ-discrete}
 use Rattle.table.specs.Tabulate.{tabulateFrom, tabulate}
 
 module _ {A : Type 0} where
@@ -34,3 +35,29 @@ module _ {A : Type 0} where
   is-tabulate n g l d e h =
     ext-getD d l (tabulate n g) (e ∙ sym (length-tabulate n g))
     (λ i b. let b′ : i < n = omega (arith, e) in h i b′ ∙ sym (getD-tabulate n g i d b′))
+
+-- ---- a list that a loop fills from its front
+
+-- the first r of the n places hold what g says
+pub record Filled (g : ℕ → ℕ) (a : List ℕ) (n r : ℕ) : Type 0 where
+  pub long : length a ≡ n
+  pub holds : (k : ℕ) → k < r → getD a k 0 ≡ g k
+
+pub filled-none : (g : ℕ → ℕ) (a : List ℕ) (n : ℕ) → length a ≡ n → Filled g a n 0
+filled-none g a n e = record { long = e; holds = λ k h. absurd (not-suc-le-zero h) }
+
+pub filled-next : (g : ℕ → ℕ) (a : List ℕ) (n r v : ℕ) → Filled g a n r → r < n → v ≡ g r → Filled g (set a r v) n (r + 1)
+filled-next g a n r v f h e = record { long = length-set a r v ∙ f .long; holds = λ k b. at k b (ℕ-discrete k r) }
+  where
+    at : (k : ℕ) → k < r + 1 → Dec (k ≡ r) → getD (set a r v) k 0 ≡ g k
+    at k b (yes p) =
+      let inside : r < length a = omega (arith, f .long) in
+      ap (λ (i : ℕ). getD (set a r v) i 0) p ∙ getD-set-same a r v 0 inside ∙ e ∙ ap g (sym p)
+    at k b (no q) = let below : k < r = omega (arith, q) in getD-set-other a r k v 0 q ∙ f .holds k below
+
+pub filled-all : (g : ℕ → ℕ) (a : List ℕ) (n r : ℕ) → Filled g a n r → n ≤ r → a ≡ tabulate n g
+filled-all g a n r f h = is-tabulate n g a 0 (f .long) (λ k b. f .holds k (omega arith))
+
+-- an entry of a tabulated list of numbers
+pub entry-tabulate : (n : ℕ) (g : ℕ → ℕ) (l : List ℕ) (k : ℕ) → l ≡ tabulate n g → k < n → getD l k 0 ≡ g k
+entry-tabulate n g l k e h = ap (λ (a : List ℕ). getD a k 0) e ∙ getD-tabulate n g k 0 h

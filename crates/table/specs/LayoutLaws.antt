@@ -1,0 +1,77 @@
+-- Where the routines' statements and handles stand, a routine further on; and the invariants of the loops that note it down. Assumes nothing.
+use mathlib.Core.Path.{_≡_, refl, sym, ap, ap₂, _∙_}
+use mathlib.Core.List.{List}
+use Prim.Native.Nat.{ℕ, zero, suc, _+_, _-_, _*_, _^_, _≤_, _<_, zero-le}
+use native.Mathlib.Omega.{arith}
+use native.Mathlib.Numerals.{add-one}
+use lib.ListN.{length, getD, set}
+use lib.Dec.{eqb}
+use lib.IntN.{ℤ}
+use Rattle.table.specs.Until.{until}
+use Rattle.table.specs.Fields.{field}
+use Rattle.table.specs.Header.{handles, handleLine}
+use Rattle.table.specs.Handles.{routineOf, originOf, handlesFrom, parameters}
+use Rattle.table.specs.Routines.{countOf, firstOf}
+use Rattle.table.specs.TabulateLaws.{Filled, filled-none, filled-next}
+
+pub first-next : (f : List ℤ) (r : ℕ) → firstOf f (r + 1) ≡ firstOf f r + countOf f r
+unfolding firstOf
+first-next f r = rw add-one
+
+pub handles-next : (f : List ℤ) (r : ℕ) → handlesFrom f (r + 1) ≡ until (λ h. eqb (routineOf f h) r) (handlesFrom f r) (handles f - handlesFrom f r)
+unfolding handlesFrom
+handles-next f r = rw add-one
+
+-- ---- the first statements
+
+pub record Summing (f : List ℤ) (a : List ℕ) (sum r : ℕ) : Type 0 where
+  pub filled : Filled (firstOf f) a 33 (r + 1)
+  pub is : sum ≡ firstOf f r
+  pub small : sum ≤ r * 2 ^ 31
+  pub few : r ≤ 32
+
+-- the list's first place holds g's first value
+first-place : (g : ℕ → ℕ) (a : List ℕ) → length a ≡ 33 → getD a 0 0 ≡ g 0 → Filled g a 33 1
+first-place g a e h = record { long = e; holds = λ k b. let z : k ≡ 0 = omega arith in ap (λ (i : ℕ). getD a i 0) z ∙ h ∙ ap g (sym z) }
+
+pub summing-start : (f : List ℤ) (a : List ℕ) → length a ≡ 33 → getD a 0 0 ≡ 0 → Summing f a 0 0
+unfolding firstOf
+summing-start f a e h = record { filled = first-place (firstOf f) a e h; is = refl; small = zero-le; few = zero-le }
+
+pub summing-next : (f : List ℤ) (a : List ℕ) (sum r n : ℕ) → Summing f a sum r → r < 32 → n ≡ countOf f r → n < 2 ^ 31
+    → Summing f (set a (r + 1) (sum + n)) (sum + n) (r + 1)
+summing-next f a sum r n s h e b =
+    let v : sum + n ≡ firstOf f (r + 1) = ap₂ (λ (x y : ℕ). x + y) (s .is) e ∙ sym (first-next f r) in
+    record {
+      filled = filled-next (firstOf f) a 33 (r + 1) (sum + n) (s .filled) (omega arith) v;
+      is = v;
+      small = omega (arith, s .small);
+      few = omega arith
+    }
+
+-- ---- the first handles
+
+pub record Skipping (f : List ℤ) (a : List ℕ) (h r : ℕ) : Type 0 where
+  pub filled : Filled (handlesFrom f) a 33 (r + 1)
+  pub is : h ≡ handlesFrom f r
+  pub few : r ≤ 32
+
+pub skipping-start : (f : List ℤ) (a : List ℕ) → length a ≡ 33 → getD a 0 0 ≡ 0 → Skipping f a 0 0
+unfolding handlesFrom
+skipping-start f a e h = record { filled = first-place (handlesFrom f) a e h; is = refl; few = zero-le }
+
+pub skipping-next : (f : List ℤ) (a : List ℕ) (h r count x : ℕ) → Skipping f a h r → r < 32 → count ≡ handles f
+    → x ≡ until (λ k. eqb (field f (handleLine k) 1) r) h (count - h) → Skipping f (set a (r + 1) x) x (r + 1)
+skipping-next f a h r count x s l c e =
+    let v : x ≡ handlesFrom f (r + 1) =
+      e ∙ ap₂ (λ (from n : ℕ). until (λ k. eqb (routineOf f k) r) from (n - from)) (s .is) c ∙ sym (handles-next f r) in
+    record { filled = filled-next (handlesFrom f) a 33 (r + 1) x (s .filled) (omega arith) v; is = v; few = omega arith }
+
+-- ---- the parameters
+
+pub parameters-is : (f : List ℤ) (r from end x : ℕ) → from ≡ handlesFrom f r → end ≡ handlesFrom f (r + 1)
+    → x ≡ until (λ k. eqb (field f (handleLine k) 3) 0) from (end - from) → x - from ≡ parameters f r
+unfolding parameters
+parameters-is f r from end x a b e =
+    ap (λ (y : ℕ). y - from) e
+    ∙ ap₂ (λ (p q : ℕ). until (λ k. eqb (originOf f k) 0) p (q - p) - p) a b
