@@ -9,14 +9,16 @@ use lib.Dec.{eqb}
 use lib.IntN.{ℤ}
 use Rattle.table.specs.Until.{until}
 use Rattle.table.specs.Fields.{field}
-use Rattle.table.specs.Header.{handles, handleLine}
+use Rattle.table.specs.Header.{handles, routines, statements, handleLine}
 use Rattle.table.specs.Handles.{routineOf, originOf, handlesFrom, parameters}
 use Rattle.table.specs.Routines.{countOf, firstOf}
+use Rattle.table.specs.Tabulate.{tabulate}
+use Rattle.table.specs.UntilLaws.{until-range}
 use Rattle.table.specs.TabulateLaws.{Filled, filled-none, filled-next}
 
 pub first-next : (f : List ℤ) (r : ℕ) → firstOf f (r + 1) ≡ firstOf f r + countOf f r
 unfolding firstOf
-first-next f r = rw add-one
+first-next f r = rw (add-one r)
 
 pub handles-next : (f : List ℤ) (r : ℕ) → handlesFrom f (r + 1) ≡ until (λ h. eqb (routineOf f h) r) (handlesFrom f r) (handles f - handlesFrom f r)
 unfolding handlesFrom
@@ -75,3 +77,21 @@ unfolding parameters
 parameters-is f r from end x a b e =
     ap (λ (y : ℕ). y - from) e
     ∙ ap₂ (λ (p q : ℕ). until (λ k. eqb (originOf f k) 0) p (q - p) - p) a b
+
+-- no routine's handles begin behind the last handle
+pub handles-from-most : (f : List ℤ) (r : ℕ) → handlesFrom f r ≤ handles f
+unfolding handlesFrom
+handles-from-most f zero = zero-le
+handles-from-most f (suc r) =
+    let below = handles-from-most f r in
+    let range = until-range (λ h. eqb (routineOf f h) r) (handlesFrom f r) (handles f - handlesFrom f r) .1 in
+    omega arith
+
+-- the three lists that the statements' rules are tested with, of a header that passes
+pub record Laid (f : List ℤ) (first handle counts : List ℕ) : Type 0 where
+  pub handles-most : handles f ≤ 128
+  pub routines-most : routines f ≤ 32
+  pub statements-most : statements f ≤ 512
+  pub first-is : first ≡ tabulate 33 (firstOf f)
+  pub handle-is : handle ≡ tabulate 33 (handlesFrom f)
+  pub counts-is : counts ≡ tabulate 32 (parameters f)

@@ -35,23 +35,30 @@ unfoldable pub argumentOk : List ℤ → ℕ → ℕ → ℕ → ℕ → Bool
 argumentOk f r q k x =
     cond (ltb k (parameters f q)) (ownOfKind f r (kindOf f (handlesFrom f q + k)) x) (eqb x 0)
 
--- CALL and START: a routine, and its arguments
-unfoldable pub namingOk : List ℤ → ℕ → ℕ → Bool
-namingOk f r s =
-    ltb (operand f s 0) (routines f) && argumentOk f r (operand f s 0) 0 (operand f s 1) && argumentOk f r (operand f s 0) 1 (operand f s 2)
-    && argumentOk f r (operand f s 0) 2 (operand f s 3) && argumentOk f r (operand f s 0) 3 (operand f s 4) && unused f (statementLine f s) 7
+-- the four arguments, which stand in fields 3 to 6, and the last field, which is 0
+unfoldable pub argumentsOk : List ℤ → ℕ → ℕ → ℕ → Bool
+argumentsOk f r q line =
+    argumentOk f r q 0 (field f line 3) && argumentOk f r q 1 (field f line 4) && argumentOk f r q 2 (field f line 5) && argumentOk f r q 3 (field f line 6)
+    && unused f line 7
 
--- the rule of an operation: its operands, and zeros behind them; an unknown operation has none
+-- CALL and START, in a line of routine r: a routine, and its arguments
+unfoldable pub namingOk : List ℤ → ℕ → ℕ → Bool
+namingOk f r line = ltb (field f line 2) (routines f) && argumentsOk f r (field f line 2) line
+
+-- POINT, in a line of routine r: two handles of one kind
+unfoldable pub pointOk : List ℤ → ℕ → ℕ → Bool
+pointOk f r line = ownHandle f r (field f line 2) && ownOfKind f r (kindOf f (field f line 2)) (field f line 3) && unused f line 4
+
+-- the rule of an operation, in a line of routine r: its operands, from field 2 on, and zeros behind them; an unknown operation has none
 unfoldable pub operationOk : List ℤ → ℕ → ℕ → ℕ → Bool
-operationOk f r s op =
-    let end = eqb op 12 && unused f (statementLine f s) 2 in
-    let jump = ownStatement f r (operand f s 0) && unused f (statementLine f s) 3 in
-    let naming = namingOk f r s in
-    let point =
-      ownHandle f r (operand f s 0) && ownOfKind f r (kindOf f (operand f s 0)) (operand f s 1) && unused f (statementLine f s) 4 in
-    let lock = ownOfKind f r 2 (operand f s 0) && unused f (statementLine f s) 3 in
-    let value = unused f (statementLine f s) 3 in
-    let cell = ownOfKind f r 1 (operand f s 0) && unused f (statementLine f s) 3 in
+operationOk f r line op =
+    let end = eqb op 12 && unused f line 2 in
+    let jump = ownStatement f r (field f line 2) && unused f line 3 in
+    let naming = namingOk f r line in
+    let point = pointOk f r line in
+    let lock = ownOfKind f r 2 (field f line 2) && unused f line 3 in
+    let value = unused f line 3 in
+    let cell = ownOfKind f r 1 (field f line 2) && unused f line 3 in
     let from-10 = cond (eqb op 10 || eqb op 11) jump end in
     let from-8 = cond (eqb op 8 || eqb op 9) naming from-10 in
     let from-7 = cond (eqb op 7) point from-8 in
@@ -61,7 +68,7 @@ operationOk f r s op =
 
 -- refusal 9: statement s of routine r has a known operation, right operands, and zeros behind them
 unfoldable pub statementOk : List ℤ → ℕ → ℕ → Bool
-statementOk f r s = operationOk f r s (operation f s)
+statementOk f r s = operationOk f r (statementLine f s) (operation f s)
 
 -- the lowest statement of the n routines from r on that breaks the rule, or the one behind their last
 unfoldable pub badStatement : List ℤ → ℕ → ℕ → ℕ
