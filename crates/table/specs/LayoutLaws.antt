@@ -1,11 +1,12 @@
 -- Where the routines' statements and handles stand, a routine further on; and the invariants of the loops that note it down. Assumes nothing.
-use mathlib.Core.Path.{_≡_, refl, sym, ap, ap₂, _∙_}
+use mathlib.Core.Path.{_≡_, refl, sym, ap, ap₂, _∙_, subst, subst⁻¹}
 use mathlib.Core.List.{List}
 use Prim.Native.Nat.{ℕ, zero, suc, _+_, _-_, _*_, _^_, _≤_, _<_, zero-le}
 use native.Mathlib.Omega.{arith}
 use native.Mathlib.Numerals.{add-one}
 use lib.ListN.{length, getD, set}
-use lib.Dec.{eqb}
+use lib.Dec.{eqb, lit<}
+use borrow.Author.Count.{below-more}
 use lib.IntN.{ℤ}
 use Rattle.table.specs.Until.{until}
 use Rattle.table.specs.Fields.{field}
@@ -31,6 +32,7 @@ pub record Summing (f : List ℤ) (a : List ℕ) (sum r : ℕ) : Type 0 where
   pub is : sum ≡ firstOf f r
   pub small : sum ≤ r * 2 ^ 31
   pub few : r ≤ 32
+  pub all-small : (k : ℕ) → k < r + 1 → firstOf f k < 2 ^ 40
 
 -- the list's first place holds g's first value
 first-place : (g : ℕ → ℕ) (a : List ℕ) → length a ≡ 33 → getD a 0 0 ≡ g 0 → Filled g a 33 1
@@ -38,7 +40,10 @@ first-place g a e h = record { long = e; holds = λ k b. let z : k ≡ 0 = omega
 
 pub summing-start : (f : List ℤ) (a : List ℕ) → length a ≡ 33 → getD a 0 0 ≡ 0 → Summing f a 0 0
 unfolding firstOf
-summing-start f a e h = record { filled = first-place (firstOf f) a e h; is = refl; small = zero-le; few = zero-le }
+summing-start f a e h = record { filled = first-place (firstOf f) a e h; is = refl; small = zero-le; few = zero-le; all-small = λ k b. none k (omega arith) }
+  where
+    none : (k : ℕ) → k ≡ 0 → firstOf f k < 2 ^ 40
+    none k e = subst⁻¹ (λ (i : ℕ). firstOf f i < 2 ^ 40) e (lit< tt)
 
 pub summing-next : (f : List ℤ) (a : List ℕ) (sum r n : ℕ) → Summing f a sum r → r < 32 → n ≡ countOf f r → n < 2 ^ 31
     → Summing f (set a (r + 1) (sum + n)) (sum + n) (r + 1)
@@ -48,7 +53,8 @@ summing-next f a sum r n s h e b =
       filled = filled-next (firstOf f) a 33 (r + 1) (sum + n) (s .filled) (omega arith) v;
       is = v;
       small = omega (arith, s .small);
-      few = omega arith
+      few = omega arith;
+      all-small = λ k l. below-more (λ (i : ℕ). firstOf f i < 2 ^ 40) (r + 1) (s .all-small) (subst (λ (x : ℕ). x < 2 ^ 40) v (omega (arith, s .small))) k l
     }
 
 -- ---- the first handles
@@ -92,6 +98,7 @@ pub record Laid (f : List ℤ) (first handle counts : List ℕ) : Type 0 where
   pub handles-most : handles f ≤ 128
   pub routines-most : routines f ≤ 32
   pub statements-most : statements f ≤ 512
+  pub first-small : (k : ℕ) → k < 33 → firstOf f k < 2 ^ 40
   pub first-is : first ≡ tabulate 33 (firstOf f)
   pub handle-is : handle ≡ tabulate 33 (handlesFrom f)
   pub counts-is : counts ≡ tabulate 32 (parameters f)

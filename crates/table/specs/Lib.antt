@@ -9,5 +9,6 @@ pub mod Handles
 pub mod Routines
 pub mod LayoutLaws
 pub mod Statements
+pub mod SearchLaws
 pub mod Table
 pub mod Accepted

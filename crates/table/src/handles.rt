@@ -46,7 +46,7 @@ fn same_above(numbers: &[i32], h: usize, k: usize) -> bool
 }
 
 // The number before h, or 0.
-fn previous(h: usize) -> usize
+pub fn previous(h: usize) -> usize
     ensures { λ r. ⌜ r ≡ h - 1 ⌝ }
 {
     if 0 < h { h - 1 } else { 0 }

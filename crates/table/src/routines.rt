@@ -1,6 +1,6 @@
 // The routine lines: their rule, and where each routine's statements and handles stand.
 ghost use mathlib.Core.Path.{_≡_};
-ghost use Prim.Native.Nat.{_<_, _^_, _≤_};
+ghost use Prim.Native.Nat.{ℕ, _<_, _^_, _≤_};
 ghost use Rattle.table.specs.Until.{until};
 ghost use Rattle.table.specs.Tabulate.{tabulate};
 ghost use Rattle.table.specs.Header.{routines};
@@ -52,7 +52,8 @@ pub fn bad_routine(numbers: &[i32]) -> usize
 
 // The first statement of each routine, and behind the last routine's the number of statements dealt out.
 pub fn first_statements(numbers: &[i32]) -> [usize; 33]
-    ensures { λ a. ⌜ a ≡ tabulate 33 (firstOf (now (numbers .entry))) ⌝ }
+    ensures is { λ a. ⌜ a ≡ tabulate 33 (firstOf (now (numbers .entry))) ⌝ }
+    ensures small { λ a. ⌜ ((k : ℕ) → k < 33 → firstOf (now (numbers .entry)) k < 2 ^ 40) ⌝ }
 {
     let mut first = [0usize; 33];
     let mut sum = 0;

@@ -2,10 +2,11 @@
 ghost use mathlib.Core.Path.{_≡_};
 ghost use Prim.Native.Nat.{_<_, _^_, _≤_, _-_};
 ghost use Rattle.table.specs.Until.{until};
-ghost use Rattle.table.specs.Header.{statementLine};
+ghost use Rattle.table.specs.Header.{routines};
 ghost use Rattle.table.specs.LayoutLaws.{Laid};
 ghost use Rattle.table.specs.Statements.{ownHandle, ownOfKind, ownStatement, argumentOk, argumentsOk, namingOk, pointOk, operationOk, statementOk, badStatement, endOk};
 use crate::fields::{field_at, is_unused};
+use crate::handles::previous;
 use crate::routines::entry_at;
 
 // Whether x is a handle of routine `r`.
@@ -139,4 +140,49 @@ fn bad_among(numbers: &[i32], first: &[usize], handle: &[usize], counts: &[usize
         s += 1;
     }
     s
+}
+
+// The lowest statement that breaks refusal 9's rule, or the number of statements dealt out.
+pub fn bad_statement(numbers: &[i32], first: &[usize], handle: &[usize], counts: &[usize]) -> usize
+    requires { ⌜ Laid (now numbers) (now first) (now handle) (now counts) ⌝ }
+    ensures { λ x. ⌜ x ≡ badStatement (now (numbers .entry)) 0 (routines (now (numbers .entry))) ⌝ }
+{
+    let count = field_at(numbers, 0, 4);
+    let mut r = 0;
+    while r < count {
+        let end = entry_at(first, r + 1);
+        let s = bad_among(numbers, first, handle, counts, r, entry_at(first, r), end);
+        if s < end {
+            return s;
+        }
+        r += 1;
+    }
+    entry_at(first, count)
+}
+
+// Refusal 10's rule at routine `r`.
+fn end_ok(numbers: &[i32], first: &[usize], handle: &[usize], counts: &[usize], r: usize) -> bool
+    requires { ⌜ Laid (now numbers) (now first) (now handle) (now counts) ⌝ }
+    requires { ⌜ r < 32 ⌝ }
+    ensures { λ b. ⌜ b ≡ endOk (now (numbers .entry)) r ⌝ }
+{
+    let last = previous(entry_at(first, r + 1));
+    let op = field_at(numbers, 1 + field_at(numbers, 0, 3) + field_at(numbers, 0, 4) + last, 1);
+    (op == 10) | (op == 12)
+}
+
+// The lowest routine that breaks refusal 10's rule, or the number of routines.
+pub fn bad_end(numbers: &[i32], first: &[usize], handle: &[usize], counts: &[usize]) -> usize
+    requires { ⌜ Laid (now numbers) (now first) (now handle) (now counts) ⌝ }
+    ensures { λ r. ⌜ r ≡ until (endOk (now (numbers .entry))) 0 (routines (now (numbers .entry))) ⌝ }
+{
+    let count = field_at(numbers, 0, 4);
+    let mut r = 0;
+    while r < count {
+        if !end_ok(numbers, first, handle, counts, r) {
+            return r;
+        }
+        r += 1;
+    }
+    r
 }

@@ -55,7 +55,8 @@ loop-again c = summing-next _ _ _ _ _ (c .before .before .loop .inv) (c .before 
 
 -- src/routines.rt:54:1
 returns : tie.Need-returns Inv-loop μ-loop
-returns c = filled-all _ _ _ _ (c .before .loop .inv .filled) (omega arith)
+returns c =
+    (filled-all _ _ _ _ (c .before .loop .inv .filled) (omega arith), λ k h. c .before .loop .inv .all-small k (omega arith))
 
 pub first-statements-spec : {M : Type 1} → statement M
 first-statements-spec =
