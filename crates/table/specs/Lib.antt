@@ -10,5 +10,8 @@ pub mod Routines
 pub mod LayoutLaws
 pub mod Statements
 pub mod SearchLaws
+pub mod Naming
+pub mod GatherLaws
+pub mod WalkLaws
 pub mod Table
 pub mod Accepted

@@ -2,6 +2,7 @@
 mod fields;
 mod handles;
 mod header;
+mod naming;
 mod routines;
 mod statements;
 
