@@ -16,7 +16,8 @@ use mir.Facts.{toZ-pos}
 use lib.ListN.{length, getD, drop, drop-of-length-le, length-drop}
 use lib.Seq.{drop-cons}
 use borrow.Author.Tests.{leb-true, leb-false, eq-eqb, ne-eqb, le-leb, lt-leb, lt-ltb, eqb-true, eqb-false}
-use Rattle.lines.specs.Field.{isDigit, digitsFrom, decimalOf, signedOf, spacedOf, fieldOf, positive, negative, decimalAnswer}
+use Rattle.lines.specs.Field.{isDigit, digitsFrom, decimalOf, signedOf, spacedOf, fieldOf, positive, negative, decimalAnswer, fieldAnswer}
+use Rattle.lines.specs.declared.Field as F
 use Rattle.lines.specs.declared.Decimal as D
 
 -- what a loop over spaces has passed changes nothing
@@ -217,6 +218,14 @@ told-value {o = some n} e = cc
 pub told-bad : {o : Option ℕ} → D.Decimal.Bad ≡ decimalAnswer o → o ≡ none
 told-bad {o = none} e = refl
 told-bad {o = some n} e = let z : _≡_ {A = ℕ} 0 1 = cc in absurd (omega arith)
+
+pub told-number : {o : Option ℤ} {z : ℤ} → F.Field.Number z ≡ fieldAnswer o → o ≡ some z
+told-number {o = none} e = let z : _≡_ {A = ℕ} 0 1 = cc in absurd (omega arith)
+told-number {o = some n} e = cc
+
+pub told-no-field : {o : Option ℤ} → F.Field.Bad ≡ fieldAnswer o → o ≡ none
+told-no-field {o = none} e = refl
+told-no-field {o = some n} e = let z : _≡_ {A = ℕ} 0 1 = cc in absurd (omega arith)
 
 -- signed words
 

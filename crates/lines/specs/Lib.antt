@@ -1,2 +1,6 @@
 pub mod Field
 pub mod FieldLoops
+pub mod Lowest
+pub mod LowestLaws
+pub mod Line
+pub mod LineLoops

@@ -4,11 +4,37 @@ ghost use Prim.Native.Nat.{_+_, _≤_, _<_};
 ghost use lib.ListN.{length, take, drop};
 ghost use Rattle.lines.specs.Field.{fieldOf, decimalOf, digitsFrom, fieldAnswer, decimalAnswer, fieldAt};
 ghost use Rattle.lines.specs.FieldLoops.{PastSpaces};
+ghost use Rattle.lines.specs.Line.{lineOf, lineCount, lineAnswer, pageOf};
 
 // What six characters say: a number, or nothing.
 pub enum Field {
     Number(i32),
     Bad,
+}
+
+// Whether 49 bytes are a line.
+pub enum Form {
+    Good,
+    Bad,
+}
+
+// A line that was read: its form, and its numbers, zeros where the form is bad.
+pub struct Line {
+    pub form: Form,
+    pub numbers: [i32; 8],
+}
+
+// The lowest line of a text that is none.
+pub enum FirstBad {
+    Line(usize),
+    Nothing,
+}
+
+// A text that was read: its first bad line, and the numbers of 673 lines, eight a line. Zeros stand where a text has fewer
+// lines, and everywhere where a line is bad.
+pub struct Page {
+    pub first_bad: FirstBad,
+    pub numbers: [i32; 5384],
 }
 
 // What characters say that are to be digits alone.
@@ -106,4 +132,80 @@ pub fn read_field(text: &[u8], at: usize) -> Field
         return Field::Bad;
     }
     field_of(&text[at..at + 6])
+}
+
+// The eight numbers of the 49 bytes at a place; Bad and zeros where those are no line.
+pub fn read_line(text: &[u8], at: usize) -> Line
+    ensures { λ r. ⌜ r ≡ lineAnswer (lineOf (take 49 (drop at (now (text .entry))))) ⌝ }
+{
+    let bad = Line {
+        form: Form::Bad,
+        numbers: [0; 8],
+    };
+    if text.len() < 49 {
+        return bad;
+    }
+    if text.len() - 49 < at {
+        return bad;
+    }
+    let mut numbers = [0i32; 8];
+    let mut j = 0;
+    while j < 8 {
+        let Field::Number(z) = read_field(text, at + 6 * j) else {
+            return bad;
+        };
+        numbers[j] = z;
+        j += 1;
+    }
+    if text[at + 48] != b'\n' {
+        return bad;
+    }
+    Line {
+        form: Form::Good,
+        numbers,
+    }
+}
+
+// How many whole lines a text has, 673 at most.
+fn line_count(text: &[u8]) -> usize
+    ensures { λ r. ⌜ r ≡ lineCount (now (text .entry)) ⌝ }
+{
+    let n = text.len() / 49;
+    if 673 < n {
+        return 673;
+    }
+    n
+}
+
+// The numbers of a text's lines, and the first line that is none. Looks at whole lines, 673 at most.
+pub fn read_page(text: &[u8]) -> Page
+    ensures { λ r. ⌜ r ≡ pageOf (now (text .entry)) ⌝ }
+{
+    let lines = line_count(text);
+    let mut numbers = [0i32; 5384];
+    let mut i = 0;
+    'lines: while i < lines {
+        let mut j = 0;
+        while j < 8 {
+            let Field::Number(z) = read_field(text, 49 * i + 6 * j) else {
+                break 'lines;
+            };
+            numbers[8 * i + j] = z;
+            j += 1;
+        }
+        if text[49 * i + 48] != b'\n' {
+            break 'lines;
+        }
+        i += 1;
+    }
+    if i < lines {
+        return Page {
+            first_bad: FirstBad::Line(i),
+            numbers: [0; 5384],
+        };
+    }
+    Page {
+        first_bad: FirstBad::Nothing,
+        numbers,
+    }
 }
