@@ -35,7 +35,7 @@ pub spaced-other : (c : ℕ) (cs : List ℕ) → (c ≡ 32 → ⊥) → spacedOf
 unfolding spacedOf
 spaced-other c cs e = rw (ne-eqb c 32 e, spacedOf)
 
-spaced-none : spacedOf [] ≡ signedOf []
+pub spaced-none : spacedOf [] ≡ signedOf []
 unfolding spacedOf signedOf
 spaced-none = refl
 
@@ -83,6 +83,13 @@ digit-small c e = go (leb 48 c) refl
     go true f = omega (arith, leb-true c 57 (rw (f, isDigit) at e))
     go false f = omega (arith, leb-false 48 c f)
 
+pub digit-least : (c : ℕ) → isDigit c ≡ true → 48 ≤ c
+digit-least c e = go (leb 48 c) refl
+  where
+    go : (b : Bool) → leb 48 c ≡ b → 48 ≤ c
+    go true f = leb-true 48 c f
+    go false f = let g : false ≡ true = rw (f, isDigit) at e in let z : _≡_ {A = ℕ} 0 1 = cc in absurd (omega arith)
+
 pub digits-digit : (m c : ℕ) (cs : List ℕ) → isDigit c ≡ true → digitsFrom m (c ∷ cs) ≡ digitsFrom (10 * m + (c - 48)) cs
 unfolding digitsFrom
 digits-digit m c cs e = rw (e, digitsFrom)
@@ -91,7 +98,7 @@ pub digits-other : (m c : ℕ) (cs : List ℕ) → isDigit c ≡ false → digit
 unfolding digitsFrom
 digits-other m c cs e = rw (e, digitsFrom)
 
-digits-none : (m : ℕ) → digitsFrom m [] ≡ some m
+pub digits-none : (m : ℕ) → digitsFrom m [] ≡ some m
 unfolding digitsFrom
 digits-none m = refl
 

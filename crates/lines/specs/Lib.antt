@@ -4,3 +4,4 @@ pub mod Lowest
 pub mod LowestLaws
 pub mod Line
 pub mod LineLoops
+pub mod FieldLaws
