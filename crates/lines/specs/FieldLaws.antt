@@ -3,14 +3,14 @@
 use mathlib.Core.Path.{_≡_, refl, sym, ap, _∙_}
 use Prim.Native.Nat.{ℕ, zero, suc, _+_, _*_, _-_, _/_, _%_, _≤_, _<_, _^_}
 use native.Mathlib.Omega.{arith}
-use native.Mathlib.Nat.{pow-succ', pow-le-pow-right, sub-zero}
+use native.Mathlib.Nat.{pow-succ', pow-le-pow-right}
 use mathlib.Core.Bool.{Bool, true, false}
 use mathlib.Core.Option.{Option, none, some}
 use mathlib.Core.List.{List, [], _∷_, _++_, append-assoc, append-nil}
-use lib.Dec.{ltb, leb, eqb}
+use lib.Dec.{ltb, eqb}
 use lib.IntN.{ℤ, pos, negsuc}
 use lib.ListN.{length, replicate, length-append, length-replicate}
-use borrow.Author.Tests.{lt-ltb, le-ltb, ltb-true, ltb-false, leb-true, leb-false, eqb-true, eqb-false}
+use borrow.Author.Tests.{lt-ltb, le-ltb, ltb-true, ltb-false, eqb-true, eqb-false}
 use Rattle.lines.specs.Field.{isDigit, digitsFrom, decimalOf, positive, negative, signedOf, spacedOf, fieldOf, inField, decimalText, signedText, justified, fieldText}
 use Rattle.lines.specs.FieldLoops.{is-digit, digit-least, digit-small, digits-digit, digits-other, digits-none, decimal-empty, decimal-zero, decimal-leading, decimal-digits, decimal-below, signed-empty, signed-minus, signed-other, spaced-space, spaced-other, spaced-none, field-six, field-short}
 
@@ -124,11 +124,11 @@ text-reads f n h = go (eqb (p .head) 48) refl
 
 -- a printed number reads back
 
-signed-pos : (n : ℕ) → signedText (pos n) ≡ decimalText 6 n
+pub signed-pos : (n : ℕ) → signedText (pos n) ≡ decimalText 6 n
 unfolding signedText
 signed-pos n = refl
 
-signed-negsuc : (n : ℕ) → signedText (negsuc n) ≡ 45 ∷ decimalText 6 (suc n)
+pub signed-negsuc : (n : ℕ) → signedText (negsuc n) ≡ 45 ∷ decimalText 6 (suc n)
 unfolding signedText
 signed-negsuc n = refl
 

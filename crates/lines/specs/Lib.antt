@@ -5,3 +5,6 @@ pub mod LowestLaws
 pub mod Line
 pub mod LineLoops
 pub mod FieldLaws
+pub mod LineLaws
+pub mod Print
+pub mod PrintLoops

@@ -1,6 +1,6 @@
 -- A line, 49 bytes that are eight fields and a line feed, and a page, the lines of a text: both directions.
 -- Assumes nothing.
-use Prim.Native.Nat.{ℕ, zero, suc, _+_, _*_, _/_, min}
+use Prim.Native.Nat.{ℕ, zero, suc, _*_, _/_, min}
 use mathlib.Core.Bool.{Bool, true, false}
 use mathlib.Core.Option.{Option, none, some}
 use mathlib.Core.List.{List, [], _∷_, _++_}
@@ -33,6 +33,11 @@ fieldsOf (suc k) bs = joined (fieldOf (take 6 bs)) (fieldsOf k (drop 6 bs))
 -- a line is eight fields of six characters and a line feed
 abbrev pub lineOf : List ℕ → Option (List ℤ)
 lineOf bs = fieldsOf 8 bs
+
+-- every number is in the range of a field
+unfoldable pub allInField : List ℤ → Bool
+allInField [] = true
+allInField (z ∷ zs) = elim (inField z) [ true ↦ allInField zs | false ↦ false ]
 
 -- the numbers as they are printed, and a line feed
 unfoldable pub lineText : List ℤ → List ℕ

@@ -1,22 +1,21 @@
 -- What the loops over fields and lines need of the definitions: pieces one after the other, and what is left to read.
 -- Assumes nothing.
 use mathlib.Core.Path.{_≡_, refl, sym, ap, _∙_}
-use Prim.Native.Nat.{ℕ, zero, suc, _+_, _*_, _-_, _/_, _≤_, _<_, min}
+use Prim.Native.Nat.{ℕ, zero, suc, _+_, _*_, _-_, _≤_, _<_}
 use native.Mathlib.Omega.{arith}
 use native.Mathlib.Numerals.{add-one}
-use native.Mathlib.Nat.{mul-suc, sub-zero, mul-zero, zero-add, add-zero}
+use native.Mathlib.Nat.{mul-suc, mul-zero, zero-add, add-zero}
 use mathlib.Core.Bool.{Bool, true, false}
 use mathlib.Core.Option.{Option, none, some}
 use mathlib.Core.List.{List, [], _∷_, _++_, append-assoc, append-nil}
-use lib.Dec.{eqb, ltb}
+use lib.Dec.{eqb}
 use lib.IntN.{ℤ, pos}
 use lib.ListN.{length, getD, take, drop, set, replicate, length-append, length-replicate, length-take, length-drop, drop-of-length-le, replicate-append-replicate, List·getD-append}
-use lib.Seq.{drop-cons, drop-drop, drop-nil, take-take, getD-append-add, set-at, getD-take, getD-drop}
-use borrow.Author.Tests.{eq-eqb, ne-eqb, eqb-true, eqb-false, ltb-true, ltb-false}
+use lib.Seq.{drop-cons, drop-drop, take-take, getD-append-add, set-at, getD-take, getD-drop}
+use borrow.Author.Tests.{eq-eqb, ne-eqb, eqb-true, eqb-false}
 use Rattle.lines.specs.Field.{fieldOf}
 use Rattle.lines.specs.FieldLoops.{field-short}
-use Rattle.lines.specs.Line.{endOf, joined, fieldsOf, lineOf, lineAt, isSome, orZeros, goodLine, lineCount, firstBad, lineNumbers, pieces, numbersOf}
-use Rattle.lines.specs.Lowest.{lowest}
+use Rattle.lines.specs.Line.{endOf, joined, fieldsOf, lineOf, lineAt, orZeros, goodLine, lineCount, firstBad, lineNumbers, pieces, numbersOf}
 use Rattle.lines.specs.LowestLaws.{Passed, passed-start, passed-next, passed-stop, passed-done}
 
 -- pieces, one after the other
@@ -53,7 +52,7 @@ module _ (f : List ℕ → List ℤ) (w : ℕ) where
         → getD (pieces f w n t) (k * i + j) d ≡ getD (f (take w (drop (w * i) t))) j d
     pieces-at zero i j t d h g = absurd (omega arith)
     pieces-at (suc n) zero j t d h g =
-        rw (pieces-cons, mul-zero, mul-zero, zero-add) (List·getD-append (f (take w t)) (pieces f w n (drop w t)) d j (rw sized g))
+        rw (pieces-cons, mul-zero k, mul-zero w, zero-add) (List·getD-append (f (take w t)) (pieces f w n (drop w t)) d j (rw sized g))
     pieces-at (suc n) (suc i) j t d h g =
         let e : k * suc i + j ≡ length (f (take w t)) + (k * i + j) = omega (arith, mul-suc k i, sized (take w t)) in
         let u : w * suc i ≡ w + w * i = mul-suc w i ∙ omega arith in

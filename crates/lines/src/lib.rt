@@ -1,10 +1,15 @@
 // A line of a table text: eight fields of six characters and a line feed, read and printed.
 ghost use mathlib.Core.Path.{_≡_};
 ghost use Prim.Native.Nat.{_+_, _≤_, _<_};
+ghost use mathlib.Core.Bool.{true};
+ghost use mathlib.Core.List.{_++_};
+ghost use lib.IntN.{natAbs};
 ghost use lib.ListN.{length, take, drop};
-ghost use Rattle.lines.specs.Field.{fieldOf, decimalOf, digitsFrom, fieldAnswer, decimalAnswer, fieldAt};
+ghost use lib.Seq.{paste};
+ghost use Rattle.lines.specs.Field.{fieldOf, decimalOf, digitsFrom, fieldAnswer, decimalAnswer, fieldAt, inField, fieldText};
 ghost use Rattle.lines.specs.FieldLoops.{PastSpaces};
-ghost use Rattle.lines.specs.Line.{lineOf, lineCount, lineAnswer, pageOf};
+ghost use Rattle.lines.specs.Print.{printAnswer, printedAt};
+ghost use Rattle.lines.specs.Line.{allInField, lineText, lineOf, lineCount, lineAnswer, pageOf};
 
 // What six characters say: a number, or nothing.
 pub enum Field {
@@ -35,6 +40,13 @@ pub enum FirstBad {
 pub struct Page {
     pub first_bad: FirstBad,
     pub numbers: [i32; 5384],
+}
+
+// What printing a line did: wrote it whole, or nothing.
+pub enum Printed {
+    Whole,
+    NoRoom,
+    NoField,
 }
 
 // What characters say that are to be digits alone.
@@ -208,4 +220,119 @@ pub fn read_page(text: &[u8]) -> Page
         first_bad: FirstBad::Nothing,
         numbers,
     }
+}
+
+// Whether a number is in the range of a field.
+fn in_range(n: i32) -> bool
+    ensures { λ r. ⌜ r ≡ inField n ⌝ }
+{
+    if n < -99999 {
+        return false;
+    }
+    if 999999 < n {
+        return false;
+    }
+    true
+}
+
+// Whether every number is in the range of a field.
+fn all_in_range(numbers: [i32; 8]) -> bool
+    ensures { λ r. ⌜ r ≡ allInField numbers ⌝ }
+{
+    let mut i = 0;
+    while i < 8 {
+        if !in_range(numbers[i]) {
+            return false;
+        }
+        i += 1;
+    }
+    true
+}
+
+// A number without its sign.
+fn magnitude(n: i32) -> u32
+    requires { ⌜ inField n ≡ true ⌝ }
+    ensures { λ r. ⌜ r ≡ natAbs n ⌝ }
+{
+    if n < 0 {
+        return (-n) as u32;
+    }
+    n as u32
+}
+
+// The six characters of a number.
+fn field_chars(n: i32) -> [u8; 6]
+    requires { ⌜ inField n ≡ true ⌝ }
+    ensures { λ r. ⌜ r ≡ fieldText n ⌝ }
+{
+    let mut cs = [b' '; 6];
+    let mut m = magnitude(n);
+    let mut k: usize = 5;
+    while 10 <= m {
+        cs[k] = b'0' + (m % 10) as u8;
+        m = m / 10;
+        k -= 1;
+    }
+    cs[k] = b'0' + m as u8;
+    if n < 0 {
+        cs[k - 1] = b'-';
+    }
+    cs
+}
+
+// Puts six characters into a line from a place on; all other places stay.
+fn put_field(line: &mut [u8; 49], at: usize, cs: [u8; 6])
+    requires { ⌜ (length (now line) ≡ 49) × (at + 6 ≤ 49) ⌝ }
+    ensures { λ _. ⌜ now (line .exit) ≡ paste (now (line .entry)) at cs 6 ⌝ }
+{
+    let mut i = 0;
+    while i < 6 {
+        line[at + i] = cs[i];
+        i += 1;
+    }
+}
+
+// The 49 bytes of eight numbers.
+fn line_chars(numbers: [i32; 8]) -> [u8; 49]
+    requires { ⌜ allInField numbers ≡ true ⌝ }
+    ensures { λ r. ⌜ r ≡ lineText numbers ⌝ }
+{
+    let mut line = [b'\n'; 49];
+    let mut i = 0;
+    while i < 8 {
+        put_field(&mut line, 6 * i, field_chars(numbers[i]));
+        i += 1;
+    }
+    line
+}
+
+// Writes a line to the start of a part; the places behind it stay.
+fn put_line(part: &mut [u8], line: [u8; 49])
+    requires { ⌜ 49 ≤ length (now part) ⌝ }
+    ensures { λ _. ⌜ now (part .exit) ≡ paste (now (part .entry)) 0 line 49 ⌝ }
+{
+    let mut i = 0;
+    while i < 49 {
+        part[i] = line[i];
+        i += 1;
+    }
+}
+
+// Prints eight numbers as a line into `out` from `at` on; the other places keep their contents. Where a number is out of range the
+// answer is NoField, else where the line does not fit NoRoom, and then no byte is written.
+pub fn print_line(out: &mut [u8], at: usize, numbers: [i32; 8]) -> Printed
+    ensures answer { λ r. ⌜ r ≡ printAnswer (now (out .entry)) at numbers ⌝ }
+    ensures buffer { λ _. ⌜ now (out .exit) ≡ printedAt (now (out .entry)) at numbers ⌝ }
+{
+    if !all_in_range(numbers) {
+        return Printed::NoField;
+    }
+    if out.len() < 49 {
+        return Printed::NoRoom;
+    }
+    if out.len() - 49 < at {
+        return Printed::NoRoom;
+    }
+    put_line(&mut out[at..], line_chars(numbers));
+    Printed::Whole
 }

@@ -7,8 +7,6 @@ use Rattle.lines.specs.Field.{decimalAnswer}
 use Rattle.lines.specs.FieldLoops.{Digits, digits-start, digits-next, digits-stop, digits-done, digits-fit, below-digit, above-digit}
 use Rattle.lines.proofs.digits.Statement.{statement}
 use Rattle.lines.proofs.digits.Tie as tie
-use Rattle.lines.proofs.digits.Reads as reads
-use Rattle.lines.proofs.digits.Lts as lts
 
 abbrev Inv-loop : tie.InvT-loop
 Inv-loop cs from m₀ i₀ m i = Digits cs from i m

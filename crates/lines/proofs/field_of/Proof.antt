@@ -12,32 +12,22 @@ use denote.Ref.{now}
 use mir.Facts.{toZ-ofZ}
 use Rattle.lines.proofs.field_of.Statement.{statement}
 use Rattle.lines.proofs.field_of.Tie as tie
-use Rattle.lines.proofs.field_of.Reads as reads
-use Rattle.lines.proofs.field_of.Lts as lts
-use Rattle.lines.proofs.past_spaces.Reads as past-spaces-reads
-use Rattle.lines.proofs.unsigned.Reads as unsigned-reads
 
--- src/lib.rt:77:9
 past-spaces-requires : tie.Need-past-spaces-requires
 past-spaces-requires c κs = search needs
 
--- src/lib.rt:79:9
 returns : tie.Need-returns
 returns c = ap fieldAnswer (sym (field-blank (search needs) (c .before .past-spaces .ensures) (c .if1 .taken)))
 
--- src/lib.rt:81:8
 shared-slice-read-if2 : tie.Need-shared-slice-read-if2
 shared-slice-read-if2 c = search needs
 
--- src/lib.rt:82:35
 add-unsigned : tie.Need-add-unsigned
 add-unsigned c = search needs
 
--- src/lib.rt:82:22
 unsigned-requires : tie.Need-unsigned-requires
 unsigned-requires c κs = search needs
 
--- src/lib.rt:83:28
 enum-known-m : tie.Need-enum-known-m
 enum-known-m c = search needs
 
@@ -77,55 +67,43 @@ plus-bad c = told-bad (sym (c .enum-told2 .given .1) ∙ c .before .before .unsi
 plus-small : (c : tie.After-m2) → c .m2 .given .0 .0 < 1000000
 plus-small c = decimal-six (now (c .before .before .before .before .before .before .before .before .args .cs)) (c .before .before .before .before .before .before .past-spaces .result) (c .before .before .before .before .before .before .before .before .pre) (plus-known c)
 
--- src/lib.rt:85:21
 returns-2 : tie.Need-returns-2
 returns-2 c = ap fieldAnswer (sym (minus (c .before .before .before .before) ∙ ap negative (minus-known (c .before .before)) ∙ negative-zero _ (c .if3 .taken)))
 
--- src/lib.rt:87:33
 cast-t12 : tie.Need-cast-t12
 cast-t12 c = record { sfits = omega (arith, minus-small (c .before .before)) }
 
--- src/lib.rt:87:31
 sub-t13 : tie.Need-sub-t13
 sub-t13 c = minus-fits _ (minus-small (c .before .before)) (c .if3 .left)
 
--- src/lib.rt:89:29
 enum-told : tie.Need-enum-told
 enum-told c = search needs
 
--- src/lib.rt:82:9
 returns-3 : tie.Need-returns-3
 returns-3 c =
     ap Number (toZ-ofZ (minus-fits _ (minus-small (c .before .before)) (c .if3 .left)) ∙ word-minus _ (minus-small (c .before .before)) (c .if3 .left))
     ∙ ap fieldAnswer (sym (minus (c .before .before .before .before) ∙ ap negative (minus-known (c .before .before)) ∙ negative-some _ (c .if3 .left)))
 
--- src/lib.rt:82:9
 returns-4 : tie.Need-returns-4
 returns-4 c = ap fieldAnswer (sym (minus (c .before .before) ∙ ap negative (minus-bad c)))
 
--- src/lib.rt:92:11
 unsigned-requires-2 : tie.Need-unsigned-requires-2
 unsigned-requires-2 c κs = search needs
 
--- src/lib.rt:93:24
 enum-known-m-2 : tie.Need-enum-known-m-2
 enum-known-m-2 c = search needs
 
--- src/lib.rt:93:44
 cast-t16 : tie.Need-cast-t16
 cast-t16 c = record { sfits = omega (arith, plus-small (c .before)) }
 
--- src/lib.rt:94:25
 enum-told-2 : tie.Need-enum-told-2
 enum-told-2 c = search needs
 
--- src/lib.rt:73:1
 returns-5 : tie.Need-returns-5
 returns-5 c =
     ap Number (word-plus _ (plus-small (c .before)))
     ∙ ap fieldAnswer (sym (plus (c .before .before .before) ∙ ap positive (plus-known (c .before))))
 
--- src/lib.rt:73:1
 returns-6 : tie.Need-returns-6
 returns-6 c = ap fieldAnswer (sym (plus (c .before .before) ∙ ap positive (plus-bad c)))
 

@@ -1,7 +1,6 @@
 -- `lines::past_spaces` meets its contract: before place i stand spaces alone. Assumes nothing.
 use borrow.Author.Needs.{needs}
 use Prim.Native.Nat.{_-_}
-use native.Mathlib.Omega.{arith}
 use lib.ListN.{length}
 use Rattle.lines.specs.FieldLoops.{Spaces, spaces-start, spaces-next, spaces-stop, spaces-done}
 use Rattle.lines.proofs.past_spaces.Statement.{statement}

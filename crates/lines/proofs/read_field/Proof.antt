@@ -1,52 +1,40 @@
 -- `lines::read_field` meets its contract: the part that it reads is six characters long, or the text ends before. Assumes nothing.
 use borrow.Author.Needs.{needs}
 use native.Mathlib.Omega.{arith}
-use mathlib.Core.Path.{_≡_, ap, sym, _∙_}
+use mathlib.Core.Path.{ap, sym, _∙_}
 use denote.Ref.{now}
 use Prim.Native.Nat.{ℕ}
 use native.Mathlib.Nat.{add-sub-cancel-left}
-use lib.ListN.{length, take, drop, length-take, length-drop}
+use lib.ListN.{take, drop, length-take, length-drop}
 use Rattle.lines.specs.Field.{fieldOf, fieldAnswer}
 use Rattle.lines.specs.FieldLoops.{field-short}
 use Rattle.lines.proofs.read_field.Statement.{statement}
 use Rattle.lines.proofs.read_field.Tie as tie
-use Rattle.lines.proofs.read_field.Reads as reads
-use Rattle.lines.proofs.read_field.Lts as lts
-use Rattle.lines.proofs.field_of.Reads as field-of-reads
 
--- src/lib.rt:103:9
 returns : tie.Need-returns
 returns c = ap fieldAnswer (sym (field-short _ (λ e. omega (arith, e, length-take 6 (drop (c .before .before .args .at) (now (c .before .before .args .text))), length-drop (c .before .before .args .at) (now (c .before .before .args .text))))))
 
--- src/lib.rt:105:8
 sub-if2 : tie.Need-sub-if2
 sub-if2 c = search needs
 
--- src/lib.rt:106:9
 returns-2 : tie.Need-returns-2
 returns-2 c = ap fieldAnswer (sym (field-short _ (λ e. omega (arith, e, length-take 6 (drop (c .before .before .before .args .at) (now (c .before .before .before .args .text))), length-drop (c .before .before .before .args .at) (now (c .before .before .before .args .text))))))
 
--- src/lib.rt:108:24
 add-field-of : tie.Need-add-field-of
 add-field-of c = search needs
 
--- src/lib.rt:108:14
 sub-field-of : tie.Need-sub-field-of
 sub-field-of c = search needs
 
--- src/lib.rt:108:14
 part-field-of-start : tie.Need-part-field-of-start
 part-field-of-start c = search needs
 
--- src/lib.rt:108:14
 part-field-of-end : tie.Need-part-field-of-end
 part-field-of-end c = search needs
 
--- src/lib.rt:108:5
 field-of-requires : tie.Need-field-of-requires
 field-of-requires c κs = search needs
 
--- src/lib.rt:99:1
 returns-3 : tie.Need-returns-3
 returns-3 c = c .field-of .ensures ∙ ap (λ (k : ℕ). fieldAnswer (fieldOf (take k (drop (c .before .before .before .before .before .args .at) (now (c .before .before .before .before .before .args .text)))))) (add-sub-cancel-left (c .before .before .before .before .before .args .at) 6)
 

@@ -2,7 +2,7 @@
 -- Assumes nothing.
 use borrow.Author.Needs.{needs}
 use native.Mathlib.Omega.{arith}
-use mathlib.Core.Path.{_≡_, refl, ap, sym, _∙_}
+use mathlib.Core.Path.{ap, sym, _∙_}
 use mathlib.Core.Logic.{⊎-elim}
 use Prim.Native.Nat.{ℕ, _+_, _*_, _-_, _≤_, _<_}
 use lib.ListN.{length}
@@ -12,13 +12,9 @@ use mir.Facts.{toZ-ofZ}
 use mathlib.Core.Option.{Option}
 use Rattle.lines.specs.Line.{pageAnswer, numbersOf}
 use Rattle.lines.specs.FieldLoops.{told-number, told-no-field}
-use Rattle.lines.specs.LineLoops.{Paging, InLine, Left, page-start, page-in, page-few, page-whole, page-field, page-feed, page-bad-field, page-bad-feed, page-done, reading-sized}
+use Rattle.lines.specs.LineLoops.{Paging, InLine, Left, page-start, page-in, page-few, page-whole, page-field, page-feed, page-bad-field, page-bad-feed, page-done}
 use Rattle.lines.proofs.read_page.Statement.{statement}
 use Rattle.lines.proofs.read_page.Tie as tie
-use Rattle.lines.proofs.read_page.Reads as reads
-use Rattle.lines.proofs.read_page.Lts as lts
-use Rattle.lines.proofs.line_count.Reads as line-count-reads
-use Rattle.lines.proofs.read_field.Reads as read-field-reads
 
 abbrev Inv-loop : tie.InvT-loop
 Inv-loop text lines numbers₀ i j₀ numbers j = InLine text lines i j numbers
@@ -32,15 +28,12 @@ Inv-lines text lines numbers₀ i₀ numbers i = Paging text lines i numbers
 abbrev μ-lines : tie.MeasureT-lines
 μ-lines text lines numbers₀ i₀ numbers i = lines - i
 
--- src/lib.rt:184:9
 line-count-requires : tie.Need-line-count-requires Inv-loop μ-loop Inv-lines μ-lines
 line-count-requires c κs = search needs
 
--- src/lib.rt:187:5
 lines-holds : tie.Need-lines-holds Inv-loop μ-loop Inv-lines μ-lines
 lines-holds c = page-start _ _ (c .line-count .ensures)
 
--- src/lib.rt:189:9
 loop-holds : tie.Need-loop-holds Inv-loop μ-loop Inv-lines μ-lines
 loop-holds c = page-in (c .before .lines .inv) (c .lines-test .taken)
 
@@ -50,81 +43,62 @@ inside c =
     let p = c .before .loop .inv in
     (page-whole p, omega (arith, p .more, page-few (now (c .before .before .before .before .before .before .args .text)) (c .before .before .before .before .line-count .result) (p .counted) .0))
 
--- src/lib.rt:190:53
 mul-read-field : tie.Need-mul-read-field Inv-loop μ-loop Inv-lines μ-lines
 mul-read-field c = omega (arith, inside c)
 
--- src/lib.rt:190:62
 mul-read-field-2 : tie.Need-mul-read-field-2 Inv-loop μ-loop Inv-lines μ-lines
 mul-read-field-2 c = omega (arith, c .loop-test .taken)
 
--- src/lib.rt:190:53
 add-read-field : tie.Need-add-read-field Inv-loop μ-loop Inv-lines μ-lines
 add-read-field c = omega (arith, inside c, c .loop-test .taken)
 
--- src/lib.rt:190:36
 read-field-requires : tie.Need-read-field-requires Inv-loop μ-loop Inv-lines μ-lines
 read-field-requires c κs = search needs
 
--- src/lib.rt:190:31
 enum-known-z : tie.Need-enum-known-z Inv-loop μ-loop Inv-lines μ-lines
 enum-known-z c = search needs
 
--- src/lib.rt:191:17
 enum-told : tie.Need-enum-told Inv-loop μ-loop Inv-lines μ-lines
 enum-told c = search needs
 
--- src/lib.rt:193:21
 mul-numbers : tie.Need-mul-numbers Inv-loop μ-loop Inv-lines μ-lines
 mul-numbers c = omega (arith, inside (c .before .before .before .before))
 
--- src/lib.rt:193:21
 add-numbers : tie.Need-add-numbers Inv-loop μ-loop Inv-lines μ-lines
 add-numbers c = omega (arith, inside (c .before .before .before .before), c .before .before .before .before .loop-test .taken)
 
--- src/lib.rt:193:13
 mul-numbers-2 : tie.Need-mul-numbers-2 Inv-loop μ-loop Inv-lines μ-lines
 mul-numbers-2 c = omega (arith, inside (c .before .before .before .before), c .before .before .before .before .loop-test .taken)
 
--- src/lib.rt:193:13
 array-set-from-numbers : tie.Need-array-set-from-numbers Inv-loop μ-loop Inv-lines μ-lines
 array-set-from-numbers c = omega (arith, inside (c .before .before .before .before), c .before .before .before .before .loop-test .taken)
 
--- src/lib.rt:194:13
 add-j : tie.Need-add-j Inv-loop μ-loop Inv-lines μ-lines
 add-j c = omega (arith, c .before .before .before .before .loop-test .taken)
 
--- src/lib.rt:189:9
 loop-less : tie.Need-loop-less Inv-loop μ-loop Inv-lines μ-lines
 loop-less c = omega (arith, c .before .before .before .before .loop-test .taken)
 
--- src/lib.rt:189:9
 loop-again : tie.Need-loop-again Inv-loop μ-loop Inv-lines μ-lines
 loop-again c =
     rw (toZ-ofZ {w = w32} {z = c .before .z .given .0 .0} (record { sfits = c .known-told .given .0 .1 }))
     (page-field (c .before .z .given .0 .0) (c .before .before .before .before .before .loop .inv) (c .before .before .before .before .loop-test .taken) (told-number (sym (c .before .z .given .1) ∙ c .before .before .before .read-field .ensures)))
 
--- src/lib.rt:196:17
 mul-if1 : tie.Need-mul-if1 Inv-loop μ-loop Inv-lines μ-lines
 mul-if1 c = omega (arith, page-whole (c .before .loop .inv))
 
--- src/lib.rt:196:17
 add-if1 : tie.Need-add-if1 Inv-loop μ-loop Inv-lines μ-lines
 add-if1 c = omega (arith, page-whole (c .before .loop .inv))
 
--- src/lib.rt:196:12
 shared-slice-read-if1 : tie.Need-shared-slice-read-if1 Inv-loop μ-loop Inv-lines μ-lines
 shared-slice-read-if1 c = omega (arith, page-whole (c .before .before .loop .inv))
 
--- src/lib.rt:199:9
 add-i : tie.Need-add-i Inv-loop μ-loop Inv-lines μ-lines
 add-i c = omega (arith, page-whole (c .before .before .before .loop .inv))
 
--- src/lib.rt:187:5
 lines-less : tie.Need-lines-less Inv-loop μ-loop Inv-lines μ-lines
 lines-less c = omega (arith, c .before .before .before .before .lines-test .taken)
 
--- src/lib.rt:187:5
 lines-again : tie.Need-lines-again Inv-loop μ-loop Inv-lines μ-lines
 lines-again c = page-feed (c .before .before .before .loop .inv) (c .before .before .loop-test .left) (c .if1 .left)
 
@@ -137,11 +111,9 @@ left c =
     v)
     (c .lines-test .came)
 
--- src/lib.rt:202:9
 returns : tie.Need-returns Inv-loop μ-loop Inv-lines μ-lines
 returns c = ap (λ (o : Option ℕ). pageAnswer o (numbersOf (now (c .before .before .before .before .before .args .text)))) (sym (left (c .before) .bad (c .if2 .taken)))
 
--- src/lib.rt:181:1
 returns-2 : tie.Need-returns-2 Inv-loop μ-loop Inv-lines μ-lines
 returns-2 c =
     let e = left (c .before) .good (c .if2 .left) in

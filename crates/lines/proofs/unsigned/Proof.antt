@@ -7,31 +7,22 @@ use Rattle.lines.specs.Field.{decimalAnswer}
 use Rattle.lines.specs.FieldLoops.{decimal-stops, decimal-last, decimal-more, decimal-other}
 use Rattle.lines.proofs.unsigned.Statement.{statement}
 use Rattle.lines.proofs.unsigned.Tie as tie
-use Rattle.lines.proofs.unsigned.Reads as reads
-use Rattle.lines.proofs.unsigned.Lts as lts
-use Rattle.lines.proofs.digits.Reads as digits-reads
 
--- src/lib.rt:61:9
 returns : tie.Need-returns
 returns c = ap decimalAnswer (sym (decimal-stops (now (c .before .before .args .cs)) (c .before .before .args .from) (c .before .before .pre .0) (c .if1 .taken)))
 
--- src/lib.rt:63:8
 shared-slice-read-if2 : tie.Need-shared-slice-read-if2
 shared-slice-read-if2 c = search needs
 
--- src/lib.rt:65:13
 returns-2 : tie.Need-returns-2
 returns-2 c = ap decimalAnswer (sym (decimal-last (now (c .before .before .before .before .before .args .cs)) (c .before .before .before .before .before .args .from) (search needs) (c .if3 .taken) (c .before .if2 .taken)))
 
--- src/lib.rt:67:9
 returns-3 : tie.Need-returns-3
 returns-3 c = ap decimalAnswer (sym (decimal-more (now (c .before .before .before .before .before .args .cs)) (c .before .before .before .before .before .args .from) (search needs) (omega arith) (c .before .if2 .taken)))
 
--- src/lib.rt:69:5
 digits-requires : tie.Need-digits-requires
 digits-requires c κs = search needs
 
--- src/lib.rt:56:1
 returns-4 : tie.Need-returns-4
 returns-4 c = c .digits .ensures ∙ ap decimalAnswer (sym (decimal-other (now (c .before .before .before .before .before .args .cs)) (c .before .before .before .before .before .args .from) (search needs) (omega arith) (c .before .if2 .left)))
 
