@@ -52,7 +52,7 @@ module _ (f t : ℕ) (s : List ℕ) where
   along-grows = record {
     at = λ i e h.
         along-places i (λ q. ap (λ (x : ℕ). has x e) q ∙ h)
-        (λ p l q. ap (λ (x : ℕ). has x e) q ∙ has-union-left (getD s t 0) (getD s f 0) e (ap (λ (j : ℕ). has (getD s j 0) e) (sym p) ∙ h))
+        (λ p l q. ap (λ (x : ℕ). has x e) q ∙ has-union-left (getD s t 0) (getD s f 0) e (ap (λ (j : ℕ). has (getD s j 0) e) (sym p) ∙ h));
   }
 
   -- an element that is there afterwards was there, or came along the edge
@@ -72,7 +72,7 @@ module _ (f t : ℕ) (s : List ℕ) where
     places = along-length ∙ h .places;
     below = λ i.
         along-places i (λ q. subst (λ (x : ℕ). x < 2 ^ 64) (sym q) (h .below i))
-        (λ p l q. subst (λ (x : ℕ). x < 2 ^ 64) (sym q) (union-below 64 (h .below t) (h .below f)))
+        (λ p l q. subst (λ (x : ℕ). x < 2 ^ 64) (sym q) (union-below 64 (h .below t) (h .below f)));
   }
 
   -- an edge that has nothing to put changes nothing, and the other way round
@@ -89,13 +89,13 @@ module _ (f t : ℕ) (s : List ℕ) where
   pub along-inside : (r : List ℕ) → length s ≡ length r → Held r f t → Inside s r → Inside (along f t s) r
   along-inside r l h a = record {
     at = λ i e. along-cases i e (a .at i e)
-        (λ p m b. ap (λ (j : ℕ). has (getD r j 0) e) p ∙ h .carried (subst (λ (x : ℕ). t < x) l m) e (a .at f e b))
+        (λ p m b. ap (λ (j : ℕ). has (getD r j 0) e) p ∙ h .carried (subst (λ (x : ℕ). t < x) l m) e (a .at f e b));
   }
 
 along-monotone : (f t : ℕ) (s r : List ℕ) → length s ≡ length r → Inside s r → Inside (along f t s) (along f t r)
 along-monotone f t s r l a = record {
   at = λ i e. along-cases f t s i e (λ h. along-grows f t r .at i e (a .at i e h))
-      (λ p m b. ap (λ (j : ℕ). has (getD (along f t r) j 0) e) p ∙ along-puts f t r (subst (λ (x : ℕ). t < x) l m) e (a .at f e b))
+      (λ p m b. ap (λ (j : ℕ). has (getD (along f t r) j 0) e) p ∙ along-puts f t r (subst (λ (x : ℕ). t < x) l m) e (a .at f e b));
 }
 
 -- ---- a pass over the edges
@@ -129,7 +129,7 @@ pub edges-steady : (n : ℕ) (from to : List ℕ) → Steady n (passEdges from t
 edges-steady n from to = record {
   keeps = λ s h. pass-sets n from to s h;
   grows = λ s h. pass-grows from to s;
-  monotone = λ s t h k a. pass-monotone from to s t (h .places ∙ sym (k .places)) a
+  monotone = λ s t h k a. pass-monotone from to s t (h .places ∙ sym (k .places)) a;
 }
 
 -- ---- a pass changes nothing just where every edge has nothing to put
@@ -150,7 +150,7 @@ still-closed [] to s q = record { edge = λ k h g. absurd (omega arith) }
 still-closed (f ∷ from) [] s q = record { edge = λ k h g. absurd (omega arith) }
 still-closed (f ∷ from) (t ∷ to) s q =
     let a : along f t s ≡ s =
-        inside-equal (along-length f t s) (subst (λ (r : List ℕ). Inside (along f t s) r) q (pass-grows from to (along f t s))) (along-grows f t s) in
+    inside-equal (along-length f t s) (subst (λ (r : List ℕ). Inside (along f t s) r) q (pass-grows from to (along f t s))) (along-grows f t s) in
     let ih : Closed from to s = still-closed from to s (ap (passEdges from to) (sym a) ∙ q) in
     record { edge = both (still-held f t s a) ih }
   where

@@ -4,3 +4,4 @@ pub mod Least
 pub mod InsideLaws
 pub mod Settled
 pub mod LeastLaws
+pub mod Pass

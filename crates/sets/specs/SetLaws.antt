@@ -303,7 +303,7 @@ onesIn-lt (suc k) a b zero f l p q =
     omega (arith, digit-zero a p, digit-one b q)
 onesIn-lt (suc k) a b (suc j) f l p q =
     let ih : onesIn k (a / 2) < onesIn k (b / 2) =
-        onesIn-lt k (a / 2) (b / 2) j (half-inside a b f) (le-of-suc-le-suc l) (sym (has-suc a j) ∙ p) (sym (has-suc b j) ∙ q) in
+    onesIn-lt k (a / 2) (b / 2) j (half-inside a b f) (le-of-suc-le-suc l) (sym (has-suc a j) ∙ p) (sym (has-suc b j) ∙ q) in
     omega (arith, digit-le a b (f 0))
 
 pub count-inside : (a b : ℕ) → ((i : ℕ) → has a i ≡ true → has b i ≡ true) → count a ≤ count b
@@ -325,8 +325,8 @@ onesIn-more (suc k) a b zero l p q f =
 onesIn-more (suc k) a b (suc j) l p q f =
     let d : a % 2 ≡ b % 2 = same-digit a b (sym (has-zero a) ∙ f 0 (λ e. omega arith) ∙ has-zero b) in
     let ih : onesIn k (b / 2) ≡ suc (onesIn k (a / 2)) =
-        onesIn-more k (a / 2) (b / 2) j (le-of-suc-le-suc l) (sym (has-suc a j) ∙ p) (sym (has-suc b j) ∙ q)
-        (λ i n. sym (has-suc a i) ∙ f (suc i) (λ e. n (suc-inj e)) ∙ has-suc b i) in
+    onesIn-more k (a / 2) (b / 2) j (le-of-suc-le-suc l) (sym (has-suc a j) ∙ p) (sym (has-suc b j) ∙ q)
+    (λ i n. sym (has-suc a i) ∙ f (suc i) (λ e. n (suc-inj e)) ∙ has-suc b i) in
     omega arith
 
 pub count-with : (s i : ℕ) → i < 64 → has s i ≡ false → count (with s i) ≡ suc (count s)
