@@ -50,6 +50,11 @@ put-more f t s b l h d =
           (λ q. d (sym (getD-set-same s t (bitOr (getD s t 0) (getD s f 0)) 0 l) ∙ ap (λ (r : List ℕ). getD r t 0) (sym q))));
     }
 
+-- the same with the places written another way
+pub put-as : {f t f′ t′ : ℕ} {s₀ s : List ℕ} {b b′ : Bool} → f ≡ f′ → t ≡ t′ → Put f t s₀ s b b′ → Put f′ t′ s₀ s b b′
+put-as {f} {t} {f′} {t′} {s₀} {s} {b} {b′} p q h =
+    subst (λ (x : ℕ). Put x t′ s₀ s b b′) p (subst (λ (x : ℕ). Put f x s₀ s b b′) q h)
+
 -- ---- a pass
 
 -- what is left to do, besides the room: one turn while going on
@@ -105,18 +110,28 @@ module _ (from to : List ℕ) where
       here same same₀ h k a b false e = let r : (lo ≤ k) × (k < hi) = rest k (eqb-false k j e) a b in h k (r .0) (r .1)
 
   -- the next edge upwards, and the next one downwards
-  pub passed-up : {s₀ s s′ : List ℕ} {before after : Bool} (k : ℕ) {f t : ℕ} → k < min (length from) (length to)
-      → f ≡ getD from k 0 → t ≡ getD to k 0 → Passed from to s₀ s before 0 k → Put f t s s′ before after → Passed from to s₀ s′ after 0 (k + 1)
-  passed-up k h ef et p q =
-      passed-next k 0 (k + 1) (λ i d a b. (omega arith, lt-of-le-ne (omega arith) d)) (omega arith) (omega arith) p (rw (ef, et) at q)
+  pub passed-up : {s₀ s s′ : List ℕ} {before after : Bool} (k : ℕ) → k < min (length from) (length to)
+      → Passed from to s₀ s before 0 k → Put (getD from k 0) (getD to k 0) s s′ before after → Passed from to s₀ s′ after 0 (k + 1)
+  passed-up k h p q = passed-next k 0 (k + 1) (λ i d a b. (omega arith, lt-of-le-ne (omega arith) d)) (omega arith) (omega arith) p q
 
-  pub passed-down : {s₀ s s′ : List ℕ} {before after : Bool} (k : ℕ) {f t m : ℕ} → 0 < k → k ≤ min (length from) (length to)
-      → f ≡ getD from (k - 1) 0 → t ≡ getD to (k - 1) 0 → Passed from to s₀ s before k m → Put f t s s′ before after → Passed from to s₀ s′ after (k - 1) m
-  passed-down k {m = m} z h ef et p q =
-      passed-next (k - 1) (k - 1) m (λ i d a b. (above i d a, b)) (omega arith) (omega arith) p (rw (ef, et) at q)
+  pub passed-down : {s₀ s s′ : List ℕ} {before after : Bool} (k : ℕ) {m : ℕ} → k < min (length from) (length to)
+      → Passed from to s₀ s before (k + 1) m → Put (getD from k 0) (getD to k 0) s s′ before after → Passed from to s₀ s′ after k m
+  passed-down k {m} h p q = passed-next k k m (λ i d a b. (above i d a, b)) (omega arith) (omega arith) p q
     where
-      above : (i : ℕ) → (i ≡ k - 1 → ⊥) → k - 1 ≤ i → k ≤ i
-      above i d a = let l : k - 1 < i = lt-of-le-ne a (λ e. d (sym e)) in omega arith
+      above : (i : ℕ) → (i ≡ k → ⊥) → k ≤ i → k + 1 ≤ i
+      above i d a = let l : k < i = lt-of-le-ne a (λ e. d (sym e)) in omega arith
+
+  -- two edges at once
+  pub passed-up-two : {s₀ s s′ s″ : List ℕ} {b b′ b″ : Bool} (k : ℕ) → k + 1 < min (length from) (length to) → Passed from to s₀ s b 0 k
+      → Put (getD from k 0) (getD to k 0) s s′ b b′ → Put (getD from (k + 1) 0) (getD to (k + 1) 0) s′ s″ b′ b″ → Passed from to s₀ s″ b″ 0 (k + 2)
+  passed-up-two k h p q r = passed-as refl (omega arith) (passed-up (k + 1) h (passed-up k (omega arith) p q) r)
+
+  pub passed-down-two : {s₀ s s′ s″ : List ℕ} {b b′ b″ : Bool} (k : ℕ) {m : ℕ} → 1 < k → k ≤ min (length from) (length to) → Passed from to s₀ s b k m
+      → Put (getD from (k - 1) 0) (getD to (k - 1) 0) s s′ b b′ → Put (getD from (k - 2) 0) (getD to (k - 2) 0) s′ s″ b′ b″ → Passed from to s₀ s″ b″ (k - 2) m
+  passed-down-two {s₀} {s} {s′} {s″} {b} {b′} {b″} k {m} z h p q r =
+      let e : k ≡ k - 1 + 1 = omega arith in
+      let e₂ : k - 1 ≡ k - 2 + 1 = omega arith in
+      passed-down (k - 2) (omega arith) (passed-as e₂ refl (passed-down (k - 1) (omega arith) (passed-as e refl p) q)) r
 
   -- ---- passes until nothing changes
 

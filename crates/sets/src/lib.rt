@@ -1,7 +1,7 @@
 // Sets of at most 64 elements, each in one number: element i is bit i. And the solver of least closed lists of sets.
 ghost use mathlib.Core.Path.{_≡_};
-ghost use Prim.Native.Nat.{min};
-ghost use lib.ListN.{length};
+ghost use Prim.Native.Nat.{_<_, min};
+ghost use lib.ListN.{length, getD};
 ghost use Rattle.sets.specs.Least.{least};
 ghost use Rattle.sets.specs.Pass.{Put, Passed};
 ghost use Rattle.sets.specs.Set.{has, firsts, one, with, union, inter, minus, subset, isEmpty, count, isSingle, only, lowest};
@@ -165,29 +165,45 @@ fn put_along(sets: &mut [u64], f: usize, t: usize, changed: bool) -> bool
     changed
 }
 
-// Goes along every edge once, from the first to the last, and returns whether anything changed.
+// Puts along edge k what it leads from, and returns as put_along does.
+fn put_edge(sets: &mut [u64], from: &[u16], to: &[u16], k: usize, changed: bool) -> bool
+    requires { ⌜ (k < length (now from)) × (k < length (now to)) ⌝ }
+    ensures { λ r. ⌜ Put (getD (now (from .entry)) k 0) (getD (now (to .entry)) k 0) (now (sets .entry)) (now (sets .exit)) changed r ⌝ }
+{
+    put_along(sets, wide(from[k]), wide(to[k]), changed)
+}
+
+// Goes along every edge once, from the first to the last, and returns whether anything changed. Two edges a turn: that runs faster.
 fn pass_up(sets: &mut [u64], from: &[u16], to: &[u16]) -> bool
     ensures { λ r. ⌜ Passed (now (from .entry)) (now (to .entry)) (now (sets .entry)) (now (sets .exit)) r 0 (min (length (now (from .entry))) (length (now (to .entry)))) ⌝ }
 {
     let n = edges(from, to);
     let mut changed = false;
     let mut k = 0;
-    while k < n {
-        changed = put_along(sets, wide(from[k]), wide(to[k]), changed);
-        k += 1;
+    while 1 < n - k {
+        changed = put_edge(sets, from, to, k, changed);
+        changed = put_edge(sets, from, to, k + 1, changed);
+        k += 2;
+    }
+    if k < n {
+        return put_edge(sets, from, to, k, changed);
     }
     changed
 }
 
-// Goes along every edge once, from the last to the first, and returns whether anything changed.
+// Goes along every edge once, from the last to the first, and returns whether anything changed. Two edges a turn.
 fn pass_down(sets: &mut [u64], from: &[u16], to: &[u16]) -> bool
     ensures { λ r. ⌜ Passed (now (from .entry)) (now (to .entry)) (now (sets .entry)) (now (sets .exit)) r 0 (min (length (now (from .entry))) (length (now (to .entry)))) ⌝ }
 {
-    let mut k = edges(from, to);
     let mut changed = false;
-    while 0 < k {
-        k -= 1;
-        changed = put_along(sets, wide(from[k]), wide(to[k]), changed);
+    let mut k = edges(from, to);
+    while 1 < k {
+        changed = put_edge(sets, from, to, k - 1, changed);
+        changed = put_edge(sets, from, to, k - 2, changed);
+        k -= 2;
+    }
+    if 0 < k {
+        return put_edge(sets, from, to, 0, changed);
     }
     changed
 }

@@ -1,7 +1,6 @@
 // The solver under C names, for programs in C and for the benchmark. Each slice is a pointer and a count.
 ghost use mathlib.Core.Path.{_≡_};
 ghost use Rattle.sets.specs.Least.{least};
-
 use sets::Order;
 
 // `sets::solve` from the first edge to the last.
