@@ -152,9 +152,9 @@ fn edges(from: &[u16], to: &[u16]) -> usize
 fn put_along(sets: &mut [u64], f: usize, t: usize, changed: bool) -> bool
     ensures { λ r. ⌜ Put f t (now (sets .entry)) (now (sets .exit)) changed r ⌝ }
 {
-    if f < sets.len() {
-        if t < sets.len() {
-            let old = sets[t];
+    if t < sets.len() {
+        let old = sets[t];
+        if f < sets.len() {
             let new = old | sets[f];
             if new != old {
                 sets[t] = new;
@@ -178,9 +178,10 @@ fn pass_up(sets: &mut [u64], from: &[u16], to: &[u16]) -> bool
     ensures { λ r. ⌜ Passed (now (from .entry)) (now (to .entry)) (now (sets .entry)) (now (sets .exit)) r 0 (min (length (now (from .entry))) (length (now (to .entry)))) ⌝ }
 {
     let n = edges(from, to);
+    let pairs = n - n % 2;
     let mut changed = false;
     let mut k = 0;
-    while 1 < n - k {
+    while k < pairs {
         changed = put_edge(sets, from, to, k, changed);
         changed = put_edge(sets, from, to, k + 1, changed);
         k += 2;

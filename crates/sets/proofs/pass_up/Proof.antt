@@ -1,5 +1,5 @@
 -- `sets::pass_up` meets its contract. Its loop has gone along the edges before k. Assumes nothing.
-use Prim.Native.Nat.{_+_, _-_, _≤_, _<_, min}
+use Prim.Native.Nat.{_+_, _-_, _%_, _≤_, _<_, min}
 use Rattle.sets.proofs.Passes.{passed-start, passed-as, passed-up, passed-up-two}
 use Rattle.sets.specs.Pass.{Passed}
 use borrow.Author.Needs.{needs}
@@ -10,19 +10,19 @@ use Rattle.sets.proofs.pass_up.Statement.{statement}
 use Rattle.sets.proofs.pass_up.Tie as tie
 
 abbrev Inv-loop : tie.InvT-loop
-Inv-loop sets₀ from to n changed₀ k₀ sets changed k = (k ≤ n) × Passed from to sets₀ sets changed 0 k
+Inv-loop sets₀ from to n pairs changed₀ k₀ sets changed k = (k ≤ pairs) × (k % 2 ≡ 0) × Passed from to sets₀ sets changed 0 k
 
 abbrev μ-loop : tie.MeasureT-loop
-μ-loop sets₀ from to n changed₀ k₀ sets changed k = n - k
+μ-loop sets₀ from to n pairs changed₀ k₀ sets changed k = pairs - k
 
 edges-requires : tie.Need-edges-requires Inv-loop μ-loop
 edges-requires c κs = search needs
 
-loop-holds : tie.Need-loop-holds Inv-loop μ-loop
-loop-holds c = (omega arith, passed-start _ _ _ 0 0 (omega arith))
+sub-pairs : tie.Need-sub-pairs Inv-loop μ-loop
+sub-pairs c = search needs
 
-sub-loop : tie.Need-sub-loop Inv-loop μ-loop
-sub-loop c = search needs
+loop-holds : tie.Need-loop-holds Inv-loop μ-loop
+loop-holds c = (omega arith, omega arith, passed-start _ _ _ 0 0 (omega arith))
 
 put-edge-requires : tie.Need-put-edge-requires Inv-loop μ-loop
 put-edge-requires c κs = search needs
@@ -42,7 +42,7 @@ loop-less c = search needs
 loop-again : tie.Need-loop-again Inv-loop μ-loop
 loop-again c =
     let l : c .before .before .before .before .before .before .before .before .before .loop .k + 1 < min (length (c .before .before .before .before .before .before .before .before .before .before .before .before .before .before .args .from .now)) (length (c .before .before .before .before .before .before .before .before .before .before .before .before .before .before .args .to .now)) = omega (arith, c .before .before .before .before .before .before .before .before .before .before .edges .ensures) in
-    (omega arith, passed-up-two _ _ _ l (c .before .before .before .before .before .before .before .before .before .loop .inv .1) (c .before .before .before .before .before .before .put-edge .ensures) (c .before .before .put-edge2 .ensures))
+    (omega arith, omega arith, passed-up-two _ _ _ l (c .before .before .before .before .before .before .before .before .before .loop .inv .2) (c .before .before .before .before .before .before .put-edge .ensures) (c .before .before .put-edge2 .ensures))
 
 put-edge-requires-3 : tie.Need-put-edge-requires-3 Inv-loop μ-loop
 put-edge-requires-3 c κs = search needs
@@ -54,7 +54,7 @@ returns : tie.Need-returns Inv-loop μ-loop
 returns c =
     let l : c .before .before .before .before .before .before .loop .k < min (length (c .before .before .before .before .before .before .before .before .before .before .before .args .from .now)) (length (c .before .before .before .before .before .before .before .before .before .before .before .args .to .now)) = omega (arith, c .before .before .before .before .before .before .before .edges .ensures) in
     let e : c .before .before .before .before .before .before .loop .k + 1 ≡ min (length (c .before .before .before .before .before .before .before .before .before .before .before .args .from .now)) (length (c .before .before .before .before .before .before .before .before .before .before .before .args .to .now)) = omega (arith, c .before .before .before .before .before .before .before .edges .ensures) in
-    passed-as _ _ refl e (passed-up _ _ _ l (c .before .before .before .before .before .before .loop .inv .1) (c .before .before .put-edge3 .ensures))
+    passed-as _ _ refl e (passed-up _ _ _ l (c .before .before .before .before .before .before .loop .inv .2) (c .before .before .put-edge3 .ensures))
 
 same-length-2 : tie.Need-same-length-2 Inv-loop μ-loop
 same-length-2 c = search needs
@@ -62,7 +62,7 @@ same-length-2 c = search needs
 returns-2 : tie.Need-returns-2 Inv-loop μ-loop
 returns-2 c =
     let e : c .before .before .loop .k ≡ min (length (c .before .before .before .before .before .before .before .args .from .now)) (length (c .before .before .before .before .before .before .before .args .to .now)) = omega (arith, c .before .before .before .edges .ensures) in
-    passed-as _ _ refl e (c .before .before .loop .inv .1)
+    passed-as _ _ refl e (c .before .before .loop .inv .2)
 
 pub pass-up-spec : {M : Type 1} → statement M
-pass-up-spec = tie.close (tie.spec Inv-loop μ-loop edges-requires loop-holds sub-loop put-edge-requires add-put-edge put-edge-requires-2 add-k loop-less loop-again put-edge-requires-3 same-length returns same-length-2 returns-2)
+pass-up-spec = tie.close (tie.spec Inv-loop μ-loop edges-requires sub-pairs loop-holds put-edge-requires add-put-edge put-edge-requires-2 add-k loop-less loop-again put-edge-requires-3 same-length returns same-length-2 returns-2)
