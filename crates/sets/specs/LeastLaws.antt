@@ -20,21 +20,21 @@ use Rattle.sets.specs.Settled.{settled-keeps, settled-sets, settled-clos
 module _ (f t : ℕ) (s : List ℕ) where
   pub along-length : length (along f t s) ≡ length s
   unfolding along
-  along-length = length-set s t (union (getD s t 0) (getD s f 0))
+  along-length = length-set s t _
 
   -- past the end nothing is written
   along-out : length s ≤ t → along f t s ≡ s
   unfolding along
-  along-out h = set-out s t (union (getD s t 0) (getD s f 0)) h
+  along-out h = set-out s t _ h
 
   along-here : t < length s → getD (along f t s) t 0 ≡ union (getD s t 0) (getD s f 0)
   unfolding along
-  along-here h = getD-set-same s t (union (getD s t 0) (getD s f 0)) 0 h
+  along-here h = getD-set-same s t _ 0 h
 
   -- every other place is kept
   pub along-elsewhere : (i : ℕ) → (i ≡ t → ⊥) → getD (along f t s) i 0 ≡ getD s i 0
   unfolding along
-  along-elsewhere i d = getD-set-other s t i (union (getD s t 0) (getD s f 0)) 0 d
+  along-elsewhere i d = getD-set-other s t i _ 0 d
 
   -- a place is another one, or past the end, or the one that the edge leads to
   along-places {ℓ} : {C : Type ℓ} (i : ℕ) → (getD (along f t s) i 0 ≡ getD s i 0 → C)
