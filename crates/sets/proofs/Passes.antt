@@ -13,7 +13,7 @@ use lib.ListN.{length, getD, set, List·getD-eq-default}
 use lib.Seq.{set-out, set-getD, getD-set-same}
 use borrow.Author.Tests.{eqb-true, eqb-false}
 use Rattle.sets.specs.Set.{has, union}
-use Rattle.sets.specs.Least.{SetList, Inside, room, along, least, Held, Closed}
+use Rattle.sets.specs.Least.{SetList, Inside, room, putInto, along, least, Held, Closed}
 use Rattle.sets.specs.InsideLaws.{inside-refl, inside-trans, inside-at, room-le, room-less}
 use Rattle.sets.specs.LeastLaws.{along-length, along-grows, along-sets, along-inside, still-held, least-sets, least-holds-start, least-closed, least-is}
 use Rattle.sets.specs.Pass.{Put, Passed, Solving}
@@ -25,22 +25,22 @@ stayed : (f t : ℕ) (s : List ℕ) (b : Bool) → along f t s ≡ s → Put f t
 stayed f t s b q = record { becomes = sym q; still = λ e. (e, refl); moved = λ e. inl e }
 
 pub put-no-from : (f t : ℕ) (s : List ℕ) (b : Bool) → length s ≤ f → Put f t s s b b
-unfolding along union
+unfolding along putInto union
 put-no-from f t s b h =
     stayed f t s b
     (ap (λ (x : ℕ). set s t (bitOr (getD s t 0) x)) (List·getD-eq-default s 0 h) ∙ ap (set s t) (or-zero-r (getD s t 0)) ∙ set-getD s t 0)
 
 pub put-no-to : (f t : ℕ) (s : List ℕ) (b : Bool) → length s ≤ t → Put f t s s b b
-unfolding along
+unfolding along putInto
 put-no-to f t s b h = stayed f t s b (set-out s t (union (getD s t 0) (getD s f 0)) h)
 
 pub put-nothing : (f t : ℕ) (s : List ℕ) (b : Bool) → bitOr (getD s t 0) (getD s f 0) ≡ getD s t 0 → Put f t s s b b
-unfolding along union
+unfolding along putInto union
 put-nothing f t s b q = stayed f t s b (ap (set s t) q ∙ set-getD s t 0)
 
 pub put-more : (f t : ℕ) (s : List ℕ) (b : Bool) → t < length s → ((i : ℕ) → getD s i 0 < 2 ^ 64) → (bitOr (getD s t 0) (getD s f 0) ≡ getD s t 0 → ⊥)
     → Put f t s (set s t (bitOr (getD s t 0) (getD s f 0))) b true
-unfolding along union
+unfolding along putInto union
 put-more f t s b l h d =
     let k : SetList (length s) s = record { places = refl; below = h } in
     record {
