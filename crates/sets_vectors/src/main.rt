@@ -57,11 +57,17 @@ fn membership() {
     truth(b"has 2^63 62: ", sets::has(9223372036854775808, 62));
     truth(b"has all 64: ", sets::has(18446744073709551615, 64));
     number(b"empty: ", sets::empty());
+}
+
+fn first_elements() {
     number(b"firsts 0: ", sets::firsts(0));
     number(b"firsts 1: ", sets::firsts(1));
     number(b"firsts 63: ", sets::firsts(63));
     number(b"firsts 64: ", sets::firsts(64));
     number(b"firsts 65: ", sets::firsts(65));
+}
+
+fn single_elements() {
     number(b"one 0: ", sets::one(0));
     number(b"one 63: ", sets::one(63));
     number(b"one 64: ", sets::one(64));
@@ -75,6 +81,9 @@ fn operations() {
     number(b"intersection 12 10: ", sets::intersection(12, 10));
     number(b"difference 12 10: ", sets::difference(12, 10));
     number(b"difference 10 12: ", sets::difference(10, 12));
+}
+
+fn inclusions() {
     truth(b"subset 8 12: ", sets::subset(8, 12));
     truth(b"subset 12 8: ", sets::subset(12, 8));
     truth(b"subset 0 0: ", sets::subset(0, 0));
@@ -89,6 +98,9 @@ fn counts() {
     truth(b"is_single 0: ", sets::is_single(0));
     truth(b"is_single 4: ", sets::is_single(4));
     truth(b"is_single 6: ", sets::is_single(6));
+}
+
+fn found() {
     which(b"only 0: ", sets::only(0));
     which(b"only 4: ", sets::only(4));
     which(b"only 6: ", sets::only(6));
@@ -97,58 +109,79 @@ fn counts() {
     which(b"lowest 12: ", sets::lowest(12));
 }
 
-fn solved(order: Order) {
-    let mut alone = [1u64, 2, 4];
-    let none = [0u16; 0];
-    sets::solve(&mut alone, &none, &none, order);
-    list(b"no edges:", &alone);
-
-    let mut cycle = [1u64, 2, 4, 8];
-    let around = [0u16, 1, 2];
-    let onward = [1u16, 2, 0];
-    sets::solve(&mut cycle, &around, &onward, order);
-    list(b"a cycle:", &cycle);
-
-    let mut chain = [1u64, 2, 4, 8];
-    let lower = [2u16, 1, 0];
-    let upper = [3u16, 2, 1];
-    sets::solve(&mut chain, &lower, &upper, order);
-    list(b"a chain listed backwards:", &chain);
-
-    let mut forward = [1u64, 2, 4, 8];
-    let near = [0u16, 1, 2];
-    let far = [1u16, 2, 3];
-    sets::solve(&mut forward, &near, &far, order);
-    list(b"a chain listed forwards:", &forward);
+// Solves the sets, and prints the label and what they have become.
+fn solved(label: &[u8], s: &mut [u64], from: &[u16], to: &[u16], order: Order) {
+    sets::solve(s, from, to, order);
+    list(label, s);
 }
 
-fn solved_at_the_edges(order: Order) {
-    let mut own = [1u64, 2];
+fn no_edges(order: Order) {
+    let mut s = [1u64, 2, 4];
+    let none = [0u16; 0];
+    solved(b"no edges:", &mut s, &none, &none, order);
+}
+
+fn cycle(order: Order) {
+    let mut s = [1u64, 2, 4, 8];
+    let from = [0u16, 1, 2];
+    let to = [1u16, 2, 0];
+    solved(b"a cycle:", &mut s, &from, &to, order);
+}
+
+fn backwards(order: Order) {
+    let mut s = [1u64, 2, 4, 8];
+    let from = [2u16, 1, 0];
+    let to = [3u16, 2, 1];
+    solved(b"a chain listed backwards:", &mut s, &from, &to, order);
+}
+
+fn forwards(order: Order) {
+    let mut s = [1u64, 2, 4, 8];
+    let from = [0u16, 1, 2];
+    let to = [1u16, 2, 3];
+    solved(b"a chain listed forwards:", &mut s, &from, &to, order);
+}
+
+fn to_itself(order: Order) {
+    let mut s = [1u64, 2];
     let here = [1u16];
-    sets::solve(&mut own, &here, &here, order);
-    list(b"an edge to itself:", &own);
+    solved(b"an edge to itself:", &mut s, &here, &here, order);
+}
 
-    let mut outside = [1u64, 2];
-    let leave = [5u16, 0, 0];
-    let enter = [0u16, 5, 1];
-    sets::solve(&mut outside, &leave, &enter, order);
-    list(b"edges past the end:", &outside);
+fn past_the_end(order: Order) {
+    let mut s = [1u64, 2];
+    let from = [5u16, 0, 0];
+    let to = [0u16, 5, 1];
+    solved(b"edges past the end:", &mut s, &from, &to, order);
+}
 
-    let mut uneven = [1u64, 2, 0];
-    let longer = [0u16, 1];
-    let shorter = [1u16];
-    sets::solve(&mut uneven, &longer, &shorter, order);
-    list(b"lists of two lengths:", &uneven);
+fn two_lengths(order: Order) {
+    let mut s = [1u64, 2, 0];
+    let from = [0u16, 1];
+    let to = [1u16];
+    solved(b"lists of two lengths:", &mut s, &from, &to, order);
+}
+
+fn solver(order: Order) {
+    no_edges(order);
+    cycle(order);
+    backwards(order);
+    forwards(order);
+    to_itself(order);
+    past_the_end(order);
+    two_lengths(order);
 }
 
 fn main() {
     membership();
+    first_elements();
+    single_elements();
     operations();
+    inclusions();
     counts();
+    found();
     io::write_all(1, b"from the first edge to the last\n");
-    solved(Order::FirstToLast);
-    solved_at_the_edges(Order::FirstToLast);
+    solver(Order::FirstToLast);
     io::write_all(1, b"from the last edge to the first\n");
-    solved(Order::LastToFirst);
-    solved_at_the_edges(Order::LastToFirst);
+    solver(Order::LastToFirst);
 }
