@@ -5,6 +5,7 @@ pub mod Until
 pub mod UntilLaws
 pub mod Fields
 pub mod Header
+pub mod HeaderLaws
 pub mod Handles
 pub mod Routines
 pub mod LayoutLaws
@@ -13,5 +14,6 @@ pub mod SearchLaws
 pub mod Naming
 pub mod GatherLaws
 pub mod WalkLaws
+pub mod Verdict
 pub mod Table
 pub mod Accepted

@@ -5,11 +5,18 @@ mod header;
 mod naming;
 mod routines;
 mod statements;
+mod checks;
 
 // What is said of a text: a table, or the number of the first refusal that applies and the line that goes with it.
 pub enum Verdict {
     Accepted,
     Refused { number: u32, line: usize },
+}
+
+// A text that was read: the verdict, and the numbers of its lines, eight a line; zeros behind its last line, and everywhere if it is refused.
+pub struct Reading {
+    pub verdict: Verdict,
+    pub numbers: [i32; 5384],
 }
 
 // A handle that a statement names, by its number through the whole table.
