@@ -57,5 +57,5 @@ header-sized f e =
       routines-some = r .0;
       routines-most = r .1;
       statements-some = s .0;
-      statements-most = s .1
+      statements-most = s .1;
     }

@@ -54,7 +54,7 @@ summing-next f a sum r n s h e b =
       is = v;
       small = omega (arith, s .small);
       few = omega arith;
-      all-small = λ k l. below-more (λ (i : ℕ). firstOf f i < 2 ^ 40) (r + 1) (s .all-small) (subst (λ (x : ℕ). x < 2 ^ 40) v (omega (arith, s .small))) k l
+      all-small = λ k l. below-more (λ (i : ℕ). firstOf f i < 2 ^ 40) (r + 1) (s .all-small) (subst (λ (x : ℕ). x < 2 ^ 40) v (omega (arith, s .small))) k l;
     }
 
 -- ---- the first handles
@@ -72,7 +72,7 @@ pub skipping-next : (f : List ℤ) (a : List ℕ) (h r count x : ℕ) → Skippi
     → x ≡ until (λ k. eqb (field f (handleLine k) 1) r) h (count - h) → Skipping f (set a (r + 1) x) x (r + 1)
 skipping-next f a h r count x s l c e =
     let v : x ≡ handlesFrom f (r + 1) =
-      e ∙ ap₂ (λ (from n : ℕ). until (λ k. eqb (routineOf f k) r) from (n - from)) (s .is) c ∙ sym (handles-next f r) in
+    e ∙ ap₂ (λ (from n : ℕ). until (λ k. eqb (routineOf f k) r) from (n - from)) (s .is) c ∙ sym (handles-next f r) in
     record { filled = filled-next (handlesFrom f) a 33 (r + 1) x (s .filled) (omega arith) v; is = v; few = omega arith }
 
 -- ---- the parameters

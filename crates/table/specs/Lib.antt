@@ -15,5 +15,6 @@ pub mod Naming
 pub mod GatherLaws
 pub mod WalkLaws
 pub mod Verdict
+pub mod VerdictLaws
 pub mod Table
 pub mod Accepted

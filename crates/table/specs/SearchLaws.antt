@@ -35,7 +35,7 @@ pub searching-next : (f : List ℤ) (count r : ℕ) → Searching f count r → 
 searching-next f count r s h b =
     record {
       few = omega arith;
-      whole = sym (ap (badStatement f r) (left count r h) ∙ bad-step f r (count - (r + 1)) ∙ rw (le-ltb _ _ b)) ∙ s .whole
+      whole = sym (ap (badStatement f r) (left count r h) ∙ bad-step f r (count - (r + 1)) ∙ rw (le-ltb _ _ b)) ∙ s .whole;
     }
 
 pub searching-stop : (f : List ℤ) (count r : ℕ) → Searching f count r → r < count → badIn f r < firstOf f (r + 1) → badIn f r ≡ badStatement f 0 count

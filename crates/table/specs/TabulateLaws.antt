@@ -20,7 +20,7 @@ module _ {A : Type 0} where
   getD-from from zero g k d h = absurd (not-suc-le-zero h)
   getD-from from (suc n) g zero d h = ap g (sym (add-zero from))
   getD-from from (suc n) g (suc k) d h =
-    let e : from + 1 + k ≡ from + suc k = omega arith in getD-from (from + 1) n g k d (le-of-suc-le-suc h) ∙ ap g e
+      let e : from + 1 + k ≡ from + suc k = omega arith in getD-from (from + 1) n g k d (le-of-suc-le-suc h) ∙ ap g e
 
   pub length-tabulate : (n : ℕ) (g : ℕ → A) → length (tabulate n g) ≡ n
   unfolding tabulate
@@ -33,8 +33,8 @@ module _ {A : Type 0} where
   -- a list that has at each place what g says is the tabulated one
   pub is-tabulate : (n : ℕ) (g : ℕ → A) (l : List A) (d : A) → length l ≡ n → ((k : ℕ) → k < n → getD l k d ≡ g k) → l ≡ tabulate n g
   is-tabulate n g l d e h =
-    ext-getD d l (tabulate n g) (e ∙ sym (length-tabulate n g))
-    (λ i b. let b′ : i < n = omega (arith, e) in h i b′ ∙ sym (getD-tabulate n g i d b′))
+      ext-getD d l (tabulate n g) (e ∙ sym (length-tabulate n g))
+      (λ i b. let b′ : i < n = omega (arith, e) in h i b′ ∙ sym (getD-tabulate n g i d b′))
 
 -- ---- a list that a loop fills from its front
 
@@ -51,8 +51,8 @@ filled-next g a n r v f h e = record { long = length-set a r v ∙ f .long; hold
   where
     at : (k : ℕ) → k < r + 1 → Dec (k ≡ r) → getD (set a r v) k 0 ≡ g k
     at k b (yes p) =
-      let inside : r < length a = omega (arith, f .long) in
-      ap (λ (i : ℕ). getD (set a r v) i 0) p ∙ getD-set-same a r v 0 inside ∙ e ∙ ap g (sym p)
+        let inside : r < length a = omega (arith, f .long) in
+        ap (λ (i : ℕ). getD (set a r v) i 0) p ∙ getD-set-same a r v 0 inside ∙ e ∙ ap g (sym p)
     at k b (no q) = let below : k < r = omega (arith, q) in getD-set-other a r k v 0 q ∙ f .holds k below
 
 pub filled-all : (g : ℕ → ℕ) (a : List ℕ) (n r : ℕ) → Filled g a n r → n ≤ r → a ≡ tabulate n g

@@ -16,6 +16,7 @@ until-step good from n = go (good from) refl
   where
     past : from + suc n ≡ from + 1 + n
     past = omega arith
+
     go : (b : Bool) → good from ≡ b → orElse (lowest good from (suc n)) (from + suc n) ≡ cond (good from) (orElse (lowest good (from + 1) n) (from + 1 + n)) from
     go true e = rw (e, lowest-good good from n e, ← add-one, past)
     go false e = rw (e, lowest-bad good from n e)

@@ -75,6 +75,10 @@ abbrev pub numbersFor : Verdict → List ℤ → List ℤ
 numbersFor Accepted numbers = numbers
 numbersFor (Refused number line) numbers = replicate 5384 (pos 0)
 
+-- the reading of a refused text
+abbrev pub turnedDown : ℕ → ℕ → Reading
+turnedDown number line = record { verdict = Refused number line; numbers = replicate 5384 (pos 0) }
+
 -- what `read` answers
 unfoldable pub readingOf : List ℕ → Reading
 readingOf text = record { verdict = verdict text; numbers = numbersFor (verdict text) (numbersOf text) }

@@ -10,11 +10,22 @@ ghost use Rattle.table.specs.Naming.{namesIn};
 ghost use Rattle.table.specs.Verdict.{namingVerdict, statementVerdict, declarationVerdict, numbersVerdict, textOk};
 use crate::Verdict;
 use crate::fields::field_at;
-use crate::handles::{bad_handle, previous};
-use crate::header::{bad_leading, header_ok, length_ok};
-use crate::naming::{cyclic, names_in, unnamed};
-use crate::routines::{bad_routine, entry_at, first_handles, first_statements, parameter_counts, sum_ok};
-use crate::statements::{bad_end, bad_statement};
+use crate::handles::bad_handle;
+use crate::handles::previous;
+use crate::header::bad_leading;
+use crate::header::header_ok;
+use crate::header::length_ok;
+use crate::naming::cyclic;
+use crate::naming::names_in;
+use crate::naming::unnamed;
+use crate::routines::bad_routine;
+use crate::routines::entry_at;
+use crate::routines::first_handles;
+use crate::routines::first_statements;
+use crate::routines::parameter_counts;
+use crate::routines::sum_ok;
+use crate::statements::bad_end;
+use crate::statements::bad_statement;
 
 // Refusals 11 and 12.
 fn naming_verdict(numbers: &[i32], names: &[u64]) -> Verdict
@@ -88,7 +99,10 @@ fn declaration_verdict(numbers: &[i32]) -> Verdict
 {
     let h = bad_handle(numbers);
     if h < field_at(numbers, 0, 3) {
-        return Verdict::Refused { number: 6, line: 1 + h };
+        return Verdict::Refused {
+            number: 6,
+            line: 1 + h,
+        };
     }
     let r = bad_routine(numbers);
     if r < field_at(numbers, 0, 4) {

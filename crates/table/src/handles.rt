@@ -6,7 +6,8 @@ ghost use Rattle.table.specs.Until.{until};
 ghost use Rattle.table.specs.Fields.{field};
 ghost use Rattle.table.specs.Header.{handles, handleLine};
 ghost use Rattle.table.specs.Handles.{things, handleFieldsOk, sameAbove, handleOrderOk, parameterOk, handleOk};
-use crate::fields::{field_at, is_unused};
+use crate::fields::field_at;
+use crate::fields::is_unused;
 use crate::header::is_within;
 
 // How many things there are of a kind.

@@ -1,11 +1,15 @@
 // The reader: a table text, or the first refusal of document 01. Crates above see only the promises here.
+mod checks;
 mod fields;
 mod handles;
 mod header;
 mod naming;
 mod routines;
 mod statements;
-mod checks;
+
+ghost use mathlib.Core.Path.{_≡_};
+ghost use Rattle.table.specs.Verdict.{readingOf, turnedDown};
+use lines::FirstBad;
 
 // What is said of a text: a table, or the number of the first refusal that applies and the line that goes with it.
 pub enum Verdict {
@@ -77,4 +81,39 @@ pub struct Routine {
     pub handle: usize,
     pub handles: usize,
     pub parameters: usize,
+}
+
+// The reading of a refused text.
+fn refused(number: u32, line: usize) -> Reading
+    ensures { λ r. ⌜ r ≡ turnedDown number line ⌝ }
+{
+    Reading {
+        verdict: Verdict::Refused { number, line },
+        numbers: [0i32; 5384],
+    }
+}
+
+// The table of a text, or the first refusal: its verdict and its numbers, for every text.
+pub fn read(text: &[u8]) -> Reading
+    ensures { λ r. ⌜ r ≡ readingOf (now (text .entry)) ⌝ }
+{
+    if !checks::text_ok(text.len()) {
+        return refused(1, 0);
+    }
+    let page = lines::read_page(text);
+    let first_bad = page.first_bad;
+    match first_bad {
+        FirstBad::Line(i) => refused(2, i),
+        FirstBad::Nothing => {
+            let numbers = page.numbers;
+            let verdict = checks::numbers_verdict(&numbers[..], text.len() / 49);
+            match verdict {
+                Verdict::Accepted => Reading {
+                    verdict: Verdict::Accepted,
+                    numbers,
+                },
+                Verdict::Refused { number, line } => refused(number, line),
+            }
+        }
+    }
 }

@@ -7,7 +7,8 @@ ghost use Rattle.table.specs.Header.{routines};
 ghost use Rattle.table.specs.Handles.{handlesFrom, parameters};
 ghost use Rattle.table.specs.Routines.{countOf, routineOk, firstOf, sumOk};
 ghost use Rattle.table.specs.Entry.{entry};
-use crate::fields::{field_at, is_unused};
+use crate::fields::field_at;
+use crate::fields::is_unused;
 use crate::handles::skip;
 use crate::header::is_within;
 
@@ -32,7 +33,8 @@ fn routine_ok(numbers: &[i32], r: usize) -> bool
     requires { ⌜ r < 2 ^ 32 ⌝ }
     ensures { λ b. ⌜ b ≡ routineOk (now (numbers .entry)) r ⌝ }
 {
-    is_within(1, field_at(numbers, 0, 5), count_at(numbers, r)) & is_unused(numbers, 1 + field_at(numbers, 0, 3) + r, 2)
+    is_within(1, field_at(numbers, 0, 5), count_at(numbers, r))
+        & is_unused(numbers, 1 + field_at(numbers, 0, 3) + r, 2)
 }
 
 // The lowest routine that breaks refusal 7's rule, or the number of routines.

@@ -5,7 +5,8 @@ ghost use Rattle.table.specs.Until.{until};
 ghost use Rattle.table.specs.Header.{routines};
 ghost use Rattle.table.specs.LayoutLaws.{Laid};
 ghost use Rattle.table.specs.Statements.{ownHandle, ownOfKind, ownStatement, argumentOk, argumentsOk, namingOk, pointOk, operationOk, statementOk, badStatement, endOk};
-use crate::fields::{field_at, is_unused};
+use crate::fields::field_at;
+use crate::fields::is_unused;
 use crate::handles::previous;
 use crate::routines::entry_at;
 
@@ -30,7 +31,14 @@ fn own_of_kind(numbers: &[i32], r: usize, kind: usize, x: usize) -> bool
 }
 
 // Whether x is a statement of routine `r`.
-fn own_statement(numbers: &[i32], first: &[usize], handle: &[usize], counts: &[usize], r: usize, x: usize) -> bool
+fn own_statement(
+    numbers: &[i32],
+    first: &[usize],
+    handle: &[usize],
+    counts: &[usize],
+    r: usize,
+    x: usize,
+) -> bool
     requires { ⌜ Laid (now numbers) (now first) (now handle) (now counts) ⌝ }
     requires { ⌜ r < 32 ⌝ }
     ensures { λ b. ⌜ b ≡ ownStatement (now (numbers .entry)) r x ⌝ }
@@ -39,33 +47,98 @@ fn own_statement(numbers: &[i32], first: &[usize], handle: &[usize], counts: &[u
 }
 
 // Whether x may be argument `k` of a statement of routine `r` that names routine `q`.
-fn argument_ok(numbers: &[i32], first: &[usize], handle: &[usize], counts: &[usize], r: usize, q: usize, k: usize, x: usize) -> bool
+fn argument_ok(
+    numbers: &[i32],
+    first: &[usize],
+    handle: &[usize],
+    counts: &[usize],
+    r: usize,
+    q: usize,
+    k: usize,
+    x: usize,
+) -> bool
     requires { ⌜ Laid (now numbers) (now first) (now handle) (now counts) ⌝ }
     requires { ⌜ q < 32 ⌝ }
     requires { ⌜ k < 4 ⌝ }
     ensures { λ b. ⌜ b ≡ argumentOk (now (numbers .entry)) r q k x ⌝ }
 {
     if k < entry_at(counts, q) {
-        return own_of_kind(numbers, r, field_at(numbers, 1 + (entry_at(handle, q) + k), 2), x);
+        return own_of_kind(
+            numbers,
+            r,
+            field_at(numbers, 1 + (entry_at(handle, q) + k), 2),
+            x,
+        );
     }
     x == 0
 }
 
 // Whether the CALL or START in `line` of routine `r` passes what routine `q` takes.
-fn arguments_ok(numbers: &[i32], first: &[usize], handle: &[usize], counts: &[usize], r: usize, q: usize, line: usize) -> bool
+fn arguments_ok(
+    numbers: &[i32],
+    first: &[usize],
+    handle: &[usize],
+    counts: &[usize],
+    r: usize,
+    q: usize,
+    line: usize,
+) -> bool
     requires { ⌜ Laid (now numbers) (now first) (now handle) (now counts) ⌝ }
     requires { ⌜ q < 32 ⌝ }
     ensures { λ b. ⌜ b ≡ argumentsOk (now (numbers .entry)) r q line ⌝ }
 {
-    argument_ok(numbers, first, handle, counts, r, q, 0, field_at(numbers, line, 3))
-        & argument_ok(numbers, first, handle, counts, r, q, 1, field_at(numbers, line, 4))
-        & argument_ok(numbers, first, handle, counts, r, q, 2, field_at(numbers, line, 5))
-        & argument_ok(numbers, first, handle, counts, r, q, 3, field_at(numbers, line, 6))
+    argument_ok(
+        numbers,
+        first,
+        handle,
+        counts,
+        r,
+        q,
+        0,
+        field_at(numbers, line, 3),
+    )
+        & argument_ok(
+            numbers,
+            first,
+            handle,
+            counts,
+            r,
+            q,
+            1,
+            field_at(numbers, line, 4),
+        )
+        & argument_ok(
+            numbers,
+            first,
+            handle,
+            counts,
+            r,
+            q,
+            2,
+            field_at(numbers, line, 5),
+        )
+        & argument_ok(
+            numbers,
+            first,
+            handle,
+            counts,
+            r,
+            q,
+            3,
+            field_at(numbers, line, 6),
+        )
         & is_unused(numbers, line, 7)
 }
 
 // Whether the CALL or START in `line` of routine `r` names a routine and passes what it takes.
-fn naming_ok(numbers: &[i32], first: &[usize], handle: &[usize], counts: &[usize], r: usize, line: usize) -> bool
+fn naming_ok(
+    numbers: &[i32],
+    first: &[usize],
+    handle: &[usize],
+    counts: &[usize],
+    r: usize,
+    line: usize,
+) -> bool
     requires { ⌜ Laid (now numbers) (now first) (now handle) (now counts) ⌝ }
     ensures { λ b. ⌜ b ≡ namingOk (now (numbers .entry)) r line ⌝ }
 {
@@ -82,12 +155,25 @@ fn point_ok(numbers: &[i32], r: usize, line: usize) -> bool
 {
     let a = field_at(numbers, line, 2);
     own_handle(numbers, r, a)
-        & own_of_kind(numbers, r, field_at(numbers, 1 + a, 2), field_at(numbers, line, 3))
+        & own_of_kind(
+            numbers,
+            r,
+            field_at(numbers, 1 + a, 2),
+            field_at(numbers, line, 3),
+        )
         & is_unused(numbers, line, 4)
 }
 
 // The rule of operation `op` in `line` of routine `r`.
-fn operation_ok(numbers: &[i32], first: &[usize], handle: &[usize], counts: &[usize], r: usize, line: usize, op: usize) -> bool
+fn operation_ok(
+    numbers: &[i32],
+    first: &[usize],
+    handle: &[usize],
+    counts: &[usize],
+    r: usize,
+    line: usize,
+    op: usize,
+) -> bool
     requires { ⌜ Laid (now numbers) (now first) (now handle) (now counts) ⌝ }
     requires { ⌜ r < 32 ⌝ }
     ensures { λ b. ⌜ b ≡ operationOk (now (numbers .entry)) r line op ⌝ }
@@ -115,18 +201,41 @@ fn operation_ok(numbers: &[i32], first: &[usize], handle: &[usize], counts: &[us
 }
 
 // Refusal 9's rule at statement `s` of routine `r`.
-fn statement_ok(numbers: &[i32], first: &[usize], handle: &[usize], counts: &[usize], r: usize, s: usize) -> bool
+fn statement_ok(
+    numbers: &[i32],
+    first: &[usize],
+    handle: &[usize],
+    counts: &[usize],
+    r: usize,
+    s: usize,
+) -> bool
     requires { ⌜ Laid (now numbers) (now first) (now handle) (now counts) ⌝ }
     requires { ⌜ r < 32 ⌝ }
     requires { ⌜ s < 2 ^ 40 ⌝ }
     ensures { λ b. ⌜ b ≡ statementOk (now (numbers .entry)) r s ⌝ }
 {
     let line = 1 + field_at(numbers, 0, 3) + field_at(numbers, 0, 4) + s;
-    operation_ok(numbers, first, handle, counts, r, line, field_at(numbers, line, 1))
+    operation_ok(
+        numbers,
+        first,
+        handle,
+        counts,
+        r,
+        line,
+        field_at(numbers, line, 1),
+    )
 }
 
 // The lowest statement of routine `r`, from `from` on and below `end`, that breaks refusal 9's rule; `end` if there is none.
-fn bad_among(numbers: &[i32], first: &[usize], handle: &[usize], counts: &[usize], r: usize, from: usize, end: usize) -> usize
+fn bad_among(
+    numbers: &[i32],
+    first: &[usize],
+    handle: &[usize],
+    counts: &[usize],
+    r: usize,
+    from: usize,
+    end: usize,
+) -> usize
     requires { ⌜ Laid (now numbers) (now first) (now handle) (now counts) ⌝ }
     requires { ⌜ r < 32 ⌝ }
     requires { ⌜ end < 2 ^ 40 ⌝ }
@@ -167,7 +276,11 @@ fn end_ok(numbers: &[i32], first: &[usize], handle: &[usize], counts: &[usize], 
     ensures { λ b. ⌜ b ≡ endOk (now (numbers .entry)) r ⌝ }
 {
     let last = previous(entry_at(first, r + 1));
-    let op = field_at(numbers, 1 + field_at(numbers, 0, 3) + field_at(numbers, 0, 4) + last, 1);
+    let op = field_at(
+        numbers,
+        1 + field_at(numbers, 0, 3) + field_at(numbers, 0, 4) + last,
+        1,
+    );
     (op == 10) | (op == 12)
 }
 

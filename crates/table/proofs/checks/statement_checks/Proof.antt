@@ -75,13 +75,14 @@ returns-2 c = let start = c .before .before .before .before .before .before .bef
     let r = c .before .before .before .before .before .bad-end .result in
     let below : r < 32 = omega (arith, c .before .before .before .before .field-at2 .ensures .0, start .pre .routines-most, c .before .before .before .if2 .taken) in
     let last = c .before .previous .ensures ∙ ap (λ (n : ℕ). n - 1) (c .before .before .entry-at .ensures ∙ entry-tabulate 33 (firstOf f) _ (r + 1) (start .pre .first-is) (omega arith)) in
-    rw
-    (c .statement-line2 .ensures,
-    last,
-    ← c .before .before .before .before .before .before .before .before .bad-statement .ensures,
-    le-ltb _ _ (rw (c .before .before .before .before .before .before .before .field-at .ensures .0) at (c .before .before .before .before .before .before .if1 .left)),
-    ← c .before .before .before .before .before .bad-end .ensures,
-    lt-ltb _ _ (rw (c .before .before .before .before .field-at2 .ensures .0) at (c .before .before .before .if2 .taken)))
+    rw (
+      c .statement-line2 .ensures,
+      last,
+      ← c .before .before .before .before .before .before .before .before .bad-statement .ensures,
+      le-ltb _ _ (rw (c .before .before .before .before .before .before .before .field-at .ensures .0) at (c .before .before .before .before .before .before .if1 .left)),
+      ← c .before .before .before .before .before .bad-end .ensures,
+      lt-ltb _ _ (rw (c .before .before .before .before .field-at2 .ensures .0) at (c .before .before .before .if2 .taken)),
+    )
 
 -- src/checks.rt:68:17
 names-in-requires : tie.Need-names-in-requires
@@ -98,12 +99,13 @@ naming-verdict-requires c κs = search needs
 -- src/checks.rt:50:1
 returns-3 : tie.Need-returns-3
 unfolding statementVerdict
-returns-3 c = rw
-    (← c .before .before .before .before .before .before .before .before .bad-statement .ensures,
-    le-ltb _ _ (rw (c .before .before .before .before .before .before .before .field-at .ensures .0) at (c .before .before .before .before .before .before .if1 .left)),
-    ← c .before .before .before .before .before .bad-end .ensures,
-    le-ltb _ _ (rw (c .before .before .before .before .field-at2 .ensures .0) at (c .before .before .before .if2 .left)),
-    ← c .before .before .names-in .ensures)
+returns-3 c = rw (
+  ← c .before .before .before .before .before .before .before .before .bad-statement .ensures,
+  le-ltb _ _ (rw (c .before .before .before .before .before .before .before .field-at .ensures .0) at (c .before .before .before .before .before .before .if1 .left)),
+  ← c .before .before .before .before .before .bad-end .ensures,
+  le-ltb _ _ (rw (c .before .before .before .before .field-at2 .ensures .0) at (c .before .before .before .if2 .left)),
+  ← c .before .before .names-in .ensures,
+)
     (c .naming-verdict .ensures)
 
 pub statement-checks-spec : {M : Type 1} → statement M

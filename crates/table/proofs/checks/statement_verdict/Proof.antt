@@ -40,7 +40,7 @@ statement-checks-requires c κs = let start = c .before .before .before .before 
       first-small = start .pre .1 .1;
       first-is = start .pre .1 .0;
       handle-is = c .before .before .before .before .first-handles .ensures;
-      counts-is = c .before .before .parameter-counts .ensures
+      counts-is = c .before .before .parameter-counts .ensures;
     }
 
 -- src/checks.rt:73:1

@@ -41,7 +41,7 @@ at c =
     let e = c .before .before .entry-at .ensures ∙ entry-tabulate 33 (firstOf f) _ (r + 1) (start .pre .first-is) (omega arith) in
     record {
       end = e;
-      found = searched f r _ _ _ (c .bad-among .ensures) (c .before .entry-at2 .ensures ∙ entry-tabulate 33 (firstOf f) _ r (start .pre .first-is) (omega arith)) e
+      found = searched f r _ _ _ (c .bad-among .ensures) (c .before .entry-at2 .ensures ∙ entry-tabulate 33 (firstOf f) _ r (start .pre .first-is) (omega arith)) e;
     }
 
 -- src/statements.rt:150:9
@@ -69,11 +69,14 @@ bad-among-requires : tie.Need-bad-among-requires Inv-loop μ-loop
 bad-among-requires c κs = let start = c .before .before .before .before .before .before .before .before in
     let f = now (start .args .numbers) in
     let r = c .before .before .before .loop .r in
-    let below : r < 32 = omega (arith, c .before .before .before .before .field-at .ensures .0, start .pre .routines-most, c .before .before .loop-test .taken) in
-    (start .pre,
-    (below,
-    subst⁻¹ (λ (n : ℕ). n < 2 ^ 40) (c .before .entry-at .ensures ∙ entry-tabulate 33 (firstOf f) _ (r + 1) (start .pre .first-is) (omega arith))
-    (start .pre .first-small (r + 1) (omega arith))))
+    let below : r < 32 = omega (arith, c .before .before .before .before .field-at .ensures .0, start .pre .routines-most, c .before .before .loop-test .taken) in (
+      start .pre,
+      (
+        below,
+        subst⁻¹ (λ (n : ℕ). n < 2 ^ 40) (c .before .entry-at .ensures ∙ entry-tabulate 33 (firstOf f) _ (r + 1) (start .pre .first-is) (omega arith))
+            (start .pre .first-small (r + 1) (omega arith)),
+      ),
+    )
 
 -- src/statements.rt:156:13
 returns : tie.Need-returns Inv-loop μ-loop

@@ -50,8 +50,8 @@ add-field-at-3 c = let start = c .before .before .before .before .before .before
     let e = c .before .before .before .entry-at .ensures ∙ entry-tabulate 33 (firstOf f) _ (start .args .r + 1) (start .pre .0 .first-is) (omega (arith, start .pre .1)) in
     record {
       fits =
-        omega
-        (arith, e, start .pre .0 .first-small (start .args .r + 1) (omega (arith, start .pre .1)), c .before .before .previous .ensures, c .before .field-at .ensures .1, c .field-at2 .ensures .1)
+          omega
+          (arith, e, start .pre .0 .first-small (start .args .r + 1) (omega (arith, start .pre .1)), c .before .before .previous .ensures, c .before .field-at .ensures .1, c .field-at2 .ensures .1);
     }
 
 -- src/statements.rt:170:9
