@@ -1,0 +1,5 @@
+pub mod State
+pub mod Step
+pub mod Words
+pub mod Engine
+pub mod Notebook
