@@ -164,3 +164,80 @@ module _ {t : Table} (accepted : Accepted t) (copies : Copies t) (f : Families) 
           (refused 17))
       go true same = given-now h eq (is ∙ ap Machine.held (eqb-true o n same))
       go false same = (marks, inv)
+
+  -- ---- CALL, RETURN and START
+
+  -- the copy that a CALL or START leads to, its first statement, and the frame that is opened there
+  module _ (σ : Statement) (eq : statement t (m .place) ≡ σ) (q : ℕ) (arguments : Arguments) (names : Names σ q)
+      (passes : Passes t (copies .of (m .copy)) q arguments) (passing : Passing copies (f .flow) (m .copy) (m .place) q arguments) where
+    callee : Mark
+    callee =
+        record {
+          copy = copies .leads (m .copy) (m .place);
+          place = routine t q .first;
+          values = opened t q (m .values) arguments .values;
+        }
+
+    named : Names (statement t (m .place)) q
+    named = subst (λ (τ : Statement). Names τ q) (sym eq) names
+
+    callee-there : callee .copy < copies .count
+    unfolding callee
+    callee-there = copies .leads-there (m .copy) (m .place) q (top .here .there) (top .here .inside) named
+
+    callee-of : copies .of (callee .copy) ≡ q
+    unfolding callee
+    callee-of = copies .leads-of (m .copy) (m .place) q (top .here .there) (top .here .inside) named
+
+    callee-place : Place copies (callee .copy) (callee .place)
+    unfolding callee
+    callee-place = first-place accepted copies (callee .copy) q callee-there callee-of
+
+    callee-valued : Valued copies f (callee .copy) (callee .values)
+    unfolding callee
+    callee-valued =
+        opened-valued accepted copies f rules (callee .copy) q (m .values) arguments callee-there callee-of
+        (passed-fits accepted copies f rules (m .values) q arguments passes passing (top .valued))
+
+    callee-frame : opened t q (m .values) arguments ≡ newest copies f callee
+    unfolding callee opened
+    callee-frame = rw callee-of
+
+  called : (q : ℕ) (arguments : Arguments) → statement t (m .place) ≡ Call q arguments
+      → Kept copies f state
+      (moved (with-thread state n a (opened t q (m .values) arguments ∷ waiting copies f m ∷ older copies f ms) (state .cells) (state .locks)))
+  unfolding callee
+  called q arguments eq =
+      (replaced marks n (new ∷ m ∷ ms),
+      thread-changed copies f rules state marks inv n there a _ (state .cells) (state .locks) (new ∷ m ∷ ms)
+      (ap (λ (g : Frame). g ∷ waiting copies f m ∷ older copies f ms) (callee-frame σ eq q arguments refl passes passing)) (inv .all-locks)
+      (record {
+        here = callee-place σ eq q arguments refl passes passing;
+        valued = callee-valued σ eq q arguments refl passes passing;
+        holds = λ k held. top .holds k (rules .held-rules .by-call (m .copy) (m .place) k q arguments (top .here) eq held);
+      },
+      (record {
+        named = q;
+        arguments = arguments;
+        here = top .here;
+        calls = eq;
+        leads = refl;
+        valued = top .valued;
+        holds = λ k held kept. top .holds k held;
+      },
+      below))
+      (λ o k other has. has) (λ w x p. before w x (within w x p)))
+    where
+      σ : Statement
+      σ = Call q arguments
+      passes : Passes t (copies .of (m .copy)) q arguments
+      passes = operands σ eq
+      passing : Passing copies (f .flow) (m .copy) (m .place) q arguments
+      passing = rules .flow-rules .statement-rule (m .copy) (m .place) (top .here) σ eq
+      new : Mark
+      new = callee σ eq q arguments refl passes passing
+      within : (w : Bool) (x : ℕ) → Potential copies f (new ∷ m ∷ ms) w x → Potential copies f (m ∷ ms) w x
+      within w x (inl ahead) =
+          inl (inl (rw eq (ahead-in-effect accepted copies f rules (callee-place σ eq q arguments refl passes passing) ahead)))
+      within w x (inr (inl inside)) = inl (inr inside)
+      within w x (inr (inr left)) = inr left
