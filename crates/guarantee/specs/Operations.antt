@@ -241,3 +241,109 @@ module _ {t : Table} (accepted : Accepted t) (copies : Copies t) (f : Families) 
           inl (inl (rw eq (ahead-in-effect accepted copies f rules (callee-place σ eq q arguments refl passes passing) ahead)))
       within w x (inr (inl inside)) = inl (inr inside)
       within w x (inr (inr left)) = inr left
+
+  returned : statement t (m .place) ≡ Return → Kept copies f state (moved (with-thread state n a (older copies f ms) (state .cells) (state .locks)))
+  returned eq = go ms below (λ w x left. before w x (inr left))
+    where
+      go : (cs : List Mark) → AllWait copies f (state .locks) n (m .copy) cs
+          → ((w : Bool) (x : ℕ) → Left copies f cs w x → Potential copies f (marks n) w x)
+          → Kept copies f state (moved (with-thread state n a (older copies f cs) (state .cells) (state .locks)))
+      go [] wait less =
+          (replaced marks n [],
+          thread-changed copies f rules state marks inv n there a [] (state .cells) (state .locks) [] refl (inv .all-locks) tt (λ o k other has. has)
+          (λ w x p. absurd p))
+      go (c ∷ cs) (wait, under) less =
+          (replaced marks n (back ∷ cs),
+          thread-changed copies f rules state marks inv n there a _ (state .cells) (state .locks) (back ∷ cs) refl (inv .all-locks)
+          (record { here = back-place; valued = wait .valued; holds = holds }, under) (λ o k other has. has)
+          (λ w x p. less w x (⊎-elim (λ ahead. inl (ahead-follows accepted copies f rules back-place goes ahead)) (λ left. inr left) p)))
+        where
+          back : Mark
+          back = record { copy = c .copy; place = c .place + 1; values = c .values }
+          back-place : Place copies (c .copy) (c .place + 1)
+          back-place = goes-place accepted copies (wait .here) (Call (wait .named) (wait .arguments)) (wait .calls) refl
+          goes : Goes (c .place) (statement t (c .place)) (c .place + 1)
+          goes = subst (λ (τ : Statement). Goes (c .place) τ (c .place + 1)) (sym (wait .calls)) refl
+          holds : (k : ℕ) → f .held (c .copy) (c .place + 1) k → Has copies f (state .locks) n k
+          holds k held =
+              ⊎-elim
+              (λ all. top .holds k
+              (subst (λ (d : ℕ). f .held d (m .place) k) (wait .leads)
+              (all (m .place) (subst (λ (d : ℕ). Place copies d (m .place)) (sym (wait .leads)) (top .here)) eq)))
+              (λ kept. wait .holds k (kept .0) (subst (λ (d : ℕ). f .gives d k → ⊥) (wait .leads) (kept .1)))
+              (rules .held-rules .way (c .copy) (c .place) (c .place + 1) k (wait .here) (Call (wait .named) (wait .arguments)) (wait .calls) refl held)
+
+  started : (q : ℕ) (arguments : Arguments) → statement t (m .place) ≡ Start q arguments
+      → Kept copies f state (operate t state n a (newest copies f m) (older copies f ms) (Start q arguments))
+  unfolding callee operate onward in-frame
+  started q arguments eq =
+      (replaced (replaced marks n (on ∷ ms)) _ (new ∷ []),
+      thread-added copies f rules _ (replaced marks n (on ∷ ms)) (onward (m .place + 1) a (state .cells) σ eq refl (λ k held. held) .1) (pos 0) _ (new ∷ [])
+      (ap (λ (g : Frame). g ∷ []) (callee-frame σ eq q arguments refl passes passing))
+      (record {
+        here = new-place;
+        valued = callee-valued σ eq q arguments refl passes passing;
+        holds = λ k held. absurd (rules .held-rules .by-start (m .copy) (m .place) k q arguments (top .here) eq held);
+      },
+      tt) parted)
+    where
+      σ : Statement
+      σ = Start q arguments
+      passes : Passes t (copies .of (m .copy)) q arguments
+      passes = operands σ eq
+      passing : Passing copies (f .flow) (m .copy) (m .place) q arguments
+      passing = rules .flow-rules .statement-rule (m .copy) (m .place) (top .here) σ eq
+      new : Mark
+      new = callee σ eq q arguments refl passes passing
+      new-place : Place copies (new .copy) (new .place)
+      new-place = callee-place σ eq q arguments refl passes passing
+      -- the starter, one statement on
+      on : Mark
+      on = record { copy = m .copy; place = m .place + 1; values = m .values }
+      on-place : Place copies (m .copy) (m .place + 1)
+      on-place = goes-place accepted copies (top .here) σ eq refl
+      -- the new thread touches what the started copy does
+      in-effect : (w : Bool) (x : ℕ) → Potential copies f (new ∷ []) w x → f .effect (new .copy) w x
+      in-effect w x (inl ahead) = ahead-in-effect accepted copies f rules new-place ahead
+      in-effect w x (inr left) = absurd left
+      -- the starter touches what lies in the START's future
+      in-future : (w : Bool) (x : ℕ) → Potential copies f (on ∷ ms) w x → f .future (m .copy) (m .place) w x
+      in-future w x (inl ahead) =
+          inside-in-future accepted copies f rules (top .here) (ahead-follows accepted copies f rules on-place (goes-as σ eq (m .place + 1) refl) ahead)
+      in-future w x (inr left) = left-in-future accepted copies f rules (state .locks) n (m .copy) (m .place) ms w x (top .here) below left
+      -- what the new thread touches, the starter's START did
+      from-starter : (w : Bool) (x : ℕ) → Potential copies f (new ∷ []) w x → Potential copies f (marks n) w x
+      from-starter w x p = before w x (inl (inl (rw eq (in-effect w x p))))
+      parted : (o x : ℕ) → Clash (Potential copies f (new ∷ [])) (Potential copies f (replaced marks n (on ∷ ms) o)) x → f .shared x
+      parted o x =
+          replaced-all (λ o s. Clash (Potential copies f (new ∷ [])) (Potential copies f s) x → f .shared x) marks n (on ∷ ms)
+          (λ clash. rules .shared-rules .at-start (m .copy) (m .place) x q arguments (top .here) eq
+          (clash-wider (λ w. in-effect w x) (λ w. in-future w x) clash))
+          (λ o other clash. inv .apart n o x (λ same. other (sym same)) (clash-wider (λ w. from-starter w x) (λ w p. p) clash)) o
+
+  -- ---- every operation
+
+  pub operated : (σ : Statement) → statement t (m .place) ≡ σ → Kept copies f state (operate t state n a (newest copies f m) (older copies f ms) σ)
+  unfolding operate
+  operated (Read h) eq = onward (m .place + 1) _ (state .cells) (Read h) eq refl (λ k held. held)
+  operated (Write h) eq = onward (m .place + 1) a _ (Write h) eq refl (λ k held. held)
+  operated (Set number) eq = onward (m .place + 1) number (state .cells) (Set number) eq refl (λ k held. held)
+  operated (Add number) eq = onward (m .place + 1) _ (state .cells) (Add number) eq refl (λ k held. held)
+  operated (Take h) eq = taken h eq _ refl
+  operated (Give h) eq = given h eq _ refl
+  operated (Point h g) eq =
+      let ops = operands (Point h g) eq in
+      in-frame (m .place + 1) _ a (state .cells) (state .locks) (Point h g) eq refl (inv .all-locks)
+      (pointed-valued accepted copies f rules (m .values) (h .number) (g .number) (ops .1) (ops .2)
+      (rules .flow-rules .statement-rule (m .copy) (m .place) (top .here) (Point h g) eq) (top .valued))
+      (λ k held. top .holds k (rules .held-rules .way (m .copy) (m .place) (m .place + 1) k (top .here) (Point h g) eq refl held)) below
+      (λ o k other has. has)
+  operated (Call q arguments) eq = called q arguments eq
+  operated (Start q arguments) eq = started q arguments eq
+  operated (Jump z) eq = onward (z .statement) a (state .cells) (Jump z) eq refl (λ k held. held)
+  operated (JumpZero z) eq = onward _ a (state .cells) (JumpZero z) eq (either (isZero a)) (λ k held. held)
+    where
+      either : (b : Bool) → Goes (m .place) (JumpZero z) (cond b (z .statement) (m .place + 1))
+      either true = inl refl
+      either false = inr refl
+  operated Return eq = returned eq
