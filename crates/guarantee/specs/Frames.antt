@@ -22,17 +22,18 @@ module _ {t : Table} (copies : Copies t) (f : Families) (rules : Rules copies f)
   pub wait-still : (locks locks′ : List Holder) (n d : ℕ) (ms : List Mark)
       → ((k : ℕ) → (f .gives d k → ⊥) → Has copies f locks n k → Has copies f locks′ n k) → AllWait copies f locks n d ms → AllWait copies f locks′ n d ms
   wait-still locks locks′ n d [] keep wait = wait
-  wait-still locks locks′ n d (m ∷ ms) keep (here, below) =
-      (record {
-        named = here .named;
-        arguments = here .arguments;
-        here = here .here;
-        calls = here .calls;
-        leads = here .leads;
-        valued = here .valued;
-        holds = λ k held kept. keep k kept (here .holds k held kept);
-      },
-      wait-still locks locks′ n (m .copy) ms (λ k kept. keep k (λ given. kept (up k given))) below)
+  wait-still locks locks′ n d (m ∷ ms) keep (here, below) = (
+    record {
+      named = here .named;
+      arguments = here .arguments;
+      here = here .here;
+      calls = here .calls;
+      leads = here .leads;
+      valued = here .valued;
+      holds = λ k held kept. keep k kept (here .holds k held kept);
+    },
+    wait-still locks locks′ n (m .copy) ms (λ k kept. keep k (λ given. kept (up k given))) below,
+  )
     where
       up : (k : ℕ) → f .gives d k → f .gives (m .copy) k
       up k given =
@@ -43,9 +44,10 @@ module _ {t : Table} (copies : Copies t) (f : Families) (rules : Rules copies f)
   pub good-still : (locks locks′ : List Holder) (n : ℕ) (ms : List Mark) → ((k : ℕ) → Has copies f locks n k → Has copies f locks′ n k)
       → Good copies f locks n ms → Good copies f locks′ n ms
   good-still locks locks′ n [] keep good = good
-  good-still locks locks′ n (m ∷ ms) keep (here, below) =
-      (record { here = here .here; valued = here .valued; holds = λ k held. keep k (here .holds k held) },
-      wait-still locks locks′ n (m .copy) ms (λ k kept. keep k) below)
+  good-still locks locks′ n (m ∷ ms) keep (here, below) = (
+    record { here = here .here; valued = here .valued; holds = λ k held. keep k (here .holds k held) },
+    wait-still locks locks′ n (m .copy) ms (λ k kept. keep k) below,
+  )
 
 -- ---- the values of a new frame
 
@@ -68,8 +70,10 @@ module _ {t : Table} (accepted : Accepted t) (copies : Copies t) (f : Families) 
     where
       facts : Rattle.table.specs.Accepted.HandleFacts t h
       facts = accepted .handle h (own .there)
+
       r-is : declaration t h .routine ≡ q
       r-is = own .own ∙ e
+
       parameter-case : declaration t h .origin ≡ 0
           → Fits copies f d h (cond (eqb (declaration t h .origin) 0) (getD values (getD (passed a) (h - routine t q .handle) 0) 0) (declaration t h .start))
       parameter-case o =
@@ -78,6 +82,7 @@ module _ {t : Table} (accepted : Accepted t) (copies : Copies t) (f : Families) 
           let small : h - routine t q .handle < routine t q .parameters = omega arith in
           let back : routine t q .handle + (h - routine t q .handle) ≡ h = omega arith in
           rw o (subst (λ (j : ℕ). Fits copies f d j (getD values (getD (passed a) (h - routine t q .handle) 0) 0)) back (params (h - routine t q .handle) small))
+
       local-case : declaration t h .origin ≡ 1
           → Fits copies f d h (cond (eqb (declaration t h .origin) 0) (getD values (getD (passed a) (h - routine t q .handle) 0) 0) (declaration t h .start))
       local-case o =

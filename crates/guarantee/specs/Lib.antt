@@ -4,3 +4,6 @@ pub mod Shrink
 pub mod Frames
 pub mod Threads
 pub mod Operations
+pub mod Runs
+pub mod Theorem
+pub mod Engine

@@ -73,11 +73,12 @@ module _ {t : Table} (accepted : Accepted t) (copies : Copies t) (f : Families) 
       → AllWait copies f locks n (m .copy) ms → ((o k : ℕ) → (o ≡ n → ⊥) → Has copies f (state .locks) o k → Has copies f locks o k)
       → Kept copies f state
       (moved (with-thread state n b (newest copies f (record { copy = m .copy; place = s; values = values }) ∷ older copies f ms) cells locks))
-  in-frame s values b cells locks σ eq g all valued holds wait others =
-      (replaced marks n (record { copy = m .copy; place = s; values = values } ∷ ms),
-      thread-changed copies f rules state marks inv n there b _ cells locks (record { copy = m .copy; place = s; values = values } ∷ ms) refl all
-      (record { here = goes-place accepted copies (top .here) σ eq g; valued = valued; holds = holds }, wait) others
-      (λ w x p. before w x (stays-within s values σ eq g w x p)))
+  in-frame s values b cells locks σ eq g all valued holds wait others = (
+    replaced marks n (record { copy = m .copy; place = s; values = values } ∷ ms),
+    thread-changed copies f rules state marks inv n there b _ cells locks (record { copy = m .copy; place = s; values = values } ∷ ms) refl all
+        (record { here = goes-place accepted copies (top .here) σ eq g; valued = valued; holds = holds }, wait) others
+        (λ w x p. before w x (stays-within s values σ eq g w x p)),
+  )
 
   -- an operation that keeps the values, the locks and the held set
   onward : (s : ℕ) (b : ℤ) (cells : List ℤ) (σ : Statement) → statement t (m .place) ≡ σ → Goes (m .place) σ s
@@ -104,18 +105,25 @@ module _ {t : Table} (accepted : Accepted t) (copies : Copies t) (f : Families) 
     where
       x : ℕ
       x = getD (m .values) (h .number) 0
+
       locks : List Holder
       locks = set (state .locks) x (Machine.held n)
+
       operand : OwnOfKind t (copies .of (m .copy)) 2 (h .number)
       operand = operands (Take h) eq
+
       fits : Fits copies f (m .copy) (h .number) x
       fits = top .valued (h .number) (operand .own)
+
       in-range : x < length (state .locks)
       in-range = rw (inv .all-locks) (fits .lock (operand .kind))
+
       mine : (k : ℕ) → Has copies f (state .locks) n k → Has copies f locks n k
       mine k has = set-case (λ w. w ≡ Machine.held n) (state .locks) x k (Machine.held n) free (λ at. refl) has
+
       new : (k : ℕ) → x ≡ k → Has copies f locks n k
       new k at = subst (λ (j : ℕ). Has copies f locks n j) at (getD-set-same (state .locks) x (Machine.held n) free in-range)
+
       others : (o k : ℕ) → (o ≡ n → ⊥) → Has copies f (state .locks) o k → Has copies f locks o k
       others o k other has =
           set-case (λ w. w ≡ Machine.held o) (state .locks) x k (Machine.held n) free
@@ -136,14 +144,19 @@ module _ {t : Table} (accepted : Accepted t) (copies : Copies t) (f : Families) 
     where
       x : ℕ
       x = getD (m .values) (h .number) 0
+
       locks : List Holder
       locks = set (state .locks) x free
+
       operand : OwnOfKind t (copies .of (m .copy)) 2 (h .number)
       operand = operands (Give h) eq
+
       fits : Fits copies f (m .copy) (h .number) x
       fits = top .valued (h .number) (operand .own)
+
       gives : f .gives (m .copy) x
       gives = rules .gives-rules .by-give (m .copy) (m .place) x h (top .here) eq (fits .flows)
+
       kept : (o k : ℕ) → (k ≡ x → ⊥) → Has copies f (state .locks) o k → Has copies f locks o k
       kept o k other has = set-case (λ w. w ≡ Machine.held o) (state .locks) x k free free (λ at. absurd (other at)) has
 
@@ -207,35 +220,43 @@ module _ {t : Table} (accepted : Accepted t) (copies : Copies t) (f : Families) 
       → Kept copies f state
       (moved (with-thread state n a (opened t q (m .values) arguments ∷ waiting copies f m ∷ older copies f ms) (state .cells) (state .locks)))
   unfolding callee
-  called q arguments eq =
-      (replaced marks n (new ∷ m ∷ ms),
-      thread-changed copies f rules state marks inv n there a _ (state .cells) (state .locks) (new ∷ m ∷ ms)
-      (ap (λ (g : Frame). g ∷ waiting copies f m ∷ older copies f ms) (callee-frame σ eq q arguments refl passes passing)) (inv .all-locks)
-      (record {
-        here = callee-place σ eq q arguments refl passes passing;
-        valued = callee-valued σ eq q arguments refl passes passing;
-        holds = λ k held. top .holds k (rules .held-rules .by-call (m .copy) (m .place) k q arguments (top .here) eq held);
-      },
-      (record {
-        named = q;
-        arguments = arguments;
-        here = top .here;
-        calls = eq;
-        leads = refl;
-        valued = top .valued;
-        holds = λ k held kept. top .holds k held;
-      },
-      below))
-      (λ o k other has. has) (λ w x p. before w x (within w x p)))
+  called q arguments eq = (
+    replaced marks n (new ∷ m ∷ ms),
+    thread-changed copies f rules state marks inv n there a _ (state .cells) (state .locks) (new ∷ m ∷ ms)
+        (ap (λ (g : Frame). g ∷ waiting copies f m ∷ older copies f ms) (callee-frame σ eq q arguments refl passes passing)) (inv .all-locks) (
+          record {
+            here = callee-place σ eq q arguments refl passes passing;
+            valued = callee-valued σ eq q arguments refl passes passing;
+            holds = λ k held. top .holds k (rules .held-rules .by-call (m .copy) (m .place) k q arguments (top .here) eq held);
+          },
+          (
+            record {
+              named = q;
+              arguments = arguments;
+              here = top .here;
+              calls = eq;
+              leads = refl;
+              valued = top .valued;
+              holds = λ k held kept. top .holds k held;
+            },
+            below,
+          ),
+        )
+        (λ o k other has. has) (λ w x p. before w x (within w x p)),
+  )
     where
       σ : Statement
       σ = Call q arguments
+
       passes : Passes t (copies .of (m .copy)) q arguments
       passes = operands σ eq
+
       passing : Passing copies (f .flow) (m .copy) (m .place) q arguments
       passing = rules .flow-rules .statement-rule (m .copy) (m .place) (top .here) σ eq
+
       new : Mark
       new = callee σ eq q arguments refl passes passing
+
       within : (w : Bool) (x : ℕ) → Potential copies f (new ∷ m ∷ ms) w x → Potential copies f (m ∷ ms) w x
       within w x (inl ahead) =
           inl (inl (rw eq (ahead-in-effect accepted copies f rules (callee-place σ eq q arguments refl passes passing) ahead)))
@@ -248,22 +269,27 @@ module _ {t : Table} (accepted : Accepted t) (copies : Copies t) (f : Families) 
       go : (cs : List Mark) → AllWait copies f (state .locks) n (m .copy) cs
           → ((w : Bool) (x : ℕ) → Left copies f cs w x → Potential copies f (marks n) w x)
           → Kept copies f state (moved (with-thread state n a (older copies f cs) (state .cells) (state .locks)))
-      go [] wait less =
-          (replaced marks n [],
-          thread-changed copies f rules state marks inv n there a [] (state .cells) (state .locks) [] refl (inv .all-locks) tt (λ o k other has. has)
-          (λ w x p. absurd p))
-      go (c ∷ cs) (wait, under) less =
-          (replaced marks n (back ∷ cs),
-          thread-changed copies f rules state marks inv n there a _ (state .cells) (state .locks) (back ∷ cs) refl (inv .all-locks)
-          (record { here = back-place; valued = wait .valued; holds = holds }, under) (λ o k other has. has)
-          (λ w x p. less w x (⊎-elim (λ ahead. inl (ahead-follows accepted copies f rules back-place goes ahead)) (λ left. inr left) p)))
+      go [] wait less = (
+        replaced marks n [],
+        thread-changed copies f rules state marks inv n there a [] (state .cells) (state .locks) [] refl (inv .all-locks) tt (λ o k other has. has)
+            (λ w x p. absurd p),
+      )
+      go (c ∷ cs) (wait, under) less = (
+        replaced marks n (back ∷ cs),
+        thread-changed copies f rules state marks inv n there a _ (state .cells) (state .locks) (back ∷ cs) refl (inv .all-locks)
+            (record { here = back-place; valued = wait .valued; holds = holds }, under) (λ o k other has. has)
+            (λ w x p. less w x (⊎-elim (λ ahead. inl (ahead-follows accepted copies f rules back-place goes ahead)) (λ left. inr left) p)),
+      )
         where
           back : Mark
           back = record { copy = c .copy; place = c .place + 1; values = c .values }
+
           back-place : Place copies (c .copy) (c .place + 1)
           back-place = goes-place accepted copies (wait .here) (Call (wait .named) (wait .arguments)) (wait .calls) refl
+
           goes : Goes (c .place) (statement t (c .place)) (c .place + 1)
           goes = subst (λ (τ : Statement). Goes (c .place) τ (c .place + 1)) (sym (wait .calls)) refl
+
           holds : (k : ℕ) → f .held (c .copy) (c .place + 1) k → Has copies f (state .locks) n k
           holds k held =
               ⊎-elim
@@ -276,44 +302,56 @@ module _ {t : Table} (accepted : Accepted t) (copies : Copies t) (f : Families) 
   started : (q : ℕ) (arguments : Arguments) → statement t (m .place) ≡ Start q arguments
       → Kept copies f state (operate t state n a (newest copies f m) (older copies f ms) (Start q arguments))
   unfolding callee operate onward in-frame
-  started q arguments eq =
-      (replaced (replaced marks n (on ∷ ms)) _ (new ∷ []),
-      thread-added copies f rules _ (replaced marks n (on ∷ ms)) (onward (m .place + 1) a (state .cells) σ eq refl (λ k held. held) .1) (pos 0) _ (new ∷ [])
-      (ap (λ (g : Frame). g ∷ []) (callee-frame σ eq q arguments refl passes passing))
-      (record {
-        here = new-place;
-        valued = callee-valued σ eq q arguments refl passes passing;
-        holds = λ k held. absurd (rules .held-rules .by-start (m .copy) (m .place) k q arguments (top .here) eq held);
-      },
-      tt) parted)
+  started q arguments eq = (
+    replaced (replaced marks n (on ∷ ms)) _ (new ∷ []),
+    thread-added copies f rules _ (replaced marks n (on ∷ ms)) (onward (m .place + 1) a (state .cells) σ eq refl (λ k held. held) .1) (pos 0) _ (new ∷ [])
+        (ap (λ (g : Frame). g ∷ []) (callee-frame σ eq q arguments refl passes passing)) (
+          record {
+            here = new-place;
+            valued = callee-valued σ eq q arguments refl passes passing;
+            holds = λ k held. absurd (rules .held-rules .by-start (m .copy) (m .place) k q arguments (top .here) eq held);
+          },
+          tt,
+        ) parted,
+  )
     where
       σ : Statement
       σ = Start q arguments
+
       passes : Passes t (copies .of (m .copy)) q arguments
       passes = operands σ eq
+
       passing : Passing copies (f .flow) (m .copy) (m .place) q arguments
       passing = rules .flow-rules .statement-rule (m .copy) (m .place) (top .here) σ eq
+
       new : Mark
       new = callee σ eq q arguments refl passes passing
+
       new-place : Place copies (new .copy) (new .place)
       new-place = callee-place σ eq q arguments refl passes passing
+
       -- the starter, one statement on
       on : Mark
       on = record { copy = m .copy; place = m .place + 1; values = m .values }
+
       on-place : Place copies (m .copy) (m .place + 1)
       on-place = goes-place accepted copies (top .here) σ eq refl
+
       -- the new thread touches what the started copy does
       in-effect : (w : Bool) (x : ℕ) → Potential copies f (new ∷ []) w x → f .effect (new .copy) w x
       in-effect w x (inl ahead) = ahead-in-effect accepted copies f rules new-place ahead
       in-effect w x (inr left) = absurd left
+
       -- the starter touches what lies in the START's future
       in-future : (w : Bool) (x : ℕ) → Potential copies f (on ∷ ms) w x → f .future (m .copy) (m .place) w x
       in-future w x (inl ahead) =
           inside-in-future accepted copies f rules (top .here) (ahead-follows accepted copies f rules on-place (goes-as σ eq (m .place + 1) refl) ahead)
       in-future w x (inr left) = left-in-future accepted copies f rules (state .locks) n (m .copy) (m .place) ms w x (top .here) below left
+
       -- what the new thread touches, the starter's START did
       from-starter : (w : Bool) (x : ℕ) → Potential copies f (new ∷ []) w x → Potential copies f (marks n) w x
       from-starter w x p = before w x (inl (inl (rw eq (in-effect w x p))))
+
       parted : (o x : ℕ) → Clash (Potential copies f (new ∷ [])) (Potential copies f (replaced marks n (on ∷ ms) o)) x → f .shared x
       parted o x =
           replaced-all (λ o s. Clash (Potential copies f (new ∷ [])) (Potential copies f s) x → f .shared x) marks n (on ∷ ms)

@@ -36,6 +36,7 @@ module _ {t : Table} (accepted : Accepted t) (copies : Copies t) where
     where
       there : copies .of c < lib.ListN.length (t .routines)
       there = copies .of-there c (p .there)
+
       go : (σ : Statement) → GoesOn t (copies .of c) s σ → Operands t (copies .of c) σ → Goes s σ s′ → Place copies c s′
       go (Read h) on ops g = moved-to p g on
       go (Write h) on ops g = moved-to p g on

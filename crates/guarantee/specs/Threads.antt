@@ -27,16 +27,19 @@ module _ {t : Table} (copies : Copies t) (f : Families) (rules : Rules copies f)
         all-locks = all;
         shape = replaced-all (λ m s. getD (set (state .threads) n new) m ended .frames ≡ frames copies f s) marks n ms this-shape other-shape;
         good = replaced-all (λ m s. Good copies f locks m s) marks n ms good
-        (λ m other. good-still copies f rules (state .locks) locks m (marks m) (λ k. others m k other) (inv .good m));
+            (λ m other. good-still copies f rules (state .locks) locks m (marks m) (λ k. others m k other) (inv .good m));
         apart = λ m k x other clash. inv .apart m k x other (clash-wider (λ w. within m w x) (λ w. within k w x) clash);
       }
     where
       new : Thread
       new = record { accumulator = b; frames = fs }
+
       this-shape : getD (set (state .threads) n new) n ended .frames ≡ frames copies f ms
       this-shape = rw (getD-set-same (state .threads) n new ended there) shape
+
       other-shape : (m : ℕ) → (m ≡ n → ⊥) → getD (set (state .threads) n new) m ended .frames ≡ frames copies f (marks m)
       other-shape m other = rw (getD-set-other (state .threads) n m new ended other) (inv .shape m)
+
       within : (m : ℕ) (w : Bool) (x : ℕ) → Potential copies f (replaced marks n ms m) w x → Potential copies f (marks m) w x
       within m w x =
           replaced-all (λ m s. Potential copies f s w x → Potential copies f (marks m) w x) marks n ms (less w x) (λ m other p. p) m
@@ -54,21 +57,26 @@ module _ {t : Table} (copies : Copies t) (f : Families) (rules : Rules copies f)
         shape = replaced-all (λ m s. getD (state .threads ++ new ∷ []) m ended .frames ≡ frames copies f s) marks n ms this-shape other-shape;
         good = replaced-all (λ m s. Good copies f (state .locks) m s) marks n ms good (λ m other. inv .good m);
         apart = λ m k x. replaced-all (λ m s. (m ≡ k → ⊥) → Clash (Potential copies f s) (Potential copies f (replaced marks n ms k)) x → f .shared x)
-        marks n ms (new-old k x) (λ m other. old-any m k x) m;
+            marks n ms (new-old k x) (λ m other. old-any m k x) m;
       }
     where
       n : ℕ
       n = length (state .threads)
+
       new : Thread
       new = record { accumulator = b; frames = fs }
+
       this-shape : getD (state .threads ++ new ∷ []) n ended .frames ≡ frames copies f ms
       this-shape = rw (getD-append-seam (state .threads) new [] ended) shape
+
       other-shape : (m : ℕ) → (m ≡ n → ⊥) → getD (state .threads ++ new ∷ []) m ended .frames ≡ frames copies f (marks m)
       other-shape m other = rw (getD-snoc-other (state .threads) new ended m other) (inv .shape m)
+
       new-old : (k x : ℕ) → (n ≡ k → ⊥) → Clash (Potential copies f ms) (Potential copies f (replaced marks n ms k)) x → f .shared x
       new-old k x =
           replaced-all (λ k s. (n ≡ k → ⊥) → Clash (Potential copies f ms) (Potential copies f s) x → f .shared x) marks n ms
           (λ other clash. absurd (other refl)) (λ k differs other clash. parted k x clash) k
+
       old-any : (m k x : ℕ) → (m ≡ k → ⊥) → Clash (Potential copies f (marks m)) (Potential copies f (replaced marks n ms k)) x → f .shared x
       old-any m k x =
           replaced-all (λ k s. (m ≡ k → ⊥) → Clash (Potential copies f (marks m)) (Potential copies f s) x → f .shared x) marks n ms
