@@ -3,3 +3,5 @@ pub mod Step
 pub mod Words
 pub mod Engine
 pub mod Notebook
+pub mod Laws
+pub mod EngineLaws
