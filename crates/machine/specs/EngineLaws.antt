@@ -26,6 +26,7 @@ engine-runs-as-machine t state (n ∷ ns) =
   where
     over : ℕ
     over = limitOf t (length (state .threads)) (thread state n .frames)
+
     go : (b : Bool) (rest : State → List ℕ)
         → let new = after state (cond b (step t state n) (refused over)) in
         run t new (rest new) ≡ run t state (cond b (n ∷ rest new) (rest new))
