@@ -1,21 +1,19 @@
 -- The parts of the invariant that one frame or one stack has: they survive a change of the locks, and a new frame has them. Assumes nothing.
 use Prim.Native.Nat.{ℕ, _+_, _-_, _<_, _≤_}
 use native.Mathlib.Omega.{arith}
-use mathlib.Core.Path.{_≡_, refl, sym, ap, _∙_, subst}
+use mathlib.Core.Path.{_≡_, refl, sym, _∙_, subst}
 use mathlib.Core.Bool.{Bool, true, false, cond}
 use mathlib.Core.List.{List, [], _∷_}
-use mathlib.Core.Logic.{_⊎_, inl, inr, ⊎-elim}
+use mathlib.Core.Logic.{⊎-elim}
 use lib.Dec.{eqb, T, eqb-refl}
 use lib.ListN.{getD, length, set}
-use Rattle.table.specs.Table.{Table, declaration, routine, statement, passed, tabulate, InRoutine, OwnHandle}
-use Rattle.table.specs.Accepted.{Accepted, Operands, Passes, OwnOfKind}
+use Rattle.table.specs.Table.{Table, declaration, routine, passed, OwnHandle}
+use Rattle.table.specs.Accepted.{Accepted, Passes}
 use Rattle.table.specs.declared.Arguments.{Arguments}
-use Rattle.table.specs.declared.Statement.{Statement}
-use Rattle.table.specs.declared.Statement.the-variants.{Call}
-use Rattle.machine.specs.State.{Holder, free, entered, opened}
-use Rattle.report.specs.Rules.{Copies, Place, Families, Rules, Passing}
+use Rattle.machine.specs.State.{Holder, entered, opened}
+use Rattle.report.specs.Rules.{Copies, Families, Rules, Passing}
 use Rattle.guarantee.specs.Lists.{set-case, tabulate-at}
-use Rattle.guarantee.specs.Invariant.{Mark, Fits, Valued, Has, Stands, Waits, AllWait, Good}
+use Rattle.guarantee.specs.Invariant.{Mark, Fits, Valued, Has, AllWait, Good}
 
 module _ {t : Table} (copies : Copies t) (f : Families) (rules : Rules copies f) where
   -- older frames survive when only locks are lost that the frame above may give up

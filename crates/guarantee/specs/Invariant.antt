@@ -6,9 +6,8 @@ use mathlib.Core.Bool.{Bool}
 use mathlib.Core.List.{List, [], _∷_}
 use mathlib.Core.Logic.{_⊎_}
 use lib.ListN.{getD, length}
-use Rattle.table.specs.Table.{Table, declaration, routine, statement, InRoutine, OwnHandle}
+use Rattle.table.specs.Table.{Table, declaration, routine, statement, OwnHandle}
 use Rattle.table.specs.declared.Arguments.{Arguments}
-use Rattle.table.specs.declared.Statement.{Statement}
 use Rattle.table.specs.declared.Statement.the-variants.{Call}
 use Rattle.machine.specs.State.{State, Frame, Holder, free, thread}
 use Rattle.machine.specs.State as Machine

@@ -3,26 +3,26 @@ use Prim.Native.Nat.{ℕ, _+_, _<_}
 use native.Mathlib.Omega.{arith}
 use mathlib.Core.Path.{_≡_, refl, sym, ap, _∙_, subst}
 use mathlib.Core.Bool.{Bool, true, false, cond}
-use mathlib.Core.List.{List, [], _∷_, _++_}
-use mathlib.Core.Logic.{_⊎_, inl, inr, ⊎-elim}
+use mathlib.Core.List.{List, [], _∷_}
+use mathlib.Core.Logic.{inl, inr, ⊎-elim}
 use lib.Dec.{eqb}
 use lib.IntN.{ℤ, pos}
 use lib.ListN.{getD, length, set, length-set}
 use lib.Seq.{getD-set-same}
 use borrow.Author.Tests.{eqb-true}
-use Rattle.table.specs.Table.{Table, declaration, routine, statement, passed, OwnHandle}
+use Rattle.table.specs.Table.{Table, routine, statement}
 use Rattle.table.specs.Accepted.{Accepted, Operands, Passes, OwnOfKind, Names}
 use Rattle.table.specs.declared.Arguments.{Arguments}
 use Rattle.table.specs.declared.Handle.{Handle}
 use Rattle.table.specs.declared.Statement.{Statement}
 use Rattle.table.specs.declared.Statement.the-variants.{Read, Write, Set, Add, Take, Give, Point, Call, Start, Jump, JumpZero, Return}
-use Rattle.machine.specs.State.{State, Thread, Frame, Holder, free, thread, holder, opened}
+use Rattle.machine.specs.State.{State, Frame, Holder, free, holder, opened}
 use Rattle.machine.specs.State as Machine
 use Rattle.machine.specs.Step.{Answer, moved, refused, operate, taking, giving, with-thread, after, isZero}
-use Rattle.report.specs.Rules.{Copies, Place, Goes, After, Only, Clash, Families, Rules, Passing}
+use Rattle.report.specs.Rules.{Copies, Place, Goes, After, Clash, Families, Rules, Passing}
 use Rattle.guarantee.specs.Lists.{set-case, replaced, replaced-all}
-use Rattle.guarantee.specs.Invariant.{Mark, newest, waiting, older, frames, Fits, Valued, Has, Stands, Waits, AllWait, Good, Inside, Left, Ahead, Potential, Invariant}
-use Rattle.guarantee.specs.Shrink.{clash-wider, clash-flip, goes-place, first-place, ahead-in-effect, ahead-follows, inside-in-future, left-in-future}
+use Rattle.guarantee.specs.Invariant.{Mark, newest, waiting, older, Fits, Valued, Has, Stands, AllWait, Good, Left, Potential, Invariant}
+use Rattle.guarantee.specs.Shrink.{clash-wider, goes-place, first-place, ahead-in-effect, ahead-follows, inside-in-future, left-in-future}
 use Rattle.guarantee.specs.Frames.{wait-still, opened-valued, passed-fits, pointed-valued}
 use Rattle.guarantee.specs.Threads.{thread-changed, thread-added}
 

@@ -5,16 +5,16 @@ use mathlib.Core.Bool.{Bool, true, false, cond}
 use mathlib.Core.List.{List, [], _∷_}
 use lib.Dec.{ltb}
 use lib.IntN.{ℤ, pos}
-use lib.ListN.{getD, length, replicate, length-replicate}
+use lib.ListN.{length, replicate, length-replicate}
 use borrow.Author.Tests.{ltb-true}
 use native.Mathlib.Omega.{arith}
 use Rattle.table.specs.Table.{Table, routine, statement}
 use Rattle.table.specs.Accepted.{Accepted}
 use Rattle.table.specs.declared.Arguments.{Arguments}
 use Rattle.machine.specs.State.{State, Frame, Holder, free, thread, opened, start}
-use Rattle.machine.specs.Step.{Answer, moved, refused, operate, stepped, step, after, run}
+use Rattle.machine.specs.Step.{refused, stepped, step, after, run}
 use Rattle.report.specs.Rules.{Copies, Families, Rules}
-use Rattle.guarantee.specs.Invariant.{Mark, newest, older, frames, Stands, Invariant}
+use Rattle.guarantee.specs.Invariant.{Mark, newest, frames, Stands, Invariant}
 use Rattle.guarantee.specs.Shrink.{first-place}
 use Rattle.guarantee.specs.Frames.{opened-valued}
 use Rattle.guarantee.specs.Threads.{thread-added}

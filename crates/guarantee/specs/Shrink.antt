@@ -4,15 +4,14 @@ use native.Mathlib.Omega.{arith}
 use mathlib.Core.Path.{_≡_, refl, sym, subst}
 use mathlib.Core.Bool.{Bool}
 use mathlib.Core.List.{List, [], _∷_}
-use mathlib.Core.Logic.{_⊎_, inl, inr, ⊎-elim, ⊎-swap}
+use mathlib.Core.Logic.{inl, inr, ⊎-swap}
 use Rattle.table.specs.Table.{Table, routine, statement, InRoutine}
 use Rattle.table.specs.Accepted.{Accepted, GoesOn, Operands}
-use Rattle.table.specs.declared.Arguments.{Arguments}
 use Rattle.table.specs.declared.Statement.{Statement}
 use Rattle.table.specs.declared.Statement.the-variants.{Read, Write, Set, Add, Take, Give, Point, Call, Start, Jump, JumpZero, Return}
 use Rattle.machine.specs.State.{Holder}
 use Rattle.report.specs.Rules.{Copies, Place, Goes, Does, Clash, Families, Rules}
-use Rattle.guarantee.specs.Invariant.{Mark, Inside, next, later, Left, Ahead, Potential, Waits, AllWait}
+use Rattle.guarantee.specs.Invariant.{Mark, Inside, next, later, Left, Ahead, AllWait}
 
 -- ---- clashes
 

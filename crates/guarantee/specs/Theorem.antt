@@ -3,17 +3,16 @@ use Prim.Native.Nat.{ℕ, _<_}
 use mathlib.Core.Path.{_≡_, refl, sym, subst, _∙_}
 use mathlib.Core.Bool.{Bool, true}
 use mathlib.Core.List.{List, [], _∷_}
-use mathlib.Core.Logic.{_⊎_, inl, inr, ⊎-elim}
+use mathlib.Core.Logic.{_⊎_, inl, ⊎-elim}
 use Rattle.table.specs.Table.{Table, statement}
 use Rattle.table.specs.Accepted.{Accepted, Operands}
 use Rattle.table.specs.declared.Statement.{Statement}
 use Rattle.table.specs.declared.Statement.the-variants.{Read, Write, Set, Add, Take, Give, Point, Call, Start, Jump, JumpZero, Return}
-use Rattle.machine.specs.State.{State, Frame, thread, holder, start}
-use Rattle.machine.specs.State as Machine
+use Rattle.machine.specs.State.{State, holder, start}
 use Rattle.machine.specs.Step.{run}
 use Rattle.machine.specs.Words.{AccessIn, ReleaseIn, Next, Access, Release, Holds, Safe}
-use Rattle.report.specs.Rules.{Copies, Place, Accesses, Does, Families, Rules, Clean, Sound}
-use Rattle.guarantee.specs.Invariant.{Mark, newest, frames, Fits, Has, Stands, Good, Potential, Invariant}
+use Rattle.report.specs.Rules.{Copies, Place, Accesses, Does, Families, Rules, Clean}
+use Rattle.guarantee.specs.Invariant.{Mark, newest, frames, Fits, Stands, Good, Potential, Invariant}
 use Rattle.guarantee.specs.Operations.{one-holder}
 use Rattle.guarantee.specs.Runs.{run-keeps, start-keeps}
 

@@ -1,13 +1,13 @@
 -- The invariant is kept where one thread changes and where a thread is added. Assumes nothing.
-use Prim.Native.Nat.{ℕ, _+_, _<_}
-use mathlib.Core.Path.{_≡_, refl, sym, ap, _∙_, subst}
+use Prim.Native.Nat.{ℕ, _<_}
+use mathlib.Core.Path.{_≡_, refl}
 use mathlib.Core.Bool.{Bool}
 use mathlib.Core.List.{List, [], _∷_, _++_}
 use lib.IntN.{ℤ}
 use lib.ListN.{getD, length, set}
 use lib.Seq.{getD-set-same, getD-set-other, getD-append-seam}
 use Rattle.table.specs.Table.{Table}
-use Rattle.machine.specs.State.{State, Thread, Frame, Holder, ended, thread}
+use Rattle.machine.specs.State.{State, Thread, Frame, Holder, ended}
 use Rattle.machine.specs.Step.{with-thread}
 use Rattle.report.specs.Rules.{Copies, Clash, Families, Rules}
 use Rattle.guarantee.specs.Lists.{getD-snoc-other, replaced, replaced-all}

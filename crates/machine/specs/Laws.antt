@@ -2,18 +2,18 @@
 use Prim.Native.Nat.{ℕ, _+_, _≤_}
 use mathlib.Core.Path.{_≡_, refl}
 use mathlib.Core.Bool.{Bool, true, false, cond}
-use mathlib.Core.List.{List, [], _∷_}
+use mathlib.Core.List.{List, []}
 use lib.Dec.{ltb, eqb}
 use lib.IntN.{ℤ}
 use lib.ListN.{length, length-append, length-set}
 use borrow.Author.Tests.{ltb-true, eqb-true}
 use native.Mathlib.Omega.{arith}
-use Rattle.table.specs.Table.{Table, statement}
+use Rattle.table.specs.Table.{Table}
 use Rattle.table.specs.declared.Arguments.{Arguments}
 use Rattle.table.specs.declared.Handle.{Handle}
 use Rattle.table.specs.declared.Statement.the-variants.{Take, Give, Start, Return}
-use Rattle.machine.specs.State.{State, Frame, Holder, free, held, thread, holder, refers}
-use Rattle.machine.specs.Step.{Answer, moved, refused, operate, stepped, step, after}
+use Rattle.machine.specs.State.{State, Frame, free, held, thread, holder, refers}
+use Rattle.machine.specs.Step.{refused, operate, stepped, step, after}
 
 -- 14: a thread number that is not started is refused
 pub not-started-refused : (t : Table) (state : State) (n : ℕ) → length (state .threads) ≤ n → step t state n ≡ refused 14

@@ -5,3 +5,4 @@ pub mod Engine
 pub mod Notebook
 pub mod Laws
 pub mod EngineLaws
+pub mod Vectors

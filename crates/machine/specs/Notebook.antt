@@ -5,13 +5,13 @@ use mathlib.Core.Bool.{true, false}
 use mathlib.Core.List.{List, [], _∷_}
 use mathlib.Core.Logic.{inl}
 use native.Mathlib.Omega.{arith}
-use lib.IntN.{ℤ, pos, negsuc, _+ℤ_}
+use lib.IntN.{ℤ, pos, negsuc}
 use Rattle.table.specs.Table.{Table, tabulate}
 use Rattle.table.specs.declared.Arguments.{Arguments}
 use Rattle.table.specs.declared.Statement.{Statement}
-use Rattle.table.specs.declared.Statement.the-variants.{Read, Write, Set, Add, Take, Start, JumpZero, Return}
-use Rattle.machine.specs.State.{State, Frame, thread, start, opened, entered, free, held}
-use Rattle.machine.specs.Step.{Answer, moved, refused, wrap, step, after, run}
+use Rattle.table.specs.declared.Statement.the-variants.{Read, Write, Add, Take, Start, JumpZero, Return}
+use Rattle.machine.specs.State.{State, Frame, thread, start, opened, entered, free}
+use Rattle.machine.specs.Step.{refused, wrap, step, after, run}
 use Rattle.machine.specs.Words.{Safe}
 
 -- ---- one thread in one routine of the statements given, at the first of them

@@ -9,7 +9,7 @@ use lib.Signed.{ltZ}
 use Rattle.table.specs.Table.{Table, statement}
 use Rattle.table.specs.declared.Statement.{Statement}
 use Rattle.table.specs.declared.Statement.the-variants.{Read, Write, Set, Add, Take, Give, Point, Call, Start, Jump, JumpZero, Return}
-use Rattle.machine.specs.State.{State, Thread, Frame, Holder, free, held, ended, thread, holder, refers, opened}
+use Rattle.machine.specs.State.{State, Frame, Holder, free, held, thread, holder, refers, opened}
 
 -- what a step answers: the state after it, or the number of a refusal
 pub data Answer : Type 0 where

@@ -7,7 +7,7 @@ use mathlib.Core.Logic.{_⊎_}
 use Rattle.table.specs.Table.{Table, statement}
 use Rattle.table.specs.declared.Statement.{Statement}
 use Rattle.table.specs.declared.Statement.the-variants.{Read, Write, Set, Add, Take, Give, Point, Call, Start, Jump, JumpZero, Return}
-use Rattle.machine.specs.State.{State, Frame, Holder, held, thread, holder, refers}
+use Rattle.machine.specs.State.{State, Frame, held, thread, holder, refers}
 
 -- "An access to a cell is a READ or WRITE whose handle refers to that cell in that frame; a WRITE is a write": the statement, in frame f, is an access to
 -- cell x, a write if `writes` is true

@@ -1,14 +1,14 @@
 -- What the rules say where document 01 names a trap: a law each. Assumes nothing.
 use Prim.Native.Nat.{ℕ, _+_}
 use mathlib.Core.Path.{_≡_, refl, sym, subst, _∙_}
-use mathlib.Core.Bool.{Bool, true, false}
-use mathlib.Core.Logic.{_⊎_, inl, inr, ⊎-elim}
+use mathlib.Core.Bool.{Bool, true}
+use mathlib.Core.Logic.{⊎-elim}
 use Rattle.table.specs.Table.{Table, routine, statement}
 use Rattle.table.specs.declared.Arguments.{Arguments}
 use Rattle.table.specs.declared.Handle.{Handle}
 use Rattle.table.specs.declared.Statement.{Statement}
-use Rattle.table.specs.declared.Statement.the-variants.{Read, Write, Take, Give, Call, Start}
-use Rattle.report.specs.Rules.{Copies, Place, Goes, Only, AtReturns, Does, Clash, Families, Rules, Sound}
+use Rattle.table.specs.declared.Statement.the-variants.{Take, Give, Call, Start}
+use Rattle.report.specs.Rules.{Copies, Place, Goes, AtReturns, Does, Clash, Families, Rules}
 
 module _ {t : Table} (copies : Copies t) (f : Families) (rules : Rules copies f) where
   -- "taking any possible lock of a handle as held": a TAKE whose handle may be two locks adds none
