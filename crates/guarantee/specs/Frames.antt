@@ -1,11 +1,12 @@
 -- The parts of the invariant that one frame or one stack has: they survive a change of the locks, and a new frame has them. Assumes nothing.
 use Prim.Native.Nat.{ℕ, _+_, _-_, _<_, _≤_}
 use native.Mathlib.Omega.{arith}
-use mathlib.Core.Path.{_≡_, refl, sym, _∙_, subst}
-use mathlib.Core.Bool.{Bool, true, false, cond}
+use mathlib.Core.Path.{_≡_, sym, _∙_, subst}
+use mathlib.Core.Bool.{cond}
 use mathlib.Core.List.{List, [], _∷_}
 use mathlib.Core.Logic.{⊎-elim}
-use lib.Dec.{eqb, T, eqb-refl}
+use lib.Dec.{eqb}
+use borrow.Author.Tests.{eq-eqb}
 use lib.ListN.{getD, length, set}
 use Rattle.table.specs.Table.{Table, declaration, routine, passed, OwnHandle}
 use Rattle.table.specs.Accepted.{Accepted, Passes}
@@ -49,13 +50,6 @@ module _ {t : Table} (copies : Copies t) (f : Families) (rules : Rules copies f)
 
 -- ---- the values of a new frame
 
-eqb-yes : (a b : ℕ) → a ≡ b → eqb a b ≡ true
-eqb-yes a b e = go (eqb a b) (subst (λ (k : ℕ). T (eqb a k)) e (eqb-refl a))
-  where
-    go : (b : Bool) → T b → b ≡ true
-    go true h = refl
-    go false h = absurd h
-
 module _ {t : Table} (accepted : Accepted t) (copies : Copies t) (f : Families) (rules : Rules copies f) where
   -- a new frame of copy d, whose parameters get what they may refer to
   pub opened-valued : (d q : ℕ) (values : List ℕ) (a : Arguments) → d < copies .count → copies .of d ≡ q
@@ -63,7 +57,7 @@ module _ {t : Table} (accepted : Accepted t) (copies : Copies t) (f : Families) 
       → Valued copies f d (opened t q values a .values)
   unfolding opened entered
   opened-valued d q values a there e params h own =
-      rw (tabulate-at (entered t q values a) 0 (length (t .handles)) h (own .there), entered, eqb-yes (declaration t h .routine) q (own .own ∙ e))
+      rw (tabulate-at (entered t q values a) 0 (length (t .handles)) h (own .there), entered, eq-eqb (declaration t h .routine) q (own .own ∙ e))
       (⊎-elim parameter-case local-case (facts .origin-known))
     where
       facts : Rattle.table.specs.Accepted.HandleFacts t h

@@ -16,10 +16,11 @@ pub data Answer : Type 0 where
   moved : State → Answer
   refused : ℕ → Answer
 
--- "added, wrapping as 32-bit two's complement"
+-- the 32-bit two's complement number that a sum wraps to, for a sum of two such numbers
 unfoldable pub wrap : ℤ → ℤ
 wrap z = cond (ltZ (pos 2147483647) z) (z +ℤ negsuc 4294967295) (cond (ltZ z (negsuc 2147483647)) (z +ℤ pos 4294967296) z)
 
+-- "the accumulator is zero"
 abbrev pub isZero : ℤ → Bool
 isZero (pos k) = eqb k 0
 isZero (negsuc k) = false
@@ -58,16 +59,25 @@ module _ (t : Table) (state : State) (n : ℕ) (a : ℤ) (f : Frame) (older : Li
   goes-to s = with-thread state n a (going f s ∷ older) (state .cells) (state .locks)
 
   unfoldable pub operate : Statement → Answer
+  -- READ: "accumulator becomes the cell's value"
   operate (Read h) = moved (goes-on (getD (state .cells) (refers f (h .number)) (pos 0)) (state .cells) (state .locks))
+  -- WRITE: "cell becomes the accumulator"
   operate (Write h) = moved (goes-on a (set (state .cells) (refers f (h .number)) a) (state .locks))
+  -- SET: "accumulator becomes it"
   operate (Set number) = moved (goes-on number (state .cells) (state .locks))
+  -- ADD: "added, wrapping as 32-bit two's complement"
   operate (Add number) = moved (goes-on (wrap (a +ℤ number)) (state .cells) (state .locks))
+  -- TAKE: "the free lock becomes this thread's"
   operate (Take h) = taking (holder state (refers f (h .number))) (goes-on a (state .cells) (set (state .locks) (refers f (h .number)) (held n)))
+  -- GIVE: "this thread's lock becomes free"
   operate (Give h) = giving (holder state (refers f (h .number))) n (goes-on a (state .cells) (set (state .locks) (refers f (h .number)) free))
+  -- POINT: "h refers to what g refers to"
   operate (Point h g) =
       moved (with-thread state n a (pointing (going f (f .next + 1)) (h .number) (refers f (g .number)) ∷ older) (state .cells) (state .locks))
+  -- CALL: "opens a frame"; "a call keeps the accumulator"
   operate (Call r arguments) =
       moved (with-thread state n a (opened t r (f .values) arguments ∷ going f (f .next + 1) ∷ older) (state .cells) (state .locks))
+  -- START: "adds a thread"; it "has accumulator 0 and takes the next thread number"
   operate (Start r arguments) =
       moved
       (record {
@@ -75,8 +85,11 @@ module _ (t : Table) (state : State) (n : ℕ) (a : ℤ) (f : Frame) (older : Li
         cells = state .cells;
         locks = state .locks;
       })
+  -- JUMP: "goes there"
   operate (Jump s) = moved (goes-to (s .statement))
+  -- JUMPZ: "goes there if the accumulator is zero, else on"
   operate (JumpZero s) = moved (goes-to (cond (isZero a) (s .statement) (f .next + 1)))
+  -- RETURN: "closes the frame; the last one ends the thread"
   operate Return = moved (with-thread state n a older (state .cells) (state .locks))
 
 -- 15: "The thread has ended"; else the statement of its newest frame
