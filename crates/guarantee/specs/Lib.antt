@@ -1,0 +1,9 @@
+pub mod Lists
+pub mod Invariant
+pub mod Shrink
+pub mod Frames
+pub mod Threads
+pub mod Operations
+pub mod Runs
+pub mod Theorem
+pub mod Engine

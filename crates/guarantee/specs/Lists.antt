@@ -1,0 +1,51 @@
+-- Laws of lists, and of a choice at one number, that the proof of demand 3 uses. Assumes nothing.
+use Prim.Native.Nat.{ℕ, zero, suc, _+_, _<_}
+use mathlib.Core.Path.{_≡_, refl, sym, ap, _∙_, subst}
+use mathlib.Core.Bool.{Bool, true, false, cond}
+use mathlib.Core.List.{List, [], _∷_, _++_}
+use native.Mathlib.Omega.{arith}
+use native.Mathlib.Nat.{add-zero, not-suc-le-zero, le-of-suc-le-suc}
+use lib.Dec.{eqb}
+use lib.ListN.{getD, length, set}
+use borrow.Author.Tests.{eqb-true, eqb-false}
+use Rattle.table.specs.Table.{tabulate, tabulateFrom}
+
+-- what stands at j after `set` is the new element, at its place alone, or what stood there
+pub set-case : {A : Type 0} (P : A → Type 0) (l : List A) (i j : ℕ) (a d : A) → (j ≡ i → P a) → P (getD l j d) → P (getD (set l i a) j d)
+set-case P [] i j a d new old = old
+set-case P (x ∷ l) zero zero a d new old = new refl
+set-case P (x ∷ l) zero (suc j) a d new old = old
+set-case P (x ∷ l) (suc i) zero a d new old = old
+set-case P (x ∷ l) (suc i) (suc j) a d new old = set-case P l i j a d (λ e. new (ap suc e)) old
+
+-- one more element changes nothing at the other places
+pub getD-snoc-other : {A : Type 0} (l : List A) (a d : A) (j : ℕ) → (j ≡ length l → ⊥) → getD (l ++ a ∷ []) j d ≡ getD l j d
+getD-snoc-other [] a d zero other = absurd (other refl)
+getD-snoc-other [] a d (suc j) other = refl
+getD-snoc-other (x ∷ l) a d zero other = refl
+getD-snoc-other (x ∷ l) a d (suc j) other = getD-snoc-other l a d j (λ e. other (ap suc e))
+
+tabulateFrom-at : {A : Type 0} (g : ℕ → A) (d : A) (from n i : ℕ) → i < n → getD (tabulateFrom from n g) i d ≡ g (from + i)
+unfolding tabulateFrom
+tabulateFrom-at g d from zero i h = absurd (not-suc-le-zero h)
+tabulateFrom-at g d from (suc n) zero h = ap g (sym (add-zero from))
+tabulateFrom-at g d from (suc n) (suc i) h =
+    let e : from + 1 + i ≡ from + suc i = omega arith in
+    tabulateFrom-at g d (from + 1) n i (le-of-suc-le-suc h) ∙ ap g e
+
+pub tabulate-at : {A : Type 0} (g : ℕ → A) (d : A) (n i : ℕ) → i < n → getD (tabulate n g) i d ≡ g i
+unfolding tabulate
+tabulate-at g d n i h = let e : 0 + i ≡ i = omega arith in tabulateFrom-at g d 0 n i h ∙ ap g e
+
+-- a family with another member at n
+abbrev pub replaced : {A : Type 0} → (ℕ → A) → ℕ → A → ℕ → A
+replaced g n a m = cond (eqb m n) a (g m)
+
+-- what holds of the new member at n, and of every other at its own number, holds at every number
+pub replaced-all : {A : Type 0} (P : ℕ → A → Type 0) (g : ℕ → A) (n : ℕ) (a : A) → P n a → ((m : ℕ) → (m ≡ n → ⊥) → P m (g m)) → (m : ℕ)
+    → P m (replaced g n a m)
+replaced-all P g n a this others m = go (eqb m n) refl
+  where
+    go : (b : Bool) → eqb m n ≡ b → P m (cond b a (g m))
+    go true e = subst (λ (k : ℕ). P k a) (sym (eqb-true m n e)) this
+    go false e = others m (eqb-false m n e)

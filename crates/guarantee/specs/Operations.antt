@@ -1,0 +1,387 @@
+-- The invariant is kept by each operation. Assumes nothing.
+use Prim.Native.Nat.{ℕ, _+_, _<_}
+use native.Mathlib.Omega.{arith}
+use mathlib.Core.Path.{_≡_, refl, sym, ap, _∙_, subst}
+use mathlib.Core.Bool.{Bool, true, false, cond}
+use mathlib.Core.List.{List, [], _∷_}
+use mathlib.Core.Logic.{inl, inr, ⊎-elim}
+use lib.Dec.{eqb}
+use lib.IntN.{ℤ, pos}
+use lib.ListN.{getD, length, set, length-set}
+use lib.Seq.{getD-set-same}
+use borrow.Author.Tests.{eqb-true}
+use Rattle.table.specs.Table.{Table, routine, statement}
+use Rattle.table.specs.Accepted.{Accepted, Operands, Passes, OwnOfKind, Names}
+use Rattle.table.specs.declared.Arguments.{Arguments}
+use Rattle.table.specs.declared.Handle.{Handle}
+use Rattle.table.specs.declared.Statement.{Statement}
+use Rattle.table.specs.declared.Statement.the-variants.{Read, Write, Set, Add, Take, Give, Point, Call, Start, Jump, JumpZero, Return}
+use Rattle.machine.specs.State.{State, Frame, Holder, free, holder, opened}
+use Rattle.machine.specs.State as Machine
+use Rattle.machine.specs.Step.{Answer, moved, refused, operate, taking, giving, with-thread, after, isZero}
+use Rattle.report.specs.Rules.{Copies, Place, Goes, After, Clash, Families, Rules, Passing}
+use Rattle.guarantee.specs.Lists.{set-case, replaced, replaced-all}
+use Rattle.guarantee.specs.Invariant.{Mark, newest, waiting, older, Fits, Valued, Has, Stands, AllWait, Good, Left, Potential, Invariant}
+use Rattle.guarantee.specs.Shrink.{clash-wider, goes-place, first-place, ahead-in-effect, ahead-follows, inside-in-future, left-in-future}
+use Rattle.guarantee.specs.Frames.{wait-still, opened-valued, passed-fits, pointed-valued}
+use Rattle.guarantee.specs.Threads.{thread-changed, thread-added}
+
+-- the invariant holds after an answer, for some marks
+abbrev pub Kept : {t : Table} (copies : Copies t) (f : Families) → State → Answer → Type 0
+Kept copies f state answer = (marks : ℕ → List Mark) × Invariant copies f (after state answer) marks
+
+-- two holders of one lock are one
+pub one-holder : (h : Holder) (m n : ℕ) → h ≡ Machine.held m → h ≡ Machine.held n → m ≡ n
+one-holder h m n p q = cc
+
+pub held-not-free : (h : Holder) (m : ℕ) → h ≡ Machine.held m → h ≡ free → ⊥
+held-not-free h m p q = let z : _≡_ {A = ℕ} 0 1 = cc in omega arith
+
+module _ {t : Table} (accepted : Accepted t) (copies : Copies t) (f : Families) (rules : Rules copies f) (state : State) (marks : ℕ → List Mark)
+    (inv : Invariant copies f state marks) (n : ℕ) (there : n < length (state .threads)) (a : ℤ) (m : Mark) (ms : List Mark) (e : marks n ≡ m ∷ ms) where
+  good : Good copies f (state .locks) n (m ∷ ms)
+  good = subst (λ (s : List Mark). Good copies f (state .locks) n s) e (inv .good n)
+
+  top : Stands copies f (state .locks) n m
+  top = good .0
+
+  below : AllWait copies f (state .locks) n (m .copy) ms
+  below = good .1
+
+  -- what the operation's statement says of its operands
+  operands : (σ : Statement) → statement t (m .place) ≡ σ → Operands t (copies .of (m .copy)) σ
+  operands σ eq =
+      subst (Operands t (copies .of (m .copy))) eq
+      (accepted .operands _ (m .place) (copies .of-there (m .copy) (top .here .there)) (top .here .inside))
+
+  goes-as : (σ : Statement) → statement t (m .place) ≡ σ → (s : ℕ) → Goes (m .place) σ s → Goes (m .place) (statement t (m .place)) s
+  goes-as σ eq s g = subst (λ (τ : Statement). Goes (m .place) τ s) (sym eq) g
+
+  -- a step inside the newest frame touches nothing new
+  stays-within : (s : ℕ) (values : List ℕ) (σ : Statement) → statement t (m .place) ≡ σ → Goes (m .place) σ s → (w : Bool) (x : ℕ)
+      → Potential copies f (record { copy = m .copy; place = s; values = values } ∷ ms) w x → Potential copies f (m ∷ ms) w x
+  stays-within s values σ eq g w x =
+      ⊎-elim (λ ahead. inl (inr (ahead-follows accepted copies f rules (goes-place accepted copies (top .here) σ eq g) (goes-as σ eq s g) ahead)))
+      (λ left. inr left)
+
+  before : (w : Bool) (x : ℕ) → Potential copies f (m ∷ ms) w x → Potential copies f (marks n) w x
+  before w x = subst (λ (s : List Mark). Potential copies f s w x) (sym e)
+
+  -- the thread goes to statement s of its frame, with the values, cells and locks given
+  in-frame : (s : ℕ) (values : List ℕ) (b : ℤ) (cells : List ℤ) (locks : List Holder) (σ : Statement) → statement t (m .place) ≡ σ → Goes (m .place) σ s
+      → length locks ≡ t .locks → Valued copies f (m .copy) values → ((k : ℕ) → f .held (m .copy) s k → Has copies f locks n k)
+      → AllWait copies f locks n (m .copy) ms → ((o k : ℕ) → (o ≡ n → ⊥) → Has copies f (state .locks) o k → Has copies f locks o k)
+      → Kept copies f state
+      (moved (with-thread state n b (newest copies f (record { copy = m .copy; place = s; values = values }) ∷ older copies f ms) cells locks))
+  in-frame s values b cells locks σ eq g all valued holds wait others = (
+    replaced marks n (record { copy = m .copy; place = s; values = values } ∷ ms),
+    thread-changed copies f rules state marks inv n there b _ cells locks (record { copy = m .copy; place = s; values = values } ∷ ms) refl all
+        (record { here = goes-place accepted copies (top .here) σ eq g; valued = valued; holds = holds }, wait) others
+        (λ w x p. before w x (stays-within s values σ eq g w x p)),
+  )
+
+  -- an operation that keeps the values, the locks and the held set
+  onward : (s : ℕ) (b : ℤ) (cells : List ℤ) (σ : Statement) → statement t (m .place) ≡ σ → Goes (m .place) σ s
+      → ((k : ℕ) → After copies (f .flow) (f .gives) (f .held) (m .copy) (m .place) k σ → f .held (m .copy) (m .place) k)
+      → Kept copies f state
+      (moved (with-thread state n b (newest copies f (record { copy = m .copy; place = s; values = m .values }) ∷ older copies f ms) cells (state .locks)))
+  onward s b cells σ eq g same =
+      in-frame s (m .values) b cells (state .locks) σ eq g (inv .all-locks) (top .valued)
+      (λ k held. top .holds k (same k (rules .held-rules .way (m .copy) (m .place) s k (top .here) σ eq g held))) below (λ o k other has. has)
+
+  -- ---- TAKE and GIVE
+
+  taken : (h : Handle) → statement t (m .place) ≡ Take h → (w : Holder) → holder state (getD (m .values) (h .number) 0) ≡ w
+      → Kept copies f state
+      (taking w
+      (with-thread state n a (newest copies f (record { copy = m .copy; place = m .place + 1; values = m .values }) ∷ older copies f ms) (state .cells)
+      (set (state .locks) (getD (m .values) (h .number) 0) (Machine.held n))))
+  taken h eq (Machine.held o) is = (marks, inv)
+  taken h eq free is =
+      in-frame (m .place + 1) (m .values) a (state .cells) locks (Take h) eq refl (length-set (state .locks) x (Machine.held n) ∙ inv .all-locks) (top .valued)
+      (λ k held. ⊎-elim (λ was. mine k (top .holds k was)) (λ only. new k (only .alone x (fits .flows)))
+      (rules .held-rules .way (m .copy) (m .place) (m .place + 1) k (top .here) (Take h) eq refl held))
+      (wait-still copies f rules (state .locks) locks n (m .copy) ms (λ k kept. mine k) below) others
+    where
+      x : ℕ
+      x = getD (m .values) (h .number) 0
+
+      locks : List Holder
+      locks = set (state .locks) x (Machine.held n)
+
+      operand : OwnOfKind t (copies .of (m .copy)) 2 (h .number)
+      operand = operands (Take h) eq
+
+      fits : Fits copies f (m .copy) (h .number) x
+      fits = top .valued (h .number) (operand .own)
+
+      in-range : x < length (state .locks)
+      in-range = rw (inv .all-locks) (fits .lock (operand .kind))
+
+      mine : (k : ℕ) → Has copies f (state .locks) n k → Has copies f locks n k
+      mine k has = set-case (λ w. w ≡ Machine.held n) (state .locks) x k (Machine.held n) free (λ at. refl) has
+
+      new : (k : ℕ) → x ≡ k → Has copies f locks n k
+      new k at = subst (λ (j : ℕ). Has copies f locks n j) at (getD-set-same (state .locks) x (Machine.held n) free in-range)
+
+      others : (o k : ℕ) → (o ≡ n → ⊥) → Has copies f (state .locks) o k → Has copies f locks o k
+      others o k other has =
+          set-case (λ w. w ≡ Machine.held o) (state .locks) x k (Machine.held n) free
+          (λ at. absurd (held-not-free (holder state x) o (subst (λ (j : ℕ). Has copies f (state .locks) o j) at has) is)) has
+
+  given-now : (h : Handle) → statement t (m .place) ≡ Give h → holder state (getD (m .values) (h .number) 0) ≡ Machine.held n
+      → Kept copies f state
+      (moved
+      (with-thread state n a (newest copies f (record { copy = m .copy; place = m .place + 1; values = m .values }) ∷ older copies f ms) (state .cells)
+      (set (state .locks) (getD (m .values) (h .number) 0) free)))
+  given-now h eq is =
+      in-frame (m .place + 1) (m .values) a (state .cells) locks (Give h) eq refl (length-set (state .locks) x free ∙ inv .all-locks) (top .valued)
+      (λ k held. let was = rules .held-rules .way (m .copy) (m .place) (m .place + 1) k (top .here) (Give h) eq refl held in
+      kept n k (λ at. was .1 (subst (f .flow (m .copy) (h .number)) (sym at) (fits .flows))) (top .holds k (was .0)))
+      (wait-still copies f rules (state .locks) locks n (m .copy) ms
+      (λ k not-given. kept n k (λ at. not-given (subst (f .gives (m .copy)) (sym at) gives))) below)
+      (λ o k other has. kept o k (λ at. other (one-holder (holder state x) o n (subst (λ (j : ℕ). Has copies f (state .locks) o j) at has) is)) has)
+    where
+      x : ℕ
+      x = getD (m .values) (h .number) 0
+
+      locks : List Holder
+      locks = set (state .locks) x free
+
+      operand : OwnOfKind t (copies .of (m .copy)) 2 (h .number)
+      operand = operands (Give h) eq
+
+      fits : Fits copies f (m .copy) (h .number) x
+      fits = top .valued (h .number) (operand .own)
+
+      gives : f .gives (m .copy) x
+      gives = rules .gives-rules .by-give (m .copy) (m .place) x h (top .here) eq (fits .flows)
+
+      kept : (o k : ℕ) → (k ≡ x → ⊥) → Has copies f (state .locks) o k → Has copies f locks o k
+      kept o k other has = set-case (λ w. w ≡ Machine.held o) (state .locks) x k free free (λ at. absurd (other at)) has
+
+  given : (h : Handle) → statement t (m .place) ≡ Give h → (w : Holder) → holder state (getD (m .values) (h .number) 0) ≡ w
+      → Kept copies f state
+      (giving w n
+      (with-thread state n a (newest copies f (record { copy = m .copy; place = m .place + 1; values = m .values }) ∷ older copies f ms) (state .cells)
+      (set (state .locks) (getD (m .values) (h .number) 0) free)))
+  given h eq free is = (marks, inv)
+  given h eq (Machine.held o) is = go (eqb o n) refl
+    where
+      go : (b : Bool) → eqb o n ≡ b
+          → Kept copies f state
+          (cond b
+          (moved
+          (with-thread state n a (newest copies f (record { copy = m .copy; place = m .place + 1; values = m .values }) ∷ older copies f ms) (state .cells)
+          (set (state .locks) (getD (m .values) (h .number) 0) free)))
+          (refused 17))
+      go true same = given-now h eq (is ∙ ap Machine.held (eqb-true o n same))
+      go false same = (marks, inv)
+
+  -- ---- CALL, RETURN and START
+
+  -- the copy that a CALL or START leads to, its first statement, and the frame that is opened there
+  module _ (σ : Statement) (eq : statement t (m .place) ≡ σ) (q : ℕ) (arguments : Arguments) (names : Names σ q)
+      (passes : Passes t (copies .of (m .copy)) q arguments) (passing : Passing copies (f .flow) (m .copy) (m .place) q arguments) where
+    callee : Mark
+    callee =
+        record {
+          copy = copies .leads (m .copy) (m .place);
+          place = routine t q .first;
+          values = opened t q (m .values) arguments .values;
+        }
+
+    named : Names (statement t (m .place)) q
+    named = subst (λ (τ : Statement). Names τ q) (sym eq) names
+
+    callee-there : callee .copy < copies .count
+    unfolding callee
+    callee-there = copies .leads-there (m .copy) (m .place) q (top .here .there) (top .here .inside) named
+
+    callee-of : copies .of (callee .copy) ≡ q
+    unfolding callee
+    callee-of = copies .leads-of (m .copy) (m .place) q (top .here .there) (top .here .inside) named
+
+    callee-place : Place copies (callee .copy) (callee .place)
+    unfolding callee
+    callee-place = first-place accepted copies (callee .copy) q callee-there callee-of
+
+    callee-valued : Valued copies f (callee .copy) (callee .values)
+    unfolding callee
+    callee-valued =
+        opened-valued accepted copies f rules (callee .copy) q (m .values) arguments callee-there callee-of
+        (passed-fits accepted copies f rules (m .values) q arguments passes passing (top .valued))
+
+    callee-frame : opened t q (m .values) arguments ≡ newest copies f callee
+    unfolding callee opened
+    callee-frame = rw callee-of
+
+  called : (q : ℕ) (arguments : Arguments) → statement t (m .place) ≡ Call q arguments
+      → Kept copies f state
+      (moved (with-thread state n a (opened t q (m .values) arguments ∷ waiting copies f m ∷ older copies f ms) (state .cells) (state .locks)))
+  unfolding callee
+  called q arguments eq = (
+    replaced marks n (new ∷ m ∷ ms),
+    thread-changed copies f rules state marks inv n there a _ (state .cells) (state .locks) (new ∷ m ∷ ms)
+        (ap (λ (g : Frame). g ∷ waiting copies f m ∷ older copies f ms) (callee-frame σ eq q arguments refl passes passing)) (inv .all-locks) (
+          record {
+            here = callee-place σ eq q arguments refl passes passing;
+            valued = callee-valued σ eq q arguments refl passes passing;
+            holds = λ k held. top .holds k (rules .held-rules .by-call (m .copy) (m .place) k q arguments (top .here) eq held);
+          },
+          (
+            record {
+              named = q;
+              arguments = arguments;
+              here = top .here;
+              calls = eq;
+              leads = refl;
+              valued = top .valued;
+              holds = λ k held kept. top .holds k held;
+            },
+            below,
+          ),
+        )
+        (λ o k other has. has) (λ w x p. before w x (within w x p)),
+  )
+    where
+      σ : Statement
+      σ = Call q arguments
+
+      passes : Passes t (copies .of (m .copy)) q arguments
+      passes = operands σ eq
+
+      passing : Passing copies (f .flow) (m .copy) (m .place) q arguments
+      passing = rules .flow-rules .statement-rule (m .copy) (m .place) (top .here) σ eq
+
+      new : Mark
+      new = callee σ eq q arguments refl passes passing
+
+      within : (w : Bool) (x : ℕ) → Potential copies f (new ∷ m ∷ ms) w x → Potential copies f (m ∷ ms) w x
+      within w x (inl ahead) =
+          inl (inl (rw eq (ahead-in-effect accepted copies f rules (callee-place σ eq q arguments refl passes passing) ahead)))
+      within w x (inr (inl inside)) = inl (inr inside)
+      within w x (inr (inr left)) = inr left
+
+  returned : statement t (m .place) ≡ Return → Kept copies f state (moved (with-thread state n a (older copies f ms) (state .cells) (state .locks)))
+  returned eq = go ms below (λ w x left. before w x (inr left))
+    where
+      go : (cs : List Mark) → AllWait copies f (state .locks) n (m .copy) cs
+          → ((w : Bool) (x : ℕ) → Left copies f cs w x → Potential copies f (marks n) w x)
+          → Kept copies f state (moved (with-thread state n a (older copies f cs) (state .cells) (state .locks)))
+      go [] wait less = (
+        replaced marks n [],
+        thread-changed copies f rules state marks inv n there a [] (state .cells) (state .locks) [] refl (inv .all-locks) tt (λ o k other has. has)
+            (λ w x p. absurd p),
+      )
+      go (c ∷ cs) (wait, under) less = (
+        replaced marks n (back ∷ cs),
+        thread-changed copies f rules state marks inv n there a _ (state .cells) (state .locks) (back ∷ cs) refl (inv .all-locks)
+            (record { here = back-place; valued = wait .valued; holds = holds }, under) (λ o k other has. has)
+            (λ w x p. less w x (⊎-elim (λ ahead. inl (ahead-follows accepted copies f rules back-place goes ahead)) (λ left. inr left) p)),
+      )
+        where
+          back : Mark
+          back = record { copy = c .copy; place = c .place + 1; values = c .values }
+
+          back-place : Place copies (c .copy) (c .place + 1)
+          back-place = goes-place accepted copies (wait .here) (Call (wait .named) (wait .arguments)) (wait .calls) refl
+
+          goes : Goes (c .place) (statement t (c .place)) (c .place + 1)
+          goes = subst (λ (τ : Statement). Goes (c .place) τ (c .place + 1)) (sym (wait .calls)) refl
+
+          holds : (k : ℕ) → f .held (c .copy) (c .place + 1) k → Has copies f (state .locks) n k
+          holds k held =
+              ⊎-elim
+              (λ all. top .holds k
+              (subst (λ (d : ℕ). f .held d (m .place) k) (wait .leads)
+              (all (m .place) (subst (λ (d : ℕ). Place copies d (m .place)) (sym (wait .leads)) (top .here)) eq)))
+              (λ kept. wait .holds k (kept .0) (subst (λ (d : ℕ). f .gives d k → ⊥) (wait .leads) (kept .1)))
+              (rules .held-rules .way (c .copy) (c .place) (c .place + 1) k (wait .here) (Call (wait .named) (wait .arguments)) (wait .calls) refl held)
+
+  started : (q : ℕ) (arguments : Arguments) → statement t (m .place) ≡ Start q arguments
+      → Kept copies f state (operate t state n a (newest copies f m) (older copies f ms) (Start q arguments))
+  unfolding callee operate onward in-frame
+  started q arguments eq = (
+    replaced (replaced marks n (on ∷ ms)) _ (new ∷ []),
+    thread-added copies f rules _ (replaced marks n (on ∷ ms)) (onward (m .place + 1) a (state .cells) σ eq refl (λ k held. held) .1) (pos 0) _ (new ∷ [])
+        (ap (λ (g : Frame). g ∷ []) (callee-frame σ eq q arguments refl passes passing)) (
+          record {
+            here = new-place;
+            valued = callee-valued σ eq q arguments refl passes passing;
+            holds = λ k held. absurd (rules .held-rules .by-start (m .copy) (m .place) k q arguments (top .here) eq held);
+          },
+          tt,
+        ) parted,
+  )
+    where
+      σ : Statement
+      σ = Start q arguments
+
+      passes : Passes t (copies .of (m .copy)) q arguments
+      passes = operands σ eq
+
+      passing : Passing copies (f .flow) (m .copy) (m .place) q arguments
+      passing = rules .flow-rules .statement-rule (m .copy) (m .place) (top .here) σ eq
+
+      new : Mark
+      new = callee σ eq q arguments refl passes passing
+
+      new-place : Place copies (new .copy) (new .place)
+      new-place = callee-place σ eq q arguments refl passes passing
+
+      -- the starter, one statement on
+      on : Mark
+      on = record { copy = m .copy; place = m .place + 1; values = m .values }
+
+      on-place : Place copies (m .copy) (m .place + 1)
+      on-place = goes-place accepted copies (top .here) σ eq refl
+
+      -- the new thread touches what the started copy does
+      in-effect : (w : Bool) (x : ℕ) → Potential copies f (new ∷ []) w x → f .effect (new .copy) w x
+      in-effect w x (inl ahead) = ahead-in-effect accepted copies f rules new-place ahead
+      in-effect w x (inr left) = absurd left
+
+      -- the starter touches what lies in the START's future
+      in-future : (w : Bool) (x : ℕ) → Potential copies f (on ∷ ms) w x → f .future (m .copy) (m .place) w x
+      in-future w x (inl ahead) =
+          inside-in-future accepted copies f rules (top .here) (ahead-follows accepted copies f rules on-place (goes-as σ eq (m .place + 1) refl) ahead)
+      in-future w x (inr left) = left-in-future accepted copies f rules (state .locks) n (m .copy) (m .place) ms w x (top .here) below left
+
+      -- what the new thread touches, the starter's START did
+      from-starter : (w : Bool) (x : ℕ) → Potential copies f (new ∷ []) w x → Potential copies f (marks n) w x
+      from-starter w x p = before w x (inl (inl (rw eq (in-effect w x p))))
+
+      parted : (o x : ℕ) → Clash (Potential copies f (new ∷ [])) (Potential copies f (replaced marks n (on ∷ ms) o)) x → f .shared x
+      parted o x =
+          replaced-all (λ o s. Clash (Potential copies f (new ∷ [])) (Potential copies f s) x → f .shared x) marks n (on ∷ ms)
+          (λ clash. rules .shared-rules .at-start (m .copy) (m .place) x q arguments (top .here) eq
+          (clash-wider (λ w. in-effect w x) (λ w. in-future w x) clash))
+          (λ o other clash. inv .apart n o x (λ same. other (sym same)) (clash-wider (λ w. from-starter w x) (λ w p. p) clash)) o
+
+  -- ---- every operation
+
+  pub operated : (σ : Statement) → statement t (m .place) ≡ σ → Kept copies f state (operate t state n a (newest copies f m) (older copies f ms) σ)
+  unfolding operate
+  operated (Read h) eq = onward (m .place + 1) _ (state .cells) (Read h) eq refl (λ k held. held)
+  operated (Write h) eq = onward (m .place + 1) a _ (Write h) eq refl (λ k held. held)
+  operated (Set number) eq = onward (m .place + 1) number (state .cells) (Set number) eq refl (λ k held. held)
+  operated (Add number) eq = onward (m .place + 1) _ (state .cells) (Add number) eq refl (λ k held. held)
+  operated (Take h) eq = taken h eq _ refl
+  operated (Give h) eq = given h eq _ refl
+  operated (Point h g) eq =
+      let ops = operands (Point h g) eq in
+      in-frame (m .place + 1) _ a (state .cells) (state .locks) (Point h g) eq refl (inv .all-locks)
+      (pointed-valued accepted copies f rules (m .values) (h .number) (g .number) (ops .1) (ops .2)
+      (rules .flow-rules .statement-rule (m .copy) (m .place) (top .here) (Point h g) eq) (top .valued))
+      (λ k held. top .holds k (rules .held-rules .way (m .copy) (m .place) (m .place + 1) k (top .here) (Point h g) eq refl held)) below
+      (λ o k other has. has)
+  operated (Call q arguments) eq = called q arguments eq
+  operated (Start q arguments) eq = started q arguments eq
+  operated (Jump z) eq = onward (z .statement) a (state .cells) (Jump z) eq refl (λ k held. held)
+  operated (JumpZero z) eq = onward _ a (state .cells) (JumpZero z) eq (either (isZero a)) (λ k held. held)
+    where
+      either : (b : Bool) → Goes (m .place) (JumpZero z) (cond b (z .statement) (m .place + 1))
+      either true = inl refl
+      either false = inr refl
+  operated Return eq = returned eq

@@ -1,0 +1,124 @@
+-- Demand 3 over sets that satisfy the rules: if the report is clean, then after every run (a) and (b) hold. Assumes nothing.
+use Prim.Native.Nat.{ℕ, _<_}
+use mathlib.Core.Path.{_≡_, refl, sym, subst, _∙_}
+use mathlib.Core.Bool.{Bool, true}
+use mathlib.Core.List.{List, [], _∷_}
+use mathlib.Core.Logic.{_⊎_, inl, ⊎-elim}
+use Rattle.table.specs.Table.{Table, statement}
+use Rattle.table.specs.Accepted.{Accepted, Operands}
+use Rattle.table.specs.declared.Statement.{Statement}
+use Rattle.table.specs.declared.Statement.the-variants.{Read, Write, Set, Add, Take, Give, Point, Call, Start, Jump, JumpZero, Return}
+use Rattle.machine.specs.State.{State, holder, start}
+use Rattle.machine.specs.Step.{run}
+use Rattle.machine.specs.Words.{AccessIn, ReleaseIn, Next, Access, Release, Holds, Safe}
+use Rattle.report.specs.Rules.{Copies, Place, Accesses, Does, Families, Rules, Clean}
+use Rattle.guarantee.specs.Invariant.{Mark, newest, frames, Fits, Stands, Good, Potential, Invariant}
+use Rattle.guarantee.specs.Operations.{one-holder}
+use Rattle.guarantee.specs.Runs.{run-keeps, start-keeps}
+
+-- what the invariant says of a thread that stands before an access: where it stands, that the access is one by flow sets, and that it may touch the cell
+record Before {t : Table} (copies : Copies t) (f : Families) (state : State) (n : ℕ) (ms : List Mark) (w : Bool) (x : ℕ) : Type 0 where
+  copy : ℕ
+  place : ℕ
+  here : Place copies copy place
+  accesses : Accesses copies (f .flow) copy (statement t place) w x
+  is-cell : x < t .cells
+  touches : Potential copies f ms w x
+  holds : (k : ℕ) → f .held copy place k → Holds state n k
+
+module _ {t : Table} (accepted : Accepted t) (copies : Copies t) (f : Families) (rules : Rules copies f) where
+  operands : (m : Mark) → Place copies (m .copy) (m .place) → Operands t (copies .of (m .copy)) (statement t (m .place))
+  operands m here = accepted .operands _ (m .place) (copies .of-there (m .copy) (here .there)) (here .inside)
+
+  -- an access, by what the handle refers to, is one by flow sets
+  by-flow : (state : State) (n : ℕ) (m : Mark) (w : Bool) (x : ℕ) → Stands copies f (state .locks) n m → (σ : Statement)
+      → Operands t (copies .of (m .copy)) σ → AccessIn (newest copies f m) σ w x
+      → Accesses copies (f .flow) (m .copy) σ w x × Does copies (f .flow) (f .effect) (m .copy) (m .place) σ w x × (x < t .cells)
+  by-flow state n m w x top (Read h) ops (reads, at) =
+      let fits : Fits copies f (m .copy) (h .number) x = subst (Fits copies f (m .copy) (h .number)) at (top .valued (h .number) (ops .own)) in
+      ((reads, fits .flows), (reads, fits .flows), fits .cell (ops .kind))
+  by-flow state n m w x top (Write h) ops (writes, at) =
+      let fits : Fits copies f (m .copy) (h .number) x = subst (Fits copies f (m .copy) (h .number)) at (top .valued (h .number) (ops .own)) in
+      ((writes, fits .flows), (writes, fits .flows), fits .cell (ops .kind))
+  by-flow state n m w x top (Set k) ops access = absurd access
+  by-flow state n m w x top (Add k) ops access = absurd access
+  by-flow state n m w x top (Take h) ops access = absurd access
+  by-flow state n m w x top (Give h) ops access = absurd access
+  by-flow state n m w x top (Point h g) ops access = absurd access
+  by-flow state n m w x top (Call q a) ops access = absurd access
+  by-flow state n m w x top (Start q a) ops access = absurd access
+  by-flow state n m w x top (Jump z) ops access = absurd access
+  by-flow state n m w x top (JumpZero z) ops access = absurd access
+  by-flow state n m w x top Return ops access = absurd access
+
+  access-before : (state : State) (n : ℕ) (w : Bool) (x : ℕ) (ms : List Mark) → Good copies f (state .locks) n ms
+      → Next t (λ g σ. AccessIn g σ w x) (frames copies f ms) → Before copies f state n ms w x
+  access-before state n w x [] good access = absurd access
+  access-before state n w x (m ∷ ms) (top, below) access =
+      let known = by-flow state n m w x top (statement t (m .place)) (operands m (top .here)) access in
+      record {
+        copy = m .copy;
+        place = m .place;
+        here = top .here;
+        accesses = known .0;
+        is-cell = known .2;
+        touches = inl (inl (known .1));
+        holds = top .holds;
+      }
+
+  -- a release of a GIVE that is not stray is of the lock that is held
+  not-stray-releases : Clean copies f → (state : State) (n k : ℕ) (m : Mark) → Stands copies f (state .locks) n m → (σ : Statement)
+      → statement t (m .place) ≡ σ → Operands t (copies .of (m .copy)) σ → ReleaseIn (newest copies f m) σ k → Holds state n k
+  not-stray-releases clean state n k m top (Give h) eq ops at =
+      let sound = clean .not-stray (m .copy) (m .place) h (top .here) eq in
+      let is : k ≡ sound .lock = sym at ∙ sound .one .alone _ (top .valued (h .number) (ops .own) .flows) in
+      rw is (top .holds (sound .lock) (sound .before))
+  not-stray-releases clean state n k m top (Read h) eq ops at = absurd at
+  not-stray-releases clean state n k m top (Write h) eq ops at = absurd at
+  not-stray-releases clean state n k m top (Set j) eq ops at = absurd at
+  not-stray-releases clean state n k m top (Add j) eq ops at = absurd at
+  not-stray-releases clean state n k m top (Take h) eq ops at = absurd at
+  not-stray-releases clean state n k m top (Point h g) eq ops at = absurd at
+  not-stray-releases clean state n k m top (Call q a) eq ops at = absurd at
+  not-stray-releases clean state n k m top (Start q a) eq ops at = absurd at
+  not-stray-releases clean state n k m top (Jump z) eq ops at = absurd at
+  not-stray-releases clean state n k m top (JumpZero z) eq ops at = absurd at
+  not-stray-releases clean state n k m top Return eq ops at = absurd at
+
+  release-held : Clean copies f → (state : State) (n k : ℕ) (ms : List Mark) → Good copies f (state .locks) n ms
+      → Next t (λ g σ. ReleaseIn g σ k) (frames copies f ms) → Holds state n k
+  release-held clean state n k [] good release = absurd release
+  release-held clean state n k (m ∷ ms) (top, below) release =
+      not-stray-releases clean state n k m top (statement t (m .place)) refl (operands m (top .here)) release
+
+  -- (a) and (b) follow from the invariant and a clean report
+  pub invariant-safe : Clean copies f → (state : State) (marks : ℕ → List Mark) → Invariant copies f state marks → Safe t state
+  invariant-safe clean state marks inv = record { no-race = no-race; no-stray = no-stray }
+    where
+      before : (n : ℕ) (w : Bool) (x : ℕ) → Access t state n w x → Before copies f state n (marks n) w x
+      before n w x access =
+          access-before state n w x (marks n) (inv .good n) (subst (Next t (λ g σ. AccessIn g σ w x)) (inv .shape n) access)
+
+      no-race : (m n x : ℕ) (v w : Bool) → (m ≡ n → ⊥) → Access t state m v x → Access t state n w x → (v ≡ true) ⊎ (w ≡ true) → ⊥
+      no-race m n x v w other one two writes =
+          let here = before m v x one in
+          let too = before n w x two in
+          ⊎-elim
+          (λ unshared. unshared
+          (inv .apart m n x other (record { v = v; w = w; touches = here .touches; touches-too = too .touches; one-writes = writes })))
+          (λ lock. other
+          (one-holder (holder state (lock .0)) m n
+          (here .holds (lock .0) (lock .1 (here .copy) (here .place) v (here .here) (here .accesses)))
+          (too .holds (lock .0) (lock .1 (too .copy) (too .place) w (too .here) (too .accesses)))))
+          (clean .guarded x (here .is-cell))
+
+      no-stray : (n k : ℕ) → Release t state n k → Holds state n k
+      no-stray n k release =
+          release-held clean state n k (marks n) (inv .good n) (subst (Next t (λ g σ. ReleaseIn g σ k)) (inv .shape n) release)
+
+  -- demand 3, over any copies and any sets that satisfy the rules: a clean report means that (a) and (b) hold after every list of thread numbers
+  pub clean-runs-safe : Clean copies f → (ns : List ℕ) → Safe t (run t (start t) ns)
+  clean-runs-safe clean ns =
+      let begun = start-keeps accepted copies f rules in
+      let kept = run-keeps accepted copies f rules ns (start t) (begun .0) (begun .1) in
+      invariant-safe clean (run t (start t) ns) (kept .0) (kept .1)

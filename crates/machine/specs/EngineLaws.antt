@@ -1,0 +1,73 @@
+-- The engine runs as the machine does on the schedule without the steps that it answers 18 or 19. Assumes nothing.
+use Prim.Native.Nat.{ℕ, _≤_, _<_}
+use mathlib.Core.Path.{_≡_, refl, _∙_}
+use mathlib.Core.Bool.{Bool, true, false, cond}
+use mathlib.Core.List.{List, [], _∷_}
+use mathlib.Core.Logic.{_⊎_, inl, inr, ⊎-elim}
+use native.Mathlib.Omega.{arith}
+use lib.Dec.{eqb, leb}
+use lib.ListN.{length}
+use borrow.Author.Tests.{eqb-false, le-leb, lt-leb}
+use Rattle.table.specs.Table.{Table, statement}
+use Rattle.table.specs.declared.Statement.{Statement}
+use Rattle.table.specs.declared.Statement.the-variants.{Read, Write, Set, Add, Take, Give, Point, Call, Start, Jump, JumpZero, Return}
+use Rattle.machine.specs.State.{State, Frame, thread}
+use Rattle.machine.specs.Step.{Answer, moved, refused, step, after, run}
+use Rattle.machine.specs.Engine.{limit, limitOf, engineStep, answer, engineRun}
+use Rattle.machine.specs.Laws.{Within, step-within}
+
+-- the schedule without the steps that the engine answers 18 or 19
+unfoldable pub unlimited : Table → State → List ℕ → List ℕ
+unfolding engineStep
+unlimited t state [] = []
+unlimited t state (n ∷ ns) =
+    let given = engineStep t state n in
+    let rest = unlimited t (after state given) ns in
+    cond (leb 18 (answer given)) rest (n ∷ rest)
+
+-- ---- a limit is 18 or 19, and the machine's own refusals are below
+
+choice-known : (b : Bool) (k : ℕ) → 18 ≤ k → (cond b k 0 ≡ 0) ⊎ (18 ≤ cond b k 0)
+choice-known true k h = inr h
+choice-known false k h = inl refl
+
+limit-known : (started frames : ℕ) (σ : Statement) → (limit started frames σ ≡ 0) ⊎ (18 ≤ limit started frames σ)
+limit-known started frames (Read h) = inl refl
+limit-known started frames (Write h) = inl refl
+limit-known started frames (Set n) = inl refl
+limit-known started frames (Add n) = inl refl
+limit-known started frames (Take h) = inl refl
+limit-known started frames (Give h) = inl refl
+limit-known started frames (Point h g) = inl refl
+limit-known started frames (Call r a) = choice-known (leb 32 frames) 19 (omega arith)
+limit-known started frames (Start r a) = choice-known (leb 16 started) 18 (omega arith)
+limit-known started frames (Jump s) = inl refl
+limit-known started frames (JumpZero s) = inl refl
+limit-known started frames Return = inl refl
+
+limitOf-known : (t : Table) (started : ℕ) (fs : List Frame) → (limitOf t started fs ≡ 0) ⊎ (18 ≤ limitOf t started fs)
+limitOf-known t started [] = inl refl
+limitOf-known t started (f ∷ older) = limit-known started (length (f ∷ older)) (statement t (f .next))
+
+within-low : (given : Answer) → Within given → answer given < 18
+within-low (moved new) h = omega arith
+within-low (refused k) h = omega arith
+
+-- ---- the engine's run
+
+pub engine-runs-as-machine : (t : Table) (state : State) (ns : List ℕ) → engineRun t state ns ≡ run t state (unlimited t state ns)
+unfolding engineRun run unlimited
+engine-runs-as-machine t state [] = refl
+engine-runs-as-machine t state (n ∷ ns) =
+    engine-runs-as-machine t (after state (engineStep t state n)) ns ∙ go (eqb over 0) refl (λ new. unlimited t new ns)
+  where
+    over : ℕ
+    over = limitOf t (length (state .threads)) (thread state n .frames)
+
+    go : (b : Bool) → eqb over 0 ≡ b → (rest : State → List ℕ)
+        → let given = cond b (step t state n) (refused over) in
+        let new = after state given in
+        run t new (rest new) ≡ run t state (cond (leb 18 (answer given)) (rest new) (n ∷ rest new))
+    go true e rest = rw (lt-leb 18 (answer (step t state n)) (within-low (step t state n) (step-within t state n)))
+    go false e rest =
+        rw (le-leb 18 over (⊎-elim (λ none. absurd (eqb-false over 0 e none)) (λ some. some) (limitOf-known t (length (state .threads)) (thread state n .frames))))

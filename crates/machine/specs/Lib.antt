@@ -1,0 +1,8 @@
+pub mod State
+pub mod Step
+pub mod Words
+pub mod Engine
+pub mod Notebook
+pub mod Laws
+pub mod EngineLaws
+pub mod Vectors

@@ -1,0 +1,83 @@
+-- What the machine's definitions compute: the notebook's entries about a step, and document 01's own table, which races. Assumes nothing.
+use Prim.Native.Nat.{ℕ}
+use mathlib.Core.Path.{_≡_, refl}
+use mathlib.Core.Bool.{true, false}
+use mathlib.Core.List.{List, [], _∷_}
+use mathlib.Core.Logic.{inl}
+use native.Mathlib.Omega.{arith}
+use lib.IntN.{ℤ, pos, negsuc}
+use Rattle.table.specs.Table.{Table, tabulate}
+use Rattle.table.specs.declared.Arguments.{Arguments}
+use Rattle.table.specs.declared.Statement.{Statement}
+use Rattle.table.specs.declared.Statement.the-variants.{Read, Write, Add, Take, Start, JumpZero, Return}
+use Rattle.machine.specs.State.{State, Frame, thread, start, opened, entered, free}
+use Rattle.machine.specs.Step.{refused, wrap, step, after, run}
+use Rattle.machine.specs.Words.{Safe}
+
+-- ---- one thread in one routine of the statements given, at the first of them
+
+unfoldable pub alone : List Statement → Table
+alone statements =
+    record {
+      cells = 1;
+      locks = 1;
+      handles = record { routine = 0; kind = 2; origin = 1; start = 0 } ∷ [];
+      routines = record { first = 0; count = 3; handle = 0; handles = 1; parameters = 0 } ∷ [];
+      statements = statements;
+    }
+
+-- the accumulator and the next statement after a step of thread 0 at the first statement with accumulator a
+unfoldable pub after-one : List Statement → ℤ → ℤ × List ℕ
+unfolding alone step
+after-one statements a =
+    let frame : Frame = record { routine = 0; next = 0; values = 0 ∷ [] } in
+    let state : State = record { threads = record { accumulator = a; frames = frame ∷ [] } ∷ []; cells = pos 0 ∷ []; locks = free ∷ [] } in
+    let new = thread (after state (step (alone statements) state 0)) 0 in
+    (new .accumulator, nexts (new .frames))
+  where
+    nexts : List Frame → List ℕ
+    nexts [] = []
+    nexts (f ∷ fs) = f .next ∷ nexts fs
+
+-- "2,147,483,647 ADD 1 gives -2,147,483,648", and the same at the other end; the ends themselves stay
+pub add-wraps :
+    (after-one (Add (pos 1) ∷ Return ∷ []) (pos 2147483647) .0 ≡ negsuc 2147483647)
+    × (after-one (Add (negsuc 0) ∷ Return ∷ []) (negsuc 2147483647) .0 ≡ pos 2147483647)
+    × (after-one (Add (pos 0) ∷ Return ∷ []) (pos 2147483647) .0 ≡ pos 2147483647)
+    × (after-one (Add (pos 0) ∷ Return ∷ []) (negsuc 2147483647) .0 ≡ negsuc 2147483647)
+unfolding after-one wrap
+add-wraps = (refl, refl, refl, refl)
+
+-- "JUMPZ at 0 jumps, at -1 goes on"
+pub zero-alone-jumps :
+    (after-one (JumpZero (record { statement = 2 }) ∷ Return ∷ Return ∷ []) (pos 0) .1 ≡ 2 ∷ [])
+    × (after-one (JumpZero (record { statement = 2 }) ∷ Return ∷ Return ∷ []) (negsuc 0) .1 ≡ 1 ∷ [])
+unfolding after-one
+zero-alone-jumps = (refl, refl)
+
+-- "letting a thread pass its own lock twice": the second TAKE is refused
+pub own-lock-stays-shut :
+    let t = alone (Take (record { number = 0 }) ∷ Take (record { number = 0 }) ∷ Return ∷ []) in
+    step t (run t (start t) (0 ∷ [])) 0 ≡ refused 16
+unfolding alone run start opened entered tabulate
+own-lock-stays-shut = refl
+
+-- ---- document 01's own table
+
+unfoldable pub example : Table
+example =
+    let none : Arguments = record { first = 0; second = 0; third = 0; fourth = 0 } in
+    record {
+      cells = 1;
+      locks = 1;
+      handles = record { routine = 0; kind = 1; origin = 1; start = 0 } ∷ record { routine = 1; kind = 1; origin = 1; start = 0 } ∷ [];
+      routines = record { first = 0; count = 3; handle = 0; handles = 1; parameters = 0 }
+          ∷ record { first = 3; count = 2; handle = 1; handles = 1; parameters = 0 }
+          ∷ [];
+      statements = Start 1 none ∷ Write (record { number = 0 }) ∷ Return ∷ Read (record { number = 1 }) ∷ Return ∷ [];
+    }
+
+-- after one step of thread 0 it stands before a WRITE of cell 0, and thread 1 before a READ of it
+pub example-races : Safe example (run example (start example) (0 ∷ [])) → ⊥
+unfolding example run start opened entered tabulate
+example-races safe = safe .no-race 0 1 0 true false (omega arith) (refl, refl) (refl, refl) (inl refl)

@@ -1,0 +1,64 @@
+-- The words of demand 3, and the demand's (a) and (b) of one state. Assumes nothing.
+use Prim.Native.Nat.{ℕ}
+use mathlib.Core.Path.{_≡_}
+use mathlib.Core.Bool.{Bool, true, false}
+use mathlib.Core.List.{List, [], _∷_}
+use mathlib.Core.Logic.{_⊎_}
+use Rattle.table.specs.Table.{Table, statement}
+use Rattle.table.specs.declared.Statement.{Statement}
+use Rattle.table.specs.declared.Statement.the-variants.{Read, Write, Set, Add, Take, Give, Point, Call, Start, Jump, JumpZero, Return}
+use Rattle.machine.specs.State.{State, Frame, held, thread, holder, refers}
+
+-- "An access to a cell is a READ or WRITE whose handle refers to that cell in that frame; a WRITE is a write": the statement, in frame f, is an access to
+-- cell x, a write if `writes` is true
+abbrev pub AccessIn : Frame → Statement → Bool → ℕ → Type 0
+AccessIn f (Read h) writes x = (writes ≡ false) × (refers f (h .number) ≡ x)
+AccessIn f (Write h) writes x = (writes ≡ true) × (refers f (h .number) ≡ x)
+AccessIn f (Set n) writes x = ⊥
+AccessIn f (Add n) writes x = ⊥
+AccessIn f (Take h) writes x = ⊥
+AccessIn f (Give h) writes x = ⊥
+AccessIn f (Point h g) writes x = ⊥
+AccessIn f (Call r a) writes x = ⊥
+AccessIn f (Start r a) writes x = ⊥
+AccessIn f (Jump s) writes x = ⊥
+AccessIn f (JumpZero s) writes x = ⊥
+AccessIn f Return writes x = ⊥
+
+-- "A release is a GIVE, of the lock that its handle refers to there": the statement, in frame f, is a release of lock k
+abbrev pub ReleaseIn : Frame → Statement → ℕ → Type 0
+ReleaseIn f (Read h) k = ⊥
+ReleaseIn f (Write h) k = ⊥
+ReleaseIn f (Set n) k = ⊥
+ReleaseIn f (Add n) k = ⊥
+ReleaseIn f (Take h) k = ⊥
+ReleaseIn f (Give h) k = refers f (h .number) ≡ k
+ReleaseIn f (Point h g) k = ⊥
+ReleaseIn f (Call r a) k = ⊥
+ReleaseIn f (Start r a) k = ⊥
+ReleaseIn f (Jump s) k = ⊥
+ReleaseIn f (JumpZero s) k = ⊥
+ReleaseIn f Return k = ⊥
+
+-- "A thread's next statement is that of its newest frame; an ended thread has none": what holds of the newest frame and the next statement
+abbrev pub Next : Table → (Frame → Statement → Type 0) → List Frame → Type 0
+Next t P [] = ⊥
+Next t P (f ∷ older) = P f (statement t (f .next))
+
+-- thread n has as next statement an access to cell x
+abbrev pub Access : Table → State → ℕ → Bool → ℕ → Type 0
+Access t state n writes x = Next t (λ f s. AccessIn f s writes x) (thread state n .frames)
+
+-- thread n stands before a release of lock k
+abbrev pub Release : Table → State → ℕ → ℕ → Type 0
+Release t state n k = Next t (λ f s. ReleaseIn f s k) (thread state n .frames)
+
+-- thread n holds lock k: "from the step by which it gets it to the step by which it gives it up"
+abbrev pub Holds : State → ℕ → ℕ → Type 0
+Holds state n k = holder state k ≡ held n
+
+-- (a) no two different threads both have as next statement an access to one cell with at least one a write, and
+-- (b) no thread stands before a release of a lock that it does not hold
+pub record Safe (t : Table) (state : State) : Type 0 where
+  pub no-race : (m n x : ℕ) (v w : Bool) → (m ≡ n → ⊥) → Access t state m v x → Access t state n w x → (v ≡ true) ⊎ (w ≡ true) → ⊥
+  pub no-stray : (n k : ℕ) → Release t state n k → Holds state n k

@@ -1,0 +1,1 @@
+// The machine of document 01: definitions only, in specs/.

@@ -1,0 +1,1 @@
+// The report of document 01: definitions only, in specs/.
