@@ -13,7 +13,8 @@ use Rattle.table.specs.Accepted.{Accepted, Passes}
 use Rattle.table.specs.declared.Arguments.{Arguments}
 use Rattle.machine.specs.State.{Holder, entered, opened}
 use Rattle.report.specs.Rules.{Copies, Families, Rules, Passing}
-use Rattle.guarantee.specs.Lists.{set-case, tabulate-at}
+use Rattle.guarantee.specs.Lists.{set-case}
+use Rattle.table.specs.TabulateLaws.{getD-tabulate}
 use Rattle.guarantee.specs.Invariant.{Mark, Fits, Valued, Has, AllWait, Good}
 
 module _ {t : Table} (copies : Copies t) (f : Families) (rules : Rules copies f) where
@@ -57,7 +58,7 @@ module _ {t : Table} (accepted : Accepted t) (copies : Copies t) (f : Families) 
       → Valued copies f d (opened t q values a .values)
   unfolding opened entered
   opened-valued d q values a there e params h own =
-      rw (tabulate-at (entered t q values a) 0 (length (t .handles)) h (own .there), entered, eq-eqb (declaration t h .routine) q (own .own ∙ e))
+      rw (getD-tabulate (length (t .handles)) (entered t q values a) h 0 (own .there), entered, eq-eqb (declaration t h .routine) q (own .own ∙ e))
       (⊎-elim parameter-case local-case (facts .origin-known))
     where
       facts : Rattle.table.specs.Accepted.HandleFacts t h

@@ -1,14 +1,11 @@
 -- Laws of lists, and of a choice at one number, that the proof of demand 3 uses. Assumes nothing.
-use Prim.Native.Nat.{ℕ, zero, suc, _+_, _<_}
+use Prim.Native.Nat.{ℕ, zero, suc}
 use mathlib.Core.Path.{_≡_, refl, sym, ap, _∙_, subst}
 use mathlib.Core.Bool.{Bool, true, false, cond}
 use mathlib.Core.List.{List, [], _∷_, _++_}
-use native.Mathlib.Omega.{arith}
-use native.Mathlib.Nat.{add-zero, not-suc-le-zero, le-of-suc-le-suc}
 use lib.Dec.{eqb}
 use lib.ListN.{getD, length, set}
 use borrow.Author.Tests.{eqb-true, eqb-false}
-use Rattle.table.specs.Table.{tabulate, tabulateFrom}
 
 -- what stands at j after `set` is the new element, at its place alone, or what stood there
 pub set-case : {A : Type 0} (P : A → Type 0) (l : List A) (i j : ℕ) (a d : A) → (j ≡ i → P a) → P (getD l j d) → P (getD (set l i a) j d)
@@ -24,18 +21,6 @@ getD-snoc-other [] a d zero other = absurd (other refl)
 getD-snoc-other [] a d (suc j) other = refl
 getD-snoc-other (x ∷ l) a d zero other = refl
 getD-snoc-other (x ∷ l) a d (suc j) other = getD-snoc-other l a d j (λ e. other (ap suc e))
-
-tabulateFrom-at : {A : Type 0} (g : ℕ → A) (d : A) (from n i : ℕ) → i < n → getD (tabulateFrom from n g) i d ≡ g (from + i)
-unfolding tabulateFrom
-tabulateFrom-at g d from zero i h = absurd (not-suc-le-zero h)
-tabulateFrom-at g d from (suc n) zero h = ap g (sym (add-zero from))
-tabulateFrom-at g d from (suc n) (suc i) h =
-    let e : from + 1 + i ≡ from + suc i = omega arith in
-    tabulateFrom-at g d (from + 1) n i (le-of-suc-le-suc h) ∙ ap g e
-
-pub tabulate-at : {A : Type 0} (g : ℕ → A) (d : A) (n i : ℕ) → i < n → getD (tabulate n g) i d ≡ g i
-unfolding tabulate
-tabulate-at g d n i h = let e : 0 + i ≡ i = omega arith in tabulateFrom-at g d 0 n i h ∙ ap g e
 
 -- a family with another member at n
 abbrev pub replaced : {A : Type 0} → (ℕ → A) → ℕ → A → ℕ → A

@@ -6,7 +6,8 @@ use mathlib.Core.List.{List, [], _∷_}
 use mathlib.Core.Logic.{inl}
 use native.Mathlib.Omega.{arith}
 use lib.IntN.{ℤ, pos, negsuc}
-use Rattle.table.specs.Table.{Table, tabulate}
+use Rattle.table.specs.Table.{Table}
+use Rattle.table.specs.Tabulate.{tabulateFrom, tabulate}
 use Rattle.table.specs.declared.Arguments.{Arguments}
 use Rattle.table.specs.declared.Statement.{Statement}
 use Rattle.table.specs.declared.Statement.the-variants.{Read, Write, Add, Take, Start, JumpZero, Return}
@@ -59,7 +60,7 @@ zero-alone-jumps = (refl, refl)
 pub own-lock-stays-shut :
     let t = alone (Take (record { number = 0 }) ∷ Take (record { number = 0 }) ∷ Return ∷ []) in
     step t (run t (start t) (0 ∷ [])) 0 ≡ refused 16
-unfolding alone run start opened entered tabulate
+unfolding alone run start opened entered tabulateFrom tabulate
 own-lock-stays-shut = refl
 
 -- ---- document 01's own table
@@ -79,5 +80,5 @@ example =
 
 -- after one step of thread 0 it stands before a WRITE of cell 0, and thread 1 before a READ of it
 pub example-races : Safe example (run example (start example) (0 ∷ [])) → ⊥
-unfolding example run start opened entered tabulate
+unfolding example run start opened entered tabulateFrom tabulate
 example-races safe = safe .no-race 0 1 0 true false (omega arith) (refl, refl) (refl, refl) (inl refl)

@@ -5,7 +5,8 @@ use mathlib.Core.List.{List, [], _∷_}
 use lib.Dec.{eqb}
 use lib.IntN.{ℤ, pos}
 use lib.ListN.{getD, length, replicate}
-use Rattle.table.specs.Table.{Table, declaration, routine, passed, tabulate}
+use Rattle.table.specs.Table.{Table, declaration, routine, passed}
+use Rattle.table.specs.Tabulate.{tabulate}
 use Rattle.table.specs.declared.Arguments.{Arguments}
 
 -- "A frame has its routine, next statement and handle values": one value for each handle of the table, 0 for the handles of other routines

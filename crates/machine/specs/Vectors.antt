@@ -7,7 +7,9 @@ use Rattle.table.specs.Until.{until}
 use Rattle.table.specs.Fields.{plain}
 use Rattle.table.specs.Handles.{handlesFrom, parameters}
 use Rattle.table.specs.Routines.{firstOf}
-use Rattle.table.specs.Table.{tabulateFrom, tabulate, statementOf, declarationOf, routineAt, tableOf}
+use Rattle.lines.specs.Lowest.{lowest}
+use Rattle.table.specs.Tabulate.{tabulateFrom, tabulate}
+use Rattle.table.specs.Table.{argumentsIn, statementIn, statementOf, declarationOf, routineAt, tableOf}
 use Rattle.machine.specs.State.{start, opened, entered}
 use Rattle.machine.specs.Step.{wrap}
 use Rattle.machine.specs.Engine.{engineRun, answers}
@@ -33,7 +35,7 @@ numbers (l ∷ ls) = l ++ numbers ls
 
 -- what the definitions give, and what is given
 unfoldable pub computed : List Vector → List (List ℕ × List ℤ)
-unfolding until plain handlesFrom parameters firstOf tabulateFrom tabulate statementOf declarationOf routineAt tableOf start opened entered wrap engineRun answers
+unfolding lowest until plain handlesFrom parameters firstOf tabulateFrom tabulate argumentsIn statementIn statementOf declarationOf routineAt tableOf start opened entered wrap engineRun answers
 computed [] = []
 computed (v ∷ vs) =
     let t = tableOf (numbers (v .lines)) in
