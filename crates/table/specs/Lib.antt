@@ -18,3 +18,4 @@ pub mod Verdict
 pub mod VerdictLaws
 pub mod Table
 pub mod Accepted
+pub mod CheckLaws
