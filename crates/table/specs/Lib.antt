@@ -19,3 +19,4 @@ pub mod VerdictLaws
 pub mod Table
 pub mod Accepted
 pub mod CheckLaws
+pub mod ReachLaws
