@@ -20,3 +20,4 @@ pub mod Table
 pub mod Accepted
 pub mod CheckLaws
 pub mod ReachLaws
+pub mod HandleLaws
