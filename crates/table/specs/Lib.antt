@@ -21,3 +21,5 @@ pub mod Accepted
 pub mod CheckLaws
 pub mod ReachLaws
 pub mod HandleLaws
+pub mod RoutineLaws
+pub mod LookupLaws
