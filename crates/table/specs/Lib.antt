@@ -23,3 +23,4 @@ pub mod ReachLaws
 pub mod HandleLaws
 pub mod RoutineLaws
 pub mod LookupLaws
+pub mod StatementLaws

@@ -31,7 +31,7 @@ in-below s i b h = go (ltb i 32) refl
         let w : _≡_ {A = ℕ} 0 1 = cc in
         absurd (omega arith)
 
-in-empty : {C : Type 0} (i : ℕ) → In 0 i → C
+pub in-empty : {C : Type 0} (i : ℕ) → In 0 i → C
 in-empty i h = let z : true ≡ false = sym h ∙ has-empty i in let w : _≡_ {A = ℕ} 0 1 = cc in absurd (omega arith)
 
 -- ---- a set with one element more
