@@ -24,3 +24,5 @@ pub mod HandleLaws
 pub mod RoutineLaws
 pub mod LookupLaws
 pub mod StatementLaws
+pub mod NamingLaws
+pub mod AcceptedLaws
