@@ -1,28 +1,25 @@
 -- The table of an accepted text has all that `Accepted` says. Assumes nothing.
-use mathlib.Core.Path.{_≡_, refl, sym, ap, _∙_, subst}
+use mathlib.Core.Path.{_≡_, sym, _∙_, subst}
 use mathlib.Core.List.{List}
 use mathlib.Core.Logic.{_⊎_, inl, inr}
-use mathlib.Core.Bool.{Bool, true, false, cond}
-use Prim.Native.Nat.{ℕ, zero, suc, _+_, _-_, _≤_, _<_, zero-le}
+use Prim.Native.Nat.{ℕ, _+_, _≤_, _<_}
 use native.Mathlib.Omega.{arith}
 use native.Mathlib.Decide.{decLt, ℕ-discrete}
-use lib.Dec.{eqb}
-use lib.ListN.{getD, length}
+use lib.ListN.{length}
 use lib.IntN.{ℤ}
 use borrow.Author.Tests.{eq-eqb, ne-eqb}
 use Rattle.lines.specs.Line.{numbersOf}
 use Rattle.table.specs.Header.{cells, locks, handles, routines, statements}
-use Rattle.table.specs.Handles.{routineOf, kindOf, originOf, startOf, things, handlesFrom, parameters}
-use Rattle.table.specs.Routines.{countOf, firstOf}
-use Rattle.table.specs.LayoutLaws.{handles-from-most, first-next}
+use Rattle.table.specs.Handles.{routineOf, kindOf, things, handlesFrom, parameters}
+use Rattle.table.specs.Routines.{firstOf}
+use Rattle.table.specs.LayoutLaws.{handles-from-most}
 use Rattle.table.specs.CheckLaws.{Passed, numbers-passed, text-passed}
-use Rattle.table.specs.HandleLaws.{HandleRule, handle-rule, from-grows, own-from, own-upto, own-routine, few-handles, few-parameters, parameters-among, first-without,
-    parameter-before, local-behind}
+use Rattle.table.specs.HandleLaws.{HandleRule, handle-rule, from-grows, own-from, own-upto, own-routine, few-handles, few-parameters, parameters-among, first-without, parameter-before, local-behind}
 use Rattle.table.specs.RoutineLaws as R
 use Rattle.table.specs.LookupLaws.{cells-is, locks-is, handles-length, routines-length, statements-length, statement-is, declaration-says, routine-says, in-routine, routine-in}
 use Rattle.table.specs.StatementLaws as S
 use Rattle.table.specs.NamingLaws.{Naming, named-by, rankOf, naming-falls, first-unnamed}
-use Rattle.table.specs.Table.{tableOf, declaration, routine, statement, statementOf, InRoutine}
+use Rattle.table.specs.Table.{tableOf, declaration, routine, statement, InRoutine}
 use Rattle.table.specs.Accepted.{Accepted, HandleFacts, RoutineFacts, Operands, GoesOn, Names}
 use Rattle.table.specs.declared.Statement.{Statement}
 use Rattle.table.specs.declared.Verdict as Declared
@@ -130,7 +127,7 @@ module _ (f : List ℤ) (p : Passed f) where
       let room : (q : ℕ) → q < routines f → handlesFrom f q + parameters f q ≤ handles f = λ q l. omega (arith, parameters-among f rules q, from-grows f rules q, handles-from-most f (q + 1)) in
       subst (Operands (tableOf f) r) (sym is)
       (S.operands f (λ q l. few-parameters f rules q) room r s b (R.statement-good f p r s b (place .0) (place .1))
-        (λ n. first-unnamed f p r (record { routine-there = b; at = s; low = place .0; high = place .1; names = n })))
+      (λ n. first-unnamed f p r (record { routine-there = b; at = s; low = place .0; high = place .1; names = n })))
 
   goes-on-of : (r s : ℕ) → r < routines f → InRoutine (tableOf f) r s → GoesOn (tableOf f) r s (statement (tableOf f) s)
   goes-on-of r s b i =
@@ -138,7 +135,7 @@ module _ (f : List ℤ) (p : Passed f) where
       let is = statement-is f s (statement-there r s b i) in
       subst (GoesOn (tableOf f) r s) (sym is)
       (S.goes-on f r s (R.statement-good f p r s b (place .0) (place .1))
-        (λ jump return. in-routine f r (s + 1) b (omega arith) (R.not-last f r s (p .end-ok r b) (place .1) jump return)))
+      (λ jump return. in-routine f r (s + 1) b (omega arith) (R.not-last f r s (p .end-ok r b) (place .1) jump return)))
 
   owner-of : (s : ℕ) → s < statements f → (r : ℕ) × (r < length (tableOf f .routines)) × InRoutine (tableOf f) r s
   owner-of s b =

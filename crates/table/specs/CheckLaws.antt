@@ -3,22 +3,21 @@ use mathlib.Core.Path.{_≡_, refl}
 use mathlib.Core.List.{List}
 use mathlib.Core.Option.{Option, none, some}
 use mathlib.Core.Bool.{Bool, true, false, cond}
-use Prim.Native.Nat.{ℕ, zero, suc, _+_, _-_, _/_, _≤_, _<_, zero-le}
+use Prim.Native.Nat.{ℕ, _+_, _-_, _/_, _≤_, _<_, zero-le}
 use native.Mathlib.Omega.{arith}
 use lib.Dec.{ltb}
 use lib.ListN.{length}
 use lib.IntN.{ℤ}
-use borrow.Author.Tests.{ltb-true, ltb-false, eqb-true}
+use borrow.Author.Tests.{ltb-false, eqb-true}
 use Rattle.lines.specs.Line.{firstBad, numbersOf}
 use Rattle.lines.specs.Lowest.{lowest}
-use Rattle.lines.specs.LowestLaws.{Lowest, none-all-good, some-lowest}
+use Rattle.lines.specs.LowestLaws.{none-all-good, some-lowest}
 use Rattle.table.specs.Until.{until, orElse}
-use Rattle.table.specs.Header.{headerOk, lengthOk, leadingOk, handles, routines, statements, handleLine, routineLine, statementLine}
+use Rattle.table.specs.Header.{headerOk, lengthOk, leadingOk, handles, routines, statements}
 use Rattle.table.specs.HeaderLaws.{Sized, header-sized}
 use Rattle.table.specs.Handles.{handleOk}
 use Rattle.table.specs.Routines.{routineOk, sumOk, firstOf}
-use Rattle.table.specs.Statements.{statementOk, badStatement, endOk, lastOf}
-use Rattle.table.specs.SearchLaws.{badIn}
+use Rattle.table.specs.Statements.{badStatement, endOk}
 use Rattle.table.specs.Naming.{namesIn, isNamed, isAcyclic}
 use Rattle.table.specs.Verdict.{verdict, numbersVerdict, declarationVerdict, statementVerdict, namingVerdict, textOk, unlessBad}
 use Rattle.table.specs.declared.Verdict.{Verdict}

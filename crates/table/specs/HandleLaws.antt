@@ -1,12 +1,11 @@
 -- Where the handles of a routine stand, when every handle line keeps its rule: together, parameters first, at most eight and at most four. Assumes nothing.
-use mathlib.Core.Path.{_≡_, refl, sym, ap, _∙_, subst}
+use mathlib.Core.Path.{_≡_, refl, sym, _∙_, subst}
 use mathlib.Core.List.{List}
 use mathlib.Core.Logic.{_⊎_, inl, inr}
-use mathlib.Core.Bool.{Bool, true, false, cond, not, _&&_, _||_}
+use mathlib.Core.Bool.{Bool, true, false, not, _&&_, _||_}
 use Prim.Native.Nat.{ℕ, zero, suc, _+_, _-_, _≤_, _<_, zero-le}
 use native.Mathlib.Omega.{arith}
-use native.Mathlib.Numerals.{add-one}
-use native.Mathlib.Decide.{ℕ-discrete, decLt}
+use native.Mathlib.Decide.{decLt}
 use lib.Dec.{eqb, leb, ltb}
 use lib.IntN.{ℤ}
 use borrow.Author.Tests.{ltb-true, leb-true, le-leb, eqb-true, eqb-false, eq-eqb, not-true}
@@ -14,7 +13,7 @@ use Rattle.table.specs.Until.{until}
 use Rattle.table.specs.Fields.{unused}
 use Rattle.table.specs.UntilLaws.{until-range}
 use Rattle.table.specs.CheckLaws.{until-before, until-at}
-use Rattle.table.specs.Header.{cells, locks, handles, routines, within, handleLine}
+use Rattle.table.specs.Header.{handles, routines, within, handleLine}
 use Rattle.table.specs.HeaderLaws.{both, between}
 use Rattle.table.specs.Handles.{routineOf, kindOf, originOf, startOf, things, handleFieldsOk, sameAbove, handleOrderOk, parameterOk, handleOk, handlesFrom, parameters}
 use Rattle.table.specs.LayoutLaws.{handles-next, handles-from-most}

@@ -1,13 +1,13 @@
 -- Which routines name which, in an accepted text's numbers: the sets say what the statements do, and a number for each routine falls along naming, so no
 -- statement names routine 0. Assumes nothing.
-use mathlib.Core.Path.{_≡_, refl, sym, ap, _∙_, subst}
+use mathlib.Core.Path.{_≡_, refl, sym, subst}
 use mathlib.Core.List.{List}
 use mathlib.Core.Bool.{Bool, true, false, cond}
-use Prim.Native.Nat.{ℕ, zero, suc, _+_, _-_, _/_, _%_, _^_, _≤_, _<_, zero-le}
+use Prim.Native.Nat.{ℕ, zero, suc, _+_, _-_, _/_, _^_, _≤_, _<_, zero-le}
 use native.Mathlib.Omega.{arith}
 use native.Mathlib.Decide.{decLt}
 use lib.Dec.{ltb}
-use lib.ListN.{getD, length, List·getD-eq-default}
+use lib.ListN.{length, List·getD-eq-default}
 use lib.Count.{onesIn}
 use lib.IntN.{ℤ}
 use borrow.Author.Tests.{ltb-true, lt-ltb}
@@ -16,12 +16,12 @@ use Rattle.sets.specs.SetLaws.{has-union-left, has-union-right, union-cases, be
 use Rattle.table.specs.Entry.{entry}
 use Rattle.table.specs.Header.{routines, statements}
 use Rattle.table.specs.Routines.{firstOf}
-use Rattle.table.specs.Naming.{namedBy, gather, namesOf, namesIn, isNamed, isAcyclic, reached}
+use Rattle.table.specs.Naming.{namedBy, gather, namesOf, namesIn, isNamed, reached}
 use Rattle.table.specs.Tabulate.{tabulate}
 use Rattle.table.specs.TabulateLaws.{length-tabulate, getD-tabulate}
 use Rattle.table.specs.CheckLaws.{Passed}
 use Rattle.table.specs.ReachLaws.{In, in-empty, reached-falls}
-use Rattle.table.specs.RoutineLaws.{statement-good, ends-before, some-owner}
+use Rattle.table.specs.RoutineLaws.{statement-good}
 use Rattle.table.specs.StatementLaws.{names-there, names-has, has-names}
 use Rattle.table.specs.Table.{statementOf}
 use Rattle.table.specs.Accepted.{Names}
@@ -88,8 +88,8 @@ module _ (f : List ℤ) (p : Passed f) where
           let b = ltb-true r (routines f) e in
           gather-from (namedBy f) (firstOf f (r + 1) - firstOf f r) 0 (firstOf f r) q (λ o. in-empty q o)
           (λ s low high o.
-            let high′ : s < firstOf f (r + 1) = omega arith in
-            record { routine-there = b; at = s; low = low; high = high′; names = has-names f r s q few (statement-good f p r s b low high′) o })
+          let high′ : s < firstOf f (r + 1) = omega arith in
+          record { routine-there = b; at = s; low = low; high = high′; names = has-names f r s q few (statement-good f p r s b low high′) o })
           k
 
   naming-names : (r q : ℕ) → Naming f r q → In (namesOf f r) q

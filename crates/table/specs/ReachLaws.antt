@@ -1,15 +1,14 @@
 -- What the walk down the named routines reaches: a set that is closed under naming, and the least such. So where no routine reaches itself, the number of
 -- routines reached falls along naming. Assumes nothing.
-use mathlib.Core.Path.{_≡_, refl, sym, ap, _∙_, subst}
+use mathlib.Core.Path.{_≡_, refl, sym, _∙_, subst}
 use mathlib.Core.List.{List}
-use mathlib.Core.Bool.{Bool, true, false, not, _&&_, _||_}
+use mathlib.Core.Bool.{Bool, true, false, not, _||_}
 use Prim.Native.Nat.{ℕ, zero, suc, _+_, _^_, _≤_, _<_}
 use native.Mathlib.Omega.{arith}
 use lib.Dec.{eqb, ltb}
 use borrow.Author.Tests.{ltb-true, ltb-false, eqb-true, eq-eqb, not-true}
 use Rattle.sets.specs.Set.{has, union, minus, with, lowest, count}
-use Rattle.sets.specs.SetLaws.{has-union, has-union-left, has-union-right, union-cases, has-minus, has-with, has-empty, has-beyond, below-of-has, union-below, minus-below,
-    count-with, count-empty, count-below, count-inside-less, lowest-is, lowest-nothing}
+use Rattle.sets.specs.SetLaws.{has-union-left, has-union-right, union-cases, has-minus, has-with, has-empty, has-beyond, below-of-has, union-below, minus-below, count-with, count-below, count-inside-less, lowest-is, lowest-nothing}
 use Rattle.sets.specs.declared.Which.{Which}
 use Rattle.sets.specs.declared.Which.the-variants.{Element, Nothing}
 use Rattle.table.specs.Entry.{entry}
@@ -19,6 +18,10 @@ use Rattle.table.specs.HeaderLaws.{both}
 -- i is in the set s
 abbrev pub In : ℕ → ℕ → Type 0
 In s i = has s i ≡ true
+
+-- all of a is in b
+abbrev pub Inside : ℕ → ℕ → Type 0
+Inside a b = (i : ℕ) → In a i → In b i
 
 -- a set of the first 32 has no other element
 in-below : (s i : ℕ) → s < 2 ^ 32 → In s i → i < 32
@@ -86,8 +89,8 @@ module _ (names : List ℕ) (small : (i : ℕ) → entry names i < 2 ^ 32) where
 
   -- a set that holds both and is closed under naming
   record Covers (todo seen all : ℕ) : Type 0 where
-    holds : (i : ℕ) → In (union seen todo) i → In all i
-    closed : (i j : ℕ) → In all i → In (entry names i) j → In all j
+    holds : Inside (union seen todo) all
+    closed : (i : ℕ) → In all i → Inside (entry names i) all
 
   after : ℕ → ℕ → ℕ → ℕ
   after todo seen i = minus (union todo (entry names i)) (with seen i)
@@ -109,8 +112,8 @@ module _ (names : List ℕ) (small : (i : ℕ) → entry names i < 2 ^ 32) where
         seen-small = with-bound seen i (w .seen-small) b;
         apart = λ j k. minus-out (union todo (entry names i)) (with seen i) j k .1;
         named = λ k j p q. with-cases seen i k b p
-          (λ o. kept todo seen i j b (w .named k j o q))
-          (λ e. parted (union todo (entry names i)) (with seen i) j
+            (λ o. kept todo seen i j b (w .named k j o q))
+            (λ e. parted (union todo (entry names i)) (with seen i) j
             (has-union-right todo (entry names i) j (subst (λ (x : ℕ). In (entry names x) j) e q)));
       }
 
@@ -127,7 +130,7 @@ module _ (names : List ℕ) (small : (i : ℕ) → entry names i < 2 ^ 32) where
   done todo seen w none =
       record {
         holds = λ i h. union-cases seen todo i (λ o. o) (λ o. absurd (none i o)) h;
-        closed = λ i j h k. union-cases seen todo j (λ o. o) (λ o. absurd (none j o)) (w .named i j h k);
+        closed = λ i h j k. union-cases seen todo j (λ o. o) (λ o. absurd (none j o)) (w .named i j h k);
       }
 
   walk-covers : (left todo seen : ℕ) → Walking todo seen → 32 ≤ count seen + left → Covers todo seen (walk names todo seen left)
@@ -150,8 +153,8 @@ module _ (names : List ℕ) (small : (i : ℕ) → entry names i < 2 ^ 32) where
 
   -- ---- the walk reaches nothing but what a closed set that holds its start holds
 
-  walk-least : (all : ℕ) → ((i j : ℕ) → In all i → In (entry names i) j → In all j) → (left todo seen : ℕ) → todo < 2 ^ 32
-      → ((i : ℕ) → In todo i → In all i) → ((i : ℕ) → In seen i → In all i) → (i : ℕ) → In (walk names todo seen left) i → In all i
+  walk-least : (all : ℕ) → ((i : ℕ) → In all i → Inside (entry names i) all) → (left todo seen : ℕ) → todo < 2 ^ 32 → Inside todo all → Inside seen all
+      → Inside (walk names todo seen left) all
   unfolding walk after
   walk-least all closed zero todo seen b t s = s
   walk-least all closed (suc left) todo seen b t s = go (lowest todo) refl (walk-least all closed left)
@@ -159,15 +162,14 @@ module _ (names : List ℕ) (small : (i : ℕ) → entry names i < 2 ^ 32) where
       next : ℕ → ℕ
       next i = walk names (after todo seen i) (with seen i) left
 
-      go : (o : Which) → lowest todo ≡ o
-          → ((todo seen : ℕ) → todo < 2 ^ 32 → ((i : ℕ) → In todo i → In all i) → ((i : ℕ) → In seen i → In all i) → (i : ℕ) → In (walk names todo seen left) i → In all i)
-          → (i : ℕ) → In (onWhich o seen next) i → In all i
+      go : (o : Which) → lowest todo ≡ o → ((a b : ℕ) → a < 2 ^ 32 → Inside a all → Inside b all → Inside (walk names a b left) all)
+          → Inside (onWhich o seen next) all
       go Nothing e ih = s
       go (Element i) e ih =
           let h : In todo i = lowest-is todo i (omega arith) e .0 in
           let l : i < 32 = in-below todo i b h in
           ih (after todo seen i) (with seen i) (minus-below 32 (with seen i) (union-below 32 b (small i)))
-          (λ j k. union-cases todo (entry names i) j (t j) (λ o. closed i j (t i h) o) (minus-out (union todo (entry names i)) (with seen i) j k .0))
+          (λ j k. union-cases todo (entry names i) j (t j) (closed i (t i h) j) (minus-out (union todo (entry names i)) (with seen i) j k .0))
           (λ j k. with-cases seen i j l k (s j) (λ e′. subst (In all) (sym e′) (t i h)))
 
   -- ---- what a routine reaches
@@ -179,22 +181,22 @@ module _ (names : List ℕ) (small : (i : ℕ) → entry names i < 2 ^ 32) where
       record { todo-small = small r; seen-small = omega arith; apart = λ i h. has-empty i; named = λ i j h k. in-empty i h } in
       walk-covers 32 (entry names r) 0 start (omega arith)
 
-  pub reached-named : (r q : ℕ) → In (entry names r) q → In (reached names r) q
+  pub reached-named : (r : ℕ) → Inside (entry names r) (reached names r)
   reached-named r q h = reached-covers r .holds q (has-union-right 0 (entry names r) q h)
 
-  pub reached-closed : (r i j : ℕ) → In (reached names r) i → In (entry names i) j → In (reached names r) j
+  pub reached-closed : (r i : ℕ) → In (reached names r) i → Inside (entry names i) (reached names r)
   reached-closed r = reached-covers r .closed
 
   -- what a named routine reaches, the naming one reaches
-  pub reached-inside : (r q i : ℕ) → In (entry names r) q → In (reached names q) i → In (reached names r) i
+  pub reached-inside : (r q : ℕ) → In (entry names r) q → Inside (reached names q) (reached names r)
   unfolding reached
-  reached-inside r q i h =
-      walk-least (reached names r) (reached-closed r) 32 (entry names q) 0 (small q)
-      (λ j k. reached-closed r q j (reached-named r q h) k) (λ j k. in-empty j k) i
+  reached-inside r q h =
+      walk-least (reached names r) (reached-closed r) 32 (entry names q) 0 (small q) (reached-closed r q (reached-named r q h)) (λ j k. in-empty j k)
 
   -- the number of routines reached falls along naming, to a routine that does not reach itself
   pub reached-falls : (r q : ℕ) → In (entry names r) q → isAcyclic names q ≡ true → count (reached names q) < count (reached names r)
   unfolding isAcyclic
   reached-falls r q h a =
       let l = in-below (entry names r) q (small r) h in
-      count-inside-less (reached names q) (reached names r) q (λ i k. reached-inside r q i h k) (omega arith) (not-true (has (reached names q) q) a) (reached-named r q h)
+      let out = not-true (has (reached names q) q) a in
+      count-inside-less (reached names q) (reached names r) q (reached-inside r q h) (omega arith) out (reached-named r q h)

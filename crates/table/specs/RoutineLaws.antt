@@ -1,6 +1,6 @@
 -- Where the statements of a routine stand, when every routine line keeps its rule and the counts add up: each statement in exactly one routine; and
 -- that each keeps its rule there, when none is found bad. Assumes nothing.
-use mathlib.Core.Path.{_≡_, refl, sym, ap, _∙_, subst}
+use mathlib.Core.Path.{_≡_, refl, subst}
 use mathlib.Core.List.{List}
 use mathlib.Core.Logic.{_⊎_, inl, inr}
 use mathlib.Core.Bool.{Bool, true, false, cond, _||_}
@@ -104,7 +104,7 @@ not-last f r s e b jump return = go (decLt (s + 1) (firstOf f (r + 1)))
   where
     last : lastOf f r ≡ s → ⊥
     last k =
-        let at : (eqb (operation f s) 10 || eqb (operation f s) 12) ≡ true = subst (λ (x : ℕ). (eqb (operation f x) 10 || eqb (operation f x) 12) ≡ true) k e in
+        let at = subst (λ (x : ℕ). (eqb (operation f x) 10 || eqb (operation f x) 12) ≡ true) k e in
         by (either (eqb (operation f s) 10) (eqb (operation f s) 12) at)
       where
         by : (eqb (operation f s) 10 ≡ true) ⊎ (eqb (operation f s) 12 ≡ true) → ⊥

@@ -1,17 +1,17 @@
 -- A statement that keeps its rule, by its operation: its operands, what it names, and where it goes on. Assumes nothing.
-use mathlib.Core.Path.{_≡_, refl, sym, ap, _∙_, subst}
+use mathlib.Core.Path.{_≡_, refl, sym, _∙_, subst}
 use mathlib.Core.List.{List}
-use mathlib.Core.Bool.{Bool, true, false, cond, _&&_, _||_}
+use mathlib.Core.Bool.{true, false, cond, _&&_, _||_}
 use Prim.Native.Nat.{ℕ, zero, suc, _+_, _≤_, _<_}
 use native.Mathlib.Omega.{arith}
 use native.Mathlib.Decide.{decLt}
 use lib.Dec.{eqb, leb, ltb}
-use lib.ListN.{getD, length}
+use lib.ListN.{getD}
 use lib.IntN.{ℤ}
 use borrow.Author.Tests.{ltb-true, lt-ltb, leb-true, eqb-true, eq-eqb, ne-eqb}
 use Rattle.sets.specs.Set.{has, one}
 use Rattle.sets.specs.SetLaws.{has-one}
-use Rattle.table.specs.Fields.{field, number, unused}
+use Rattle.table.specs.Fields.{number, unused}
 use Rattle.table.specs.Header.{handles, routines, statementLine}
 use Rattle.table.specs.HeaderLaws.{both}
 use Rattle.table.specs.Handles.{routineOf, kindOf, handlesFrom, parameters}
@@ -74,8 +74,20 @@ unfolding operationOk
 unknown f r line op n =
     let t : (k : ℕ) → 1 ≤ k → k ≤ 12 → eqb op k ≡ false = λ k a b. ne-eqb op k (n k a b) in
     let small : (k : ℕ) → k < 12 → eqb op (suc k) ≡ false = λ k a. t (suc k) (omega arith) (omega arith) in
-    rw (small 0 (omega arith), small 1 (omega arith), small 2 (omega arith), small 3 (omega arith), small 4 (omega arith), small 5 (omega arith),
-        small 6 (omega arith), small 7 (omega arith), small 8 (omega arith), small 9 (omega arith), small 10 (omega arith), small 11 (omega arith))
+    rw (
+      small 0 (omega arith),
+      small 1 (omega arith),
+      small 2 (omega arith),
+      small 3 (omega arith),
+      small 4 (omega arith),
+      small 5 (omega arith),
+      small 6 (omega arith),
+      small 7 (omega arith),
+      small 8 (omega arith),
+      small 9 (omega arith),
+      small 10 (omega arith),
+      small 11 (omega arith),
+    )
 
 -- an operation that keeps its rule is one of the twelve
 known : (f : List ℤ) (r line op : ℕ) → operationOk f r line op ≡ true → (1 ≤ op) × (op ≤ 12)
@@ -92,7 +104,7 @@ known f r line op e = go (decLt 0 op) (decLt op 13)
 -- so what holds for each of the twelve operations whose rule holds, holds of each statement that keeps its rule
 by-operation : (f : List ℤ) (r s : ℕ) (P : ℕ → Type 0) → statementOk f r s ≡ true
     → (let R : ℕ → Type 0 = λ op. operation f s ≡ op → operationOk f r (statementLine f s) op ≡ true → P op in
-       R 1 → R 2 → R 3 → R 4 → R 5 → R 6 → R 7 → R 8 → R 9 → R 10 → R 11 → R 12 → P (operation f s))
+    R 1 → R 2 → R 3 → R 4 → R 5 → R 6 → R 7 → R 8 → R 9 → R 10 → R 11 → R 12 → P (operation f s))
 unfolding statementOk
 by-operation f r s P ok a b c d e g h i j k l m =
     let range = known f r (statementLine f s) (operation f s) ok in
