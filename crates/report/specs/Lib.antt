@@ -1,0 +1,12 @@
+pub mod Over
+pub mod Greatest
+pub mod Copies
+pub mod Operations
+pub mod Flow
+pub mod Effect
+pub mod Held
+pub mod Future
+pub mod Findings
+pub mod Report
+pub mod Cases
+pub mod Vectors
