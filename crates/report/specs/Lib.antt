@@ -9,4 +9,5 @@ pub mod Future
 pub mod Findings
 pub mod Report
 pub mod Cases
+pub mod Notebook
 pub mod Vectors
