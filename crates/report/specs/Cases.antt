@@ -12,7 +12,7 @@ use Rattle.table.specs.Routines.{firstOf}
 use Rattle.table.specs.Table.{tabulateFrom, tabulate, statementOf, declarationOf, routineAt, tableOf}
 use Rattle.report.specs.Over.{joinedFrom, unionFrom, interFrom, countFrom, unionAt, froms, tos, leastAlong}
 use Rattle.report.specs.Greatest.{leaving, narrow, narrowAll, leftOut, greatest}
-use Rattle.report.specs.Copies.{named, isIn, ownerOf, oneEach}
+use Rattle.report.specs.Layout.{named, isIn, ownerOf, oneEach}
 use Rattle.report.specs.Operations.{nexts, byNaming, isReturn, accessed, given}
 use Rattle.report.specs.Flow.{startOf, passing, flowEdges, allFlowEdges, flowStarts, flowSets}
 use Rattle.report.specs.Effect.{overCopy, upFrom, namingEdges, callEdges, effects, gives, effectOf}

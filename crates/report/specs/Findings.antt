@@ -8,7 +8,7 @@ use Rattle.table.specs.Table.{Table, statement}
 use Rattle.table.specs.declared.Statement.{Statement}
 use Rattle.table.specs.declared.Statement.the-variants.{Read, Write, Set, Add, Take, Give, Point, Call, Start, Jump, JumpZero, Return}
 use Rattle.report.specs.Over.{unionFrom, interFrom, countFrom, unionAt}
-use Rattle.report.specs.Copies.{Copies}
+use Rattle.report.specs.Layout.{Layout}
 use Rattle.report.specs.Operations.{Access, reading, writing, accessed, byNaming}
 use Rattle.report.specs.Flow.{flowAt, flowSets}
 use Rattle.report.specs.Effect.{effects, gives}
@@ -25,7 +25,7 @@ pub record Sets : Type 0 where
   pub futureReads : List ℕ
   pub futureWrites : List ℕ
 
-unfoldable pub setsOf : Table → Copies → Sets
+unfoldable pub setsOf : Table → Layout → Sets
 setsOf t k =
     let flow = flowSets t k in
     let reads = effects t k flow reading in
@@ -49,27 +49,27 @@ clash reads writes otherReads otherWrites =
     inter (inter (union reads writes) (union otherReads otherWrites)) (union writes otherWrites)
 
 -- "A cell is shared if at some START the effect of the started routine and the future of that START both touch it and one of them writes it"
-unfoldable pub sharedAt : Table → Copies → Sets → ℕ → ℕ
+unfoldable pub sharedAt : Table → Layout → Sets → ℕ → ℕ
 sharedAt t k a p =
     let d = k .leads (k .statementCopy p) (k .statementAt p) in
     byNaming 0 (clash (getD (a .reads) d 0) (getD (a .writes) d 0) (getD (a .futureReads) p 0) (getD (a .futureWrites) p 0)) 0
     (statement t (k .statementAt p))
 
-unfoldable pub sharedCells : Table → Copies → Sets → ℕ
+unfoldable pub sharedCells : Table → Layout → Sets → ℕ
 sharedCells t k a = unionFrom 0 (k .statements) (sharedAt t k a)
 
 -- ---- common locks
 
 -- the cells that the statement at a place reads or writes itself
-unfoldable pub ownAccess : Table → Copies → Sets → Access → ℕ → ℕ
+unfoldable pub ownAccess : Table → Layout → Sets → Access → ℕ → ℕ
 ownAccess t k a w p = accessed w (flowAt k (a .flow) (k .statementCopy p)) 0 (statement t (k .statementAt p))
 
 -- the statement at a place is an access of cell x
-unfoldable pub touchesAt : Table → Copies → Sets → ℕ → ℕ → Bool
+unfoldable pub touchesAt : Table → Layout → Sets → ℕ → ℕ → Bool
 touchesAt t k a x p = has (ownAccess t k a reading p) x || has (ownAccess t k a writing p) x
 
 -- "Common locks of a cell: the intersection of the held sets of all its access statements; all locks if there are none"
-unfoldable pub commonLocks : Table → Copies → Sets → ℕ → ℕ
+unfoldable pub commonLocks : Table → Layout → Sets → ℕ → ℕ
 commonLocks t k a x =
     interFrom (allLocks t) 0 (k .statements) (λ p. cond (touchesAt t k a x p) (getD (a .held) p 0) (allLocks t))
 
@@ -94,15 +94,15 @@ strayBy flow held (Jump s) = false
 strayBy flow held (JumpZero s) = false
 strayBy flow held Return = false
 
-unfoldable pub strayAt : Table → Copies → Sets → ℕ → Bool
+unfoldable pub strayAt : Table → Layout → Sets → ℕ → Bool
 strayAt t k a p = strayBy (flowAt k (a .flow) (k .statementCopy p)) (getD (a .held) p 0) (statement t (k .statementAt p))
 
 -- ---- by statements of the table
 
 -- how many statements read, or write, cell x: "a statement is an access if it is one in some copy"
-unfoldable pub accessCount : Table → Copies → Sets → Access → ℕ → ℕ
+unfoldable pub accessCount : Table → Layout → Sets → Access → ℕ → ℕ
 accessCount t k a w x = countFrom 0 (length (t .statements)) (λ s. has (unionAt (k .placesOf s) (ownAccess t k a w)) x)
 
 -- statement s is a stray GIVE in some copy
-unfoldable pub isStray : Table → Copies → Sets → ℕ → Bool
+unfoldable pub isStray : Table → Layout → Sets → ℕ → Bool
 isStray t k a s = has (unionAt (k .placesOf s) (λ p. cond (strayAt t k a p) 1 0)) 0

@@ -11,10 +11,10 @@ use Rattle.table.specs.declared.Arguments.{Arguments}
 use Rattle.table.specs.declared.Statement.{Statement}
 use Rattle.table.specs.declared.Statement.the-variants.{Read, Write, Set, Add, Take, Give, Point, Call, Start, Jump, JumpZero, Return}
 use Rattle.report.specs.Over.{joinedFrom, Edge, leastAlong}
-use Rattle.report.specs.Copies.{Copies}
+use Rattle.report.specs.Layout.{Layout}
 
 -- the flow set of handle h of copy c
-abbrev pub flowAt : Copies → List ℕ → ℕ → ℕ → ℕ
+abbrev pub flowAt : Layout → List ℕ → ℕ → ℕ → ℕ
 flowAt k flow c h = getD flow (k .handlePlace c h) 0
 
 -- a local's set holds its start
@@ -22,13 +22,13 @@ unfoldable pub startOf : Table → ℕ → ℕ
 startOf t h = cond (eqb (declaration t h .origin) 1) (one (declaration t h .start)) 0
 
 -- each argument's set goes into its parameter's: from copy c to copy d of routine q
-unfoldable pub passing : Table → Copies → ℕ → ℕ → ℕ → Arguments → List Edge
+unfoldable pub passing : Table → Layout → ℕ → ℕ → ℕ → Arguments → List Edge
 passing t k c d q a =
     joinedFrom 0 (routine t q .parameters)
     (λ j. record { from = k .handlePlace c (getD (passed a) j 0); to = k .handlePlace d (routine t q .handle + j) } ∷ [])
 
 -- what statement s of copy c puts into what
-unfoldable pub flowEdges : Table → Copies → ℕ → ℕ → Statement → List Edge
+unfoldable pub flowEdges : Table → Layout → ℕ → ℕ → Statement → List Edge
 flowEdges t k c s (Read h) = []
 flowEdges t k c s (Write h) = []
 flowEdges t k c s (Set n) = []
@@ -43,13 +43,13 @@ flowEdges t k c s (JumpZero q) = []
 flowEdges t k c s Return = []
 
 -- those of all statements
-unfoldable pub allFlowEdges : Table → Copies → List Edge
+unfoldable pub allFlowEdges : Table → Layout → List Edge
 allFlowEdges t k =
     joinedFrom 0 (k .statements) (λ p. flowEdges t k (k .statementCopy p) (k .statementAt p) (statement t (k .statementAt p)))
 
 -- the sets before anything flows
-unfoldable pub flowStarts : Table → Copies → List ℕ
+unfoldable pub flowStarts : Table → Layout → List ℕ
 flowStarts t k = tabulate (k .handles) (λ p. startOf t (k .handleAt p))
 
-unfoldable pub flowSets : Table → Copies → List ℕ
+unfoldable pub flowSets : Table → Layout → List ℕ
 flowSets t k = leastAlong (allFlowEdges t k) (flowStarts t k)

@@ -1,6 +1,9 @@
+pub mod Rules
 pub mod Over
+pub mod OverLaws
 pub mod Greatest
-pub mod Copies
+pub mod GreatestLaws
+pub mod Layout
 pub mod Operations
 pub mod Flow
 pub mod Effect

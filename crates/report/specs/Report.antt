@@ -8,7 +8,7 @@ use lib.IntN.{ℤ, pos}
 use Rattle.sets.specs.Set.{has}
 use Rattle.table.specs.Table.{Table}
 use Rattle.report.specs.Over.{joinedFrom}
-use Rattle.report.specs.Copies.{Copies, oneEach}
+use Rattle.report.specs.Layout.{Layout, oneEach}
 use Rattle.report.specs.Operations.{reading, writing}
 use Rattle.report.specs.Findings.{Sets, setsOf, sharedCells, commonLocks, isUnguarded, accessCount, isStray}
 
@@ -16,20 +16,20 @@ abbrev pub bit : Bool → ℕ
 bit b = cond b 1 0
 
 -- "51, cell, reading statements, writing statements, shared (1 or 0), common locks as the sum of 2 to the lock number, unguarded (1 or 0), 0"
-unfoldable pub cellLine : Table → Copies → Sets → ℕ → ℕ → List ℕ
+unfoldable pub cellLine : Table → Layout → Sets → ℕ → ℕ → List ℕ
 cellLine t k a shared x =
     let common = commonLocks t k a x in
     51 ∷ x ∷ accessCount t k a reading x ∷ accessCount t k a writing x ∷ bit (has shared x) ∷ common ∷ bit (isUnguarded shared common x) ∷ 0 ∷ []
 
 -- "for each cell in order"
-unfoldable pub cellLines : Table → Copies → Sets → List (List ℕ)
+unfoldable pub cellLines : Table → Layout → Sets → List (List ℕ)
 cellLines t k a = let shared = sharedCells t k a in joinedFrom 0 (t .cells) (λ x. cellLine t k a shared x ∷ [])
 
 -- "then 52, statement, six zeros, for each stray GIVE in order"
 unfoldable pub strayLine : ℕ → List ℕ
 strayLine s = 52 ∷ s ∷ 0 ∷ 0 ∷ 0 ∷ 0 ∷ 0 ∷ 0 ∷ []
 
-unfoldable pub strayLines : Table → Copies → Sets → List (List ℕ)
+unfoldable pub strayLines : Table → Layout → Sets → List (List ℕ)
 strayLines t k a = joinedFrom 0 (length (t .statements)) (λ s. cond (isStray t k a s) (strayLine s ∷ []) [])
 
 -- of the lines, how many begin with a number and have 1 in field j
@@ -41,7 +41,7 @@ linesWith begin j value (l ∷ ls) = bit (eqb (getD l 0 0) begin && eqb (getD l 
 unfoldable pub totalLine : List (List ℕ) → List ℕ
 totalLine ls = 59 ∷ linesWith 51 6 1 ls ∷ linesWith 52 7 0 ls ∷ 0 ∷ 0 ∷ 0 ∷ 0 ∷ 0 ∷ []
 
-unfoldable pub linesFor : Table → Copies → List (List ℕ)
+unfoldable pub linesFor : Table → Layout → List (List ℕ)
 linesFor t k =
     let a = setsOf t k in
     let ls = cellLines t k a ++ strayLines t k a in

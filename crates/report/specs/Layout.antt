@@ -12,7 +12,7 @@ use Rattle.table.specs.declared.Statement.{Statement}
 use Rattle.table.specs.declared.Statement.the-variants.{Read, Write, Set, Add, Take, Give, Point, Call, Start, Jump, JumpZero, Return}
 
 -- copies of routines, and the places of their handles and statements in lists of sets
-pub record Copies : Type 0 where
+pub record Layout : Type 0 where
   -- how many copies, the one of routine 0, and the routine of each
   pub copies : ℕ
   pub first : ℕ
@@ -56,7 +56,7 @@ unfoldable pub ownerOf : Table → ℕ → ℕ
 ownerOf t s = until (λ r. not (isIn t s r)) 0 (length (t .routines))
 
 -- one copy of each routine
-unfoldable pub oneEach : Table → Copies
+unfoldable pub oneEach : Table → Layout
 oneEach t =
     let owners : List ℕ = tabulate (length (t .statements)) (ownerOf t) in
     record {
