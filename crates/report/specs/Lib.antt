@@ -4,8 +4,12 @@ pub mod OverLaws
 pub mod Greatest
 pub mod GreatestLaws
 pub mod Layout
+pub mod Fits
+pub mod OneEach
 pub mod Operations
+pub mod PlaceLaws
 pub mod Flow
+pub mod FlowLaws
 pub mod Effect
 pub mod Held
 pub mod Future
