@@ -2,12 +2,13 @@
 -- is that of the routine it names." And the locks that a GIVE in a routine, or in what it reaches by CALLs, has in its flow set.
 -- Lists of sets, one for each copy. Assumes nothing.
 use Prim.Native.Nat.{ℕ}
+use mathlib.Core.Bool.{Bool}
 use mathlib.Core.List.{List, [], _∷_}
 use lib.ListN.{getD}
 use Rattle.table.specs.Table.{Table, routine, statement, tabulate}
 use Rattle.report.specs.Over.{joinedFrom, unionFrom, Edge, leastAlong}
 use Rattle.report.specs.Layout.{Layout}
-use Rattle.report.specs.Operations.{Access, accessed, given, byNaming}
+use Rattle.report.specs.Operations.{accessed, given, byNaming}
 use Rattle.report.specs.Flow.{flowAt}
 
 -- the union over the statements of copy c
@@ -28,9 +29,9 @@ unfoldable pub callEdges : Table → Layout → List Edge
 callEdges t k = joinedFrom 0 (k .statements) (λ p. byNaming (upFrom k p ∷ []) [] [] (statement t (k .statementAt p)))
 
 -- the reads or the writes of each copy
-unfoldable pub effects : Table → Layout → List ℕ → Access → List ℕ
-effects t k flow a =
-    leastAlong (namingEdges t k) (tabulate (k .copies) (λ c. overCopy t k (λ s. accessed a (flowAt k flow c) 0 (statement t s)) c))
+unfoldable pub effects : Table → Layout → List ℕ → Bool → List ℕ
+effects t k flow w =
+    leastAlong (namingEdges t k) (tabulate (k .copies) (λ c. overCopy t k (λ s. accessed w (flowAt k flow c) 0 (statement t s)) c))
 
 -- the locks that each copy may give up
 unfoldable pub gives : Table → Layout → List ℕ → List ℕ
@@ -38,5 +39,5 @@ gives t k flow =
     leastAlong (callEdges t k) (tabulate (k .copies) (λ c. overCopy t k (λ s. given (flowAt k flow c) (statement t s)) c))
 
 -- the effect of statement s of copy c: its own reads or writes, or those of the routine that it names
-unfoldable pub effectOf : Table → Layout → List ℕ → List ℕ → Access → ℕ → ℕ → ℕ
-effectOf t k flow effect a c s = accessed a (flowAt k flow c) (getD effect (k .leads c s) 0) (statement t s)
+unfoldable pub effectOf : Table → Layout → List ℕ → List ℕ → Bool → ℕ → ℕ → ℕ
+effectOf t k flow effect w c s = accessed w (flowAt k flow c) (getD effect (k .leads c s) 0) (statement t s)

@@ -9,7 +9,7 @@ use Rattle.table.specs.declared.Statement.{Statement}
 use Rattle.table.specs.declared.Statement.the-variants.{Read, Write, Set, Add, Take, Give, Point, Call, Start, Jump, JumpZero, Return}
 use Rattle.report.specs.Over.{unionFrom, interFrom, countFrom, unionAt}
 use Rattle.report.specs.Layout.{Layout}
-use Rattle.report.specs.Operations.{Access, reading, writing, accessed, byNaming}
+use Rattle.report.specs.Operations.{reading, writing, accessed, byNaming}
 use Rattle.report.specs.Flow.{flowAt, flowSets}
 use Rattle.report.specs.Effect.{effects, gives}
 use Rattle.report.specs.Held.{allLocks, heldSets}
@@ -61,7 +61,7 @@ sharedCells t k a = unionFrom 0 (k .statements) (sharedAt t k a)
 -- ---- common locks
 
 -- the cells that the statement at a place reads or writes itself
-unfoldable pub ownAccess : Table → Layout → Sets → Access → ℕ → ℕ
+unfoldable pub ownAccess : Table → Layout → Sets → Bool → ℕ → ℕ
 ownAccess t k a w p = accessed w (flowAt k (a .flow) (k .statementCopy p)) 0 (statement t (k .statementAt p))
 
 -- the statement at a place is an access of cell x
@@ -100,7 +100,7 @@ strayAt t k a p = strayBy (flowAt k (a .flow) (k .statementCopy p)) (getD (a .he
 -- ---- by statements of the table
 
 -- how many statements read, or write, cell x: "a statement is an access if it is one in some copy"
-unfoldable pub accessCount : Table → Layout → Sets → Access → ℕ → ℕ
+unfoldable pub accessCount : Table → Layout → Sets → Bool → ℕ → ℕ
 accessCount t k a w x = countFrom 0 (length (t .statements)) (λ s. has (unionAt (k .placesOf s) (ownAccess t k a w)) x)
 
 -- statement s is a stray GIVE in some copy

@@ -11,6 +11,7 @@ pub mod PlaceLaws
 pub mod Flow
 pub mod FlowLaws
 pub mod Effect
+pub mod EffectLaws
 pub mod Held
 pub mod Future
 pub mod Findings

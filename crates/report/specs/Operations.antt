@@ -1,6 +1,6 @@
 -- What each operation is to the rules of the report. Assumes nothing.
 use Prim.Native.Nat.{ℕ, _+_}
-use mathlib.Core.Bool.{Bool, true, false}
+use mathlib.Core.Bool.{Bool, true, false, cond}
 use mathlib.Core.List.{List, [], _∷_}
 use Rattle.table.specs.declared.Statement.{Statement}
 use Rattle.table.specs.declared.Statement.the-variants.{Read, Write, Set, Add, Take, Give, Point, Call, Start, Jump, JumpZero, Return}
@@ -50,29 +50,27 @@ isReturn (Jump s) = false
 isReturn (JumpZero s) = false
 isReturn Return = true
 
--- reads and writes are told apart by which of the two is asked for
-pub data Access : Type 0 where
-  reading : Access
-  writing : Access
+-- reads (false) and writes (true)
+abbrev pub reading : Bool
+reading = false
 
-abbrev pub byAccess : Access → ℕ → ℕ → ℕ
-byAccess reading r w = r
-byAccess writing r w = w
+abbrev pub writing : Bool
+writing = true
 
 -- the cells that a statement itself reads or writes, by the flow sets of its handles, or else `effect` for a CALL or START
-unfoldable pub accessed : Access → (ℕ → ℕ) → ℕ → Statement → ℕ
-accessed a flow effect (Read h) = byAccess a (flow (h .number)) 0
-accessed a flow effect (Write h) = byAccess a 0 (flow (h .number))
-accessed a flow effect (Set n) = 0
-accessed a flow effect (Add n) = 0
-accessed a flow effect (Take h) = 0
-accessed a flow effect (Give h) = 0
-accessed a flow effect (Point h g) = 0
-accessed a flow effect (Call q b) = effect
-accessed a flow effect (Start q b) = effect
-accessed a flow effect (Jump s) = 0
-accessed a flow effect (JumpZero s) = 0
-accessed a flow effect Return = 0
+unfoldable pub accessed : Bool → (ℕ → ℕ) → ℕ → Statement → ℕ
+accessed w flow effect (Read h) = cond w 0 (flow (h .number))
+accessed w flow effect (Write h) = cond w (flow (h .number)) 0
+accessed w flow effect (Set n) = 0
+accessed w flow effect (Add n) = 0
+accessed w flow effect (Take h) = 0
+accessed w flow effect (Give h) = 0
+accessed w flow effect (Point h g) = 0
+accessed w flow effect (Call q a) = effect
+accessed w flow effect (Start q a) = effect
+accessed w flow effect (Jump s) = 0
+accessed w flow effect (JumpZero s) = 0
+accessed w flow effect Return = 0
 
 -- the locks that a GIVE has in its flow set
 unfoldable pub given : (ℕ → ℕ) → Statement → ℕ
