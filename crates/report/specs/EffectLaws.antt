@@ -217,3 +217,81 @@ module _ (t : Table) (k : Layout) (fits : Fits t k) (flow : List ℕ) (below : (
 
   pub effect-rules : EffectRules (copiesOf fits) (FlowHas k flow) (EffectHas (effects t k flow))
   effect-rules = record { of-statement = λ c s w x v σ e d. does-in c s w x v σ e d }
+
+  -- ---- the effect of a statement, as a set and by the rule
+
+  from-reads : (w : Bool) (x a : ℕ) → has (cond w 0 a) x ≡ true → (w ≡ false) × (has a x ≡ true)
+  from-reads true x a h = none-in x h
+  from-reads false x a h = (refl, h)
+
+  from-writes : (w : Bool) (x a : ℕ) → has (cond w a 0) x ≡ true → (w ≡ true) × (has a x ≡ true)
+  from-writes true x a h = (refl, h)
+  from-writes false x a h = none-in x h
+
+  module _ (effect : ℕ → Bool → ℕ → Type 0) (c s : ℕ) (w : Bool) (e x : ℕ) where
+    pub accessed-does : (has e x ≡ true → effect (k .leads c s) w x) → (σ : Statement) → has (accessed w (flowAt k flow c) e σ) x ≡ true
+        → Does (copiesOf fits) (FlowHas k flow) effect c s σ w x
+    unfolding accessed
+    accessed-does f (Read h) a = from-reads w x _ a
+    accessed-does f (Write h) a = from-writes w x _ a
+    accessed-does f (Set n) a = none-in x a
+    accessed-does f (Add n) a = none-in x a
+    accessed-does f (Take h) a = none-in x a
+    accessed-does f (Give h) a = none-in x a
+    accessed-does f (Point h g) a = none-in x a
+    accessed-does f (Call q b) a = f a
+    accessed-does f (Start q b) a = f a
+    accessed-does f (Jump z) a = none-in x a
+    accessed-does f (JumpZero z) a = none-in x a
+    accessed-does f Return a = none-in x a
+
+    pub does-accessed : (effect (k .leads c s) w x → has e x ≡ true) → (σ : Statement) → Does (copiesOf fits) (FlowHas k flow) effect c s σ w x
+        → has (accessed w (flowAt k flow c) e σ) x ≡ true
+    unfolding accessed
+    does-accessed f (Read h) d = reads-of w x _ d
+    does-accessed f (Write h) d = writes-of w x _ d
+    does-accessed f (Set n) d = absurd d
+    does-accessed f (Add n) d = absurd d
+    does-accessed f (Take h) d = absurd d
+    does-accessed f (Give h) d = absurd d
+    does-accessed f (Point h g) d = absurd d
+    does-accessed f (Call q b) d = f d
+    does-accessed f (Start q b) d = f d
+    does-accessed f (Jump z) d = absurd d
+    does-accessed f (JumpZero z) d = absurd d
+    does-accessed f Return d = absurd d
+
+  module _ (other : ℕ → Bool → ℕ → Type 0) (rules : EffectRules (copiesOf fits) (FlowHas k flow) other) (w : Bool) where
+    up-naming : (c s : ℕ) → Place (copiesOf fits) c s → (σ : Statement) → statement t s ≡ σ → (e : Edge)
+        → List·Memᴰ e (byNaming (record { from = k .leads c s; to = c } ∷ []) (record { from = k .leads c s; to = c } ∷ []) [] σ)
+        → (x : ℕ) → other (e .from) w x → other (e .to) w x
+    unfolding byNaming
+    up-naming c s v (Read h) q e m x a = elim m [ ]
+    up-naming c s v (Write h) q e m x a = elim m [ ]
+    up-naming c s v (Set n) q e m x a = elim m [ ]
+    up-naming c s v (Add n) q e m x a = elim m [ ]
+    up-naming c s v (Take h) q e m x a = elim m [ ]
+    up-naming c s v (Give h) q e m x a = elim m [ ]
+    up-naming c s v (Point h g) q e m x a = elim m [ ]
+    up-naming c s v (Call r b) q e m x a =
+        let i : e ≡ record { from = k .leads c s; to = c } = List·Memᴰ·eq-of-singleton m in
+        subst (λ (d : Edge). other (d .to) w x) (sym i) (rules .of-statement c s w x v (Call r b) q (subst (λ (d : Edge). other (d .from) w x) i a))
+    up-naming c s v (Start r b) q e m x a =
+        let i : e ≡ record { from = k .leads c s; to = c } = List·Memᴰ·eq-of-singleton m in
+        subst (λ (d : Edge). other (d .to) w x) (sym i) (rules .of-statement c s w x v (Start r b) q (subst (λ (d : Edge). other (d .from) w x) i a))
+    up-naming c s v (Jump z) q e m x a = elim m [ ]
+    up-naming c s v (JumpZero z) q e m x a = elim m [ ]
+    up-naming c s v Return q e m x a = elim m [ ]
+
+    -- inside any sets that satisfy the rules
+    pub effect-least : (c x : ℕ) → EffectHas (effects t k flow) c w x → other c w x
+    unfolding effects namingEdges upFrom
+    effect-least =
+        up-induction t k fits (accessOf w) (accessOf-below w) (namingEdges t k) (λ c x. other c w x)
+        (λ e m x a.
+        let r : (p : ℕ) × (p < k .statements)
+                × List·Memᴰ e (byNaming (record { from = k .leads (k .statementCopy p) (k .statementAt p); to = k .statementCopy p } ∷ [])
+                  (record { from = k .leads (k .statementCopy p) (k .statementAt p); to = k .statementCopy p } ∷ []) [] (statement t (k .statementAt p))) =
+            of-some t k fits (λ p d z τ. byNaming (record { from = k .leads d z; to = d } ∷ []) (record { from = k .leads d z; to = d } ∷ []) [] τ) e m in
+        up-naming _ _ (place-at t k fits (r .0) (r .1)) (statement t (k .statementAt (r .0))) refl e (r .2) x a)
+        (λ c s v x a. rules .of-statement c s w x v (statement t s) refl (accessed-does other c s w 0 x (λ z. none-in x z) (statement t s) a))

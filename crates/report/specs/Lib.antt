@@ -7,6 +7,7 @@ pub mod Layout
 pub mod Fits
 pub mod OneEach
 pub mod Operations
+pub mod NextLaws
 pub mod PlaceLaws
 pub mod Flow
 pub mod FlowLaws
@@ -14,6 +15,7 @@ pub mod Effect
 pub mod EffectLaws
 pub mod Held
 pub mod Future
+pub mod FutureLaws
 pub mod Findings
 pub mod Report
 pub mod Cases
