@@ -14,6 +14,7 @@ pub mod FlowLaws
 pub mod Effect
 pub mod EffectLaws
 pub mod Held
+pub mod HeldLaws
 pub mod Future
 pub mod FutureLaws
 pub mod Findings
