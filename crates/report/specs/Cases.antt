@@ -19,7 +19,7 @@ use Rattle.report.specs.Effect.{overCopy, upFrom, namingEdges, callEdges
 use Rattle.report.specs.Held.{entry, onlyLock, atReturns, heldAfter, waysFrom, allWays, heldSets}
 use Rattle.report.specs.Future.{callers, nextEffects, futureEdges, futureStarts, futures}
 use Rattle.report.specs.Findings.{setsOf, clash, sharedAt, sharedCells, ownAccess, touchesAt, commonLocks, isUnguarded, strayBy, strayAt, accessCount, isStray}
-use Rattle.report.specs.Report.{cellLine, cellLines, strayLine, strayLines, linesWith, totalLine, linesFor, reportLines}
+use Rattle.report.specs.Report.{cellLine, cellLines, strayLine, strayLines, countLines, saysUnguarded, saysStray, totalLine, findingLines, linesFor, reportLines}
 
 pub record Case : Type 0 where
   pub lines : List (List ℤ)
@@ -39,7 +39,7 @@ inOneList (l ∷ ls) = l ++ inOneList ls
 
 -- the reports of the cases, as the definitions give them and as they are to be
 unfoldable pub asComputed : List Case → List (List (List ℤ))
-unfolding onesIn has firsts one union inter minus subset isEmpty count isSingle same room settle settled along passEdges least until plain handlesFrom parameters firstOf tabulateFrom tabulate statementOf declarationOf routineAt tableOf joinedFrom unionFrom interFrom countFrom unionAt froms tos leastAlong leaving narrow narrowAll leftOut greatest named isIn ownerOf oneEach nexts byNaming isReturn accessed given startOf passing flowEdges allFlowEdges flowStarts flowSets overCopy upFrom namingEdges callEdges effects gives effectOf entry onlyLock atReturns heldAfter waysFrom allWays heldSets callers nextEffects futureEdges futureStarts futures setsOf clash sharedAt sharedCells ownAccess touchesAt commonLocks isUnguarded strayBy strayAt accessCount isStray cellLine cellLines strayLine strayLines linesWith totalLine linesFor reportLines
+unfolding onesIn has firsts one union inter minus subset isEmpty count isSingle same room settle settled along passEdges least until plain handlesFrom parameters firstOf tabulateFrom tabulate statementOf declarationOf routineAt tableOf joinedFrom unionFrom interFrom countFrom unionAt froms tos leastAlong leaving narrow narrowAll leftOut greatest named isIn ownerOf oneEach nexts byNaming isReturn accessed given startOf passing flowEdges allFlowEdges flowStarts flowSets overCopy upFrom namingEdges callEdges effects gives effectOf entry onlyLock atReturns heldAfter waysFrom allWays heldSets callers nextEffects futureEdges futureStarts futures setsOf clash sharedAt sharedCells ownAccess touchesAt commonLocks isUnguarded strayBy strayAt accessCount isStray cellLine cellLines strayLine strayLines countLines saysUnguarded saysStray totalLine findingLines linesFor reportLines
 asComputed [] = []
 asComputed (c ∷ cs) = reportLines (tableOf (inOneList (c .lines))) ∷ asComputed cs
 

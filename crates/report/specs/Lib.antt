@@ -18,6 +18,7 @@ pub mod HeldLaws
 pub mod Future
 pub mod FutureLaws
 pub mod Findings
+pub mod ReportRules
 pub mod Report
 pub mod Cases
 pub mod Notebook

@@ -32,21 +32,40 @@ strayLine s = 52 ∷ s ∷ 0 ∷ 0 ∷ 0 ∷ 0 ∷ 0 ∷ 0 ∷ []
 unfoldable pub strayLines : Table → Layout → Sets → List (List ℕ)
 strayLines t k a = joinedFrom 0 (length (t .statements)) (λ s. cond (isStray t k a s) (strayLine s ∷ []) [])
 
--- of the lines, how many begin with a number and have 1 in field j
-unfoldable pub linesWith : ℕ → ℕ → ℕ → List (List ℕ) → ℕ
-linesWith begin j value [] = 0
-linesWith begin j value (l ∷ ls) = bit (eqb (getD l 0 0) begin && eqb (getD l j 0) value) + linesWith begin j value ls
+-- of the lines, how many pass a test
+unfoldable pub countLines : (List ℕ → Bool) → List (List ℕ) → ℕ
+countLines test [] = 0
+countLines test (l ∷ ls) = bit (test l) + countLines test ls
+
+-- a line 51 that says unguarded, and a line 52
+unfoldable pub saysUnguarded : List ℕ → Bool
+saysUnguarded l = eqb (getD l 0 0) 51 && eqb (getD l 6 0) 1
+
+unfoldable pub saysStray : List ℕ → Bool
+saysStray l = eqb (getD l 0 0) 52
 
 -- "then 59, unguarded cells, stray GIVEs, five zeros", counted from the lines above
 unfoldable pub totalLine : List (List ℕ) → List ℕ
-totalLine ls = 59 ∷ linesWith 51 6 1 ls ∷ linesWith 52 7 0 ls ∷ 0 ∷ 0 ∷ 0 ∷ 0 ∷ 0 ∷ []
+totalLine ls = 59 ∷ countLines saysUnguarded ls ∷ countLines saysStray ls ∷ 0 ∷ 0 ∷ 0 ∷ 0 ∷ 0 ∷ []
+
+unfoldable pub findingLines : Table → Layout → List (List ℕ)
+findingLines t k = let a = setsOf t k in cellLines t k a ++ strayLines t k a
 
 unfoldable pub linesFor : Table → Layout → List (List ℕ)
-linesFor t k =
-    let a = setsOf t k in
-    let ls = cellLines t k a ++ strayLines t k a in
-    ls ++ (totalLine ls ∷ [])
+linesFor t k = let ls = findingLines t k in ls ++ (totalLine ls ∷ [])
 
 -- the report of a table: its lines, each of eight numbers
 unfoldable pub reportLines : Table → List (List ℤ)
 reportLines t = map (map pos) (linesFor t (oneEach t))
+
+-- "its counts are the two totals in line 59 of its report", which is the last
+unfoldable pub lastLine : List (List ℤ) → List ℤ
+lastLine [] = []
+lastLine (l ∷ []) = l
+lastLine (l ∷ m ∷ ls) = lastLine (m ∷ ls)
+
+unfoldable pub unguardedTotal : Table → ℤ
+unguardedTotal t = getD (lastLine (reportLines t)) 1 (pos 0)
+
+unfoldable pub strayTotal : Table → ℤ
+strayTotal t = getD (lastLine (reportLines t)) 2 (pos 0)
