@@ -64,9 +64,9 @@ module _ (t : Table) (k : Layout) (fits : Fits t k) (own : ℕ → Statement →
       along-induction (k .copies) es owns owns-sets P (λ e m l x h. f e m x h)
       (λ c x h.
       let r : (c < k .copies) × (has (overCopy t k (λ s. own c (statement t s)) c) x ≡ true) =
-          tabulate-from (k .copies) (λ c. overCopy t k (λ s. own c (statement t s)) c) c x h in
+      tabulate-from (k .copies) (λ c. overCopy t k (λ s. own c (statement t s)) c) c x h in
       let q : (s : ℕ) × Within (routine t (k .routineOf c) .first) (routine t (k .routineOf c) .count) s × (has (own c (statement t s)) x ≡ true) =
-          union-from _ _ (λ s. own c (statement t s)) x (r .1) in
+      union-from _ _ (λ s. own c (statement t s)) x (r .1) in
       g c (q .0) (record { there = r .0; inside = record { low = q .1 .low; high = q .1 .high } }) x (q .2))
 
 -- ---- what a statement has itself is a set
@@ -125,7 +125,7 @@ module _ (t : Table) (k : Layout) (fits : Fits t k) (flow : List ℕ) (below : (
     by-give = λ c s x h w e a. own-has t k fits givenOf givenOf-below (callEdges t k) c s w (Give h) e x a;
     by-call = λ c s x q a w e g.
         up-edge t k fits givenOf givenOf-below (callEdges t k) c s (w .there)
-        (among-all t k fits (λ p d z τ. byNaming (record { from = k .leads d z; to = d } ∷ []) [] [] τ) _ c s w (Call q a) e (List·Memᴰ·head refl)) x g
+        (among-all t k fits (λ p d z τ. byNaming (record { from = k .leads d z; to = d } ∷ []) [] [] τ) _ c s w (Call q a) e (List·Memᴰ·head refl)) x g;
   }
 
   module _ (other : ℕ → ℕ → Type 0) (rules : GivesRules (copiesOf fits) (FlowHas k flow) other) where
@@ -169,9 +169,9 @@ module _ (t : Table) (k : Layout) (fits : Fits t k) (flow : List ℕ) (below : (
         up-induction t k fits givenOf givenOf-below (callEdges t k) other
         (λ e m x a.
         let r : (p : ℕ) × (p < k .statements)
-                × List·Memᴰ e (byNaming (record { from = k .leads (k .statementCopy p) (k .statementAt p); to = k .statementCopy p } ∷ []) [] []
-                  (statement t (k .statementAt p))) =
-            of-some t k fits (λ p d z τ. byNaming (record { from = k .leads d z; to = d } ∷ []) [] [] τ) e m in
+        × List·Memᴰ e (byNaming (record { from = k .leads (k .statementCopy p) (k .statementAt p); to = k .statementCopy p } ∷ []) [] []
+        (statement t (k .statementAt p))) =
+        of-some t k fits (λ p d z τ. byNaming (record { from = k .leads d z; to = d } ∷ []) [] [] τ) e m in
         up-call _ _ (place-at t k fits (r .0) (r .1)) (statement t (k .statementAt (r .0))) refl e (r .2) x a)
         (λ c s w x a. by-given c s w (statement t s) refl x a)
 
@@ -290,8 +290,8 @@ module _ (t : Table) (k : Layout) (fits : Fits t k) (flow : List ℕ) (below : (
         up-induction t k fits (accessOf w) (accessOf-below w) (namingEdges t k) (λ c x. other c w x)
         (λ e m x a.
         let r : (p : ℕ) × (p < k .statements)
-                × List·Memᴰ e (byNaming (record { from = k .leads (k .statementCopy p) (k .statementAt p); to = k .statementCopy p } ∷ [])
-                  (record { from = k .leads (k .statementCopy p) (k .statementAt p); to = k .statementCopy p } ∷ []) [] (statement t (k .statementAt p))) =
-            of-some t k fits (λ p d z τ. byNaming (record { from = k .leads d z; to = d } ∷ []) (record { from = k .leads d z; to = d } ∷ []) [] τ) e m in
+        × List·Memᴰ e (byNaming (record { from = k .leads (k .statementCopy p) (k .statementAt p); to = k .statementCopy p } ∷ [])
+        (record { from = k .leads (k .statementCopy p) (k .statementAt p); to = k .statementCopy p } ∷ []) [] (statement t (k .statementAt p))) =
+        of-some t k fits (λ p d z τ. byNaming (record { from = k .leads d z; to = d } ∷ []) (record { from = k .leads d z; to = d } ∷ []) [] τ) e m in
         up-naming _ _ (place-at t k fits (r .0) (r .1)) (statement t (k .statementAt (r .0))) refl e (r .2) x a)
         (λ c s v x a. rules .of-statement c s w x v (statement t s) refl (accessed-does other c s w 0 x (λ z. none-in x z) (statement t s) a))

@@ -57,5 +57,5 @@ copiesOf {t} {k} f = record {
   main-of = f .first-of;
   of-there = f .of-there;
   leads-there = f .leads-there;
-  leads-of = f .leads-of
+  leads-of = f .leads-of;
 }

@@ -35,6 +35,7 @@ start-below t acc h l o = go (f .kind-known)
   where
     f : HandleFacts t h
     f = acc .handle h l
+
     go : (declaration t h .kind ≡ 1) ⊎ (declaration t h .kind ≡ 2) → declaration t h .start < 64
     go (inl e) = let a : declaration t h .start < t .cells = f .cell-there o e in let b : t .cells ≤ 64 = acc .cells-most in omega arith
     go (inr e) = let a : declaration t h .start < t .locks = f .lock-there o e in let b : t .locks ≤ 16 = acc .locks-most in omega arith
@@ -92,7 +93,7 @@ module _ (t : Table) (k : Layout) (acc : Accepted t) (fits : Fits t k) where
 
     passes : (q : ℕ) (a : Arguments) → Names (statement t s) q
         → ((e : Edge) → List·Memᴰ e (passing t k c (k .leads c s) q a) → e .to < k .handles → (x : ℕ)
-          → has (getD (flowSets t k) (e .from) 0) x ≡ true → has (getD (flowSets t k) (e .to) 0) x ≡ true)
+        → has (getD (flowSets t k) (e .from) 0) x ≡ true → has (getD (flowSets t k) (e .to) 0) x ≡ true)
         → Passing (copiesOf fits) (FlowHas k (flowSets t k)) c s q a
     unfolding passing
     passes q a n f j x l h =
@@ -127,7 +128,7 @@ module _ (t : Table) (k : Layout) (acc : Accepted t) (fits : Fits t k) where
         let v : HandlePlaced k c h = fits .handle-placed c h l o in
         starts (k .handlePlace c h) (v .there) (declaration t h .start)
         (ap (λ (z : ℕ). has (startOf t z) (declaration t h .start)) (v .same) ∙ start-has t h (start-below t acc h (o .there) e) e);
-    statement-rule = λ c s w σ q. flow-step c s w σ q (subst (Operands t (k .routineOf c)) q (acc .operands (k .routineOf c) s (fits .of-there c (w .there)) (w .inside)))
+    statement-rule = λ c s w σ q. flow-step c s w σ q (subst (Operands t (k .routineOf c)) q (acc .operands (k .routineOf c) s (fits .of-there c (w .there)) (w .inside)));
   }
 
   -- ---- the least
@@ -149,12 +150,12 @@ module _ (t : Table) (k : Layout) (acc : Accepted t) (fits : Fits t k) where
       unfolding passing
       passes-on q a n ok f e m x h =
           let r : (j : ℕ) × Within 0 (routine t q .parameters) j
-                  × List·Memᴰ e (record { from = k .handlePlace c (getD (passed a) j 0); to = k .handlePlace (k .leads c s) (routine t q .handle + j) } ∷ []) =
-              joined-from 0 (routine t q .parameters) _ e m in
+          × List·Memᴰ e (record { from = k .handlePlace c (getD (passed a) j 0); to = k .handlePlace (k .leads c s) (routine t q .handle + j) } ∷ []) =
+          joined-from 0 (routine t q .parameters) _ e m in
           let j : ℕ = r .0 in
           let l : j < routine t q .parameters = within-below (r .1) in
           let q1 : e ≡ record { from = k .handlePlace c (getD (passed a) j 0); to = k .handlePlace (k .leads c s) (routine t q .handle + j) } =
-              List·Memᴰ·eq-of-singleton (r .2) in
+          List·Memᴰ·eq-of-singleton (r .2) in
           subst (λ (d : Edge). At (d .to) x) (sym q1)
           (of-pair (k .leads c s) (routine t q .handle + j) x (parameter-placed c s w q j n l)
           (f j x l (to-pair c (getD (passed a) j 0) x (fits .handle-placed c (getD (passed a) j 0) (w .there) (ok .argument j l .own))
@@ -186,7 +187,7 @@ module _ (t : Table) (k : Layout) (acc : Accepted t) (fits : Fits t k) where
         along-induction (k .handles) (allFlowEdges t k) (flowStarts t k) starts-sets At
         (λ e m l x a.
         let r : (p : ℕ) × (p < k .statements) × List·Memᴰ e (flowEdges t k (k .statementCopy p) (k .statementAt p) (statement t (k .statementAt p))) =
-            of-some t k fits (λ p d z τ. flowEdges t k d z τ) e m in
+        of-some t k fits (λ p d z τ. flowEdges t k d z τ) e m in
         let w : Place (copiesOf fits) (k .statementCopy (r .0)) (k .statementAt (r .0)) = place-at t k fits (r .0) (r .1) in
         goes-along _ _ w (statement t (k .statementAt (r .0))) refl
         (acc .operands (k .routineOf (k .statementCopy (r .0))) (k .statementAt (r .0)) (fits .of-there (k .statementCopy (r .0)) (w .there)) (w .inside))

@@ -27,7 +27,7 @@ futureEdges t k =
     (λ p.
     map (λ (n : ℕ). record { from = k .statementPlace (k .statementCopy p) n; to = p }) (nexts (k .statementAt p) (statement t (k .statementAt p)))
     ++ (record { from = callers k (k .statementCopy p); to = p }
-       ∷ byNaming (record { from = p; to = callers k (k .leads (k .statementCopy p) (k .statementAt p)) } ∷ []) [] [] (statement t (k .statementAt p))))
+    ∷ byNaming (record { from = p; to = callers k (k .leads (k .statementCopy p) (k .statementAt p)) } ∷ []) [] [] (statement t (k .statementAt p))))
 
 unfoldable pub futureStarts : Table → Layout → List ℕ → List ℕ → Bool → List ℕ
 futureStarts t k flow effect w =

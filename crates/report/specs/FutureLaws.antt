@@ -117,7 +117,7 @@ module _ (t : Table) (k : Layout) (acc : Accepted t) (fits : Fits t k) (flow : L
   future-rules = record {
     next = λ c s s′ w x v u g d. at-next c s s′ w x v g d;
     later = λ c s s′ w x v u g a. at-later c s s′ w x v g a;
-    callers = of-callers
+    callers = of-callers;
   }
 
   -- ---- the least
@@ -145,7 +145,7 @@ module _ (t : Table) (k : Layout) (acc : Accepted t) (fits : Fits t k) (flow : L
       every = λ d z i u.
           let j : k .leads c s ≡ d = omega arith in
           subst (λ (d : ℕ). other d z w x) j
-          (rules .callers c s z w x r b v q (subst (λ (d : ℕ). Place (copiesOf fits) d z) (sym j) u) o)
+          (rules .callers c s z w x r b v q (subst (λ (d : ℕ). Place (copiesOf fits) d z) (sym j) u) o);
     }
 
     up : (p c s : ℕ) → Place (copiesOf fits) c s → (σ : Statement) → statement t s ≡ σ → (e : Edge)
@@ -174,20 +174,24 @@ module _ (t : Table) (k : Layout) (acc : Accepted t) (fits : Fits t k) (flow : L
       where
         c : ℕ
         c = k .statementCopy p
+
         s : ℕ
         s = k .statementAt p
+
         v : Place (copiesOf fits) c s
         v = place-at t k fits p l
+
         rest : List·Memᴰ e (record { from = callers k c; to = p } ∷ callEdges p c s (statement t s)) → Ahead (e .to) x
         rest (List·Memᴰ·head i) =
             subst (λ (d : Edge). Ahead (d .to) x) (sym i)
             (statement-ahead p x l (subst (λ (d : Edge). Ahead (d .from) x) i a .every c s refl v))
         rest (List·Memᴰ·tail m) = up p c s v (statement t s) refl e m x (λ b. b .here l) a
+
         go : List·Memᴰ e (nextEdges p c s (statement t s)) ⊎ List·Memᴰ e (record { from = callers k c; to = p } ∷ callEdges p c s (statement t s))
             → Ahead (e .to) x
         go (inl m) =
             let r : (n : ℕ) × List·Memᴰ n (nexts s (statement t s)) × (e ≡ record { from = k .statementPlace c n; to = p }) =
-                map-from (λ (n : ℕ). record { from = k .statementPlace c n; to = p }) (nexts s (statement t s)) e m in
+            map-from (λ (n : ℕ). record { from = k .statementPlace c n; to = p }) (nexts s (statement t s)) e m in
             let g : Goes s (statement t s) (r .0) = next-goes s (statement t s) (r .0) (r .1) in
             let u : Place (copiesOf fits) c (r .0) = goes-placed t k acc fits c s (r .0) v g in
             subst (λ (d : Edge). Ahead (d .to) x) (sym (r .2))
@@ -201,7 +205,7 @@ module _ (t : Table) (k : Layout) (acc : Accepted t) (fits : Fits t k) (flow : L
         let s : ℕ = k .statementAt p in
         let v : Place (copiesOf fits) c s = place-at t k fits p l in
         let r : (n : ℕ) × List·Memᴰ n (nexts s (statement t s)) × (has (effectOf t k flow (effect w) w c n) x ≡ true) =
-            unionAt-from (nexts s (statement t s)) (effectOf t k flow (effect w) w c) x h in
+        unionAt-from (nexts s (statement t s)) (effectOf t k flow (effect w) w c) x h in
         let g : Goes s (statement t s) (r .0) = next-goes s (statement t s) (r .0) (r .1) in
         statement-ahead p x l
         (rules .next c s (r .0) w x v (goes-placed t k acc fits c s (r .0) v g) g
@@ -221,7 +225,7 @@ module _ (t : Table) (k : Layout) (acc : Accepted t) (fits : Fits t k) (flow : L
         along-induction (k .statements + k .copies) (futureEdges t k) (futureStarts t k flow (effect w) w) (starts-sets w) Ahead
         (λ e m l x a.
         let r : (p : ℕ) × (p < k .statements) × List·Memᴰ e (edgesAt p (k .statementCopy p) (k .statementAt p) (statement t (k .statementAt p))) =
-            of-some t k fits edgesAt e m in
+        of-some t k fits edgesAt e m in
         goes-along (r .0) (r .1) e (r .2) x a)
         (λ p x h. from-start p x (tabulate-from (k .statements + k .copies) (startAt w) p x h .1))
 

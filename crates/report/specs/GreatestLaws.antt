@@ -63,6 +63,7 @@ module _ (all : ℕ) (small : all < 2 ^ 64) where
       where
         new : ℕ
         new = union (getD s (w .to) 0) put
+
         go : (x : Bool) → eqb i (w .to) ≡ x → (y : Bool) → ltb (w .to) (length s) ≡ y → C
         go false d y l = a (getD-set-other s (w .to) i new 0 (eqb-false i (w .to) d))
         go true d false l = a (ap (λ (r : List ℕ). getD r i 0) (set-out s (w .to) new (ltb-false (w .to) (length s) l)))
@@ -75,7 +76,7 @@ module _ (all : ℕ) (small : all < 2 ^ 64) where
     narrow-grows = record {
       at = λ i x h.
           narrow-places i (λ q. ap (λ (y : ℕ). has y x) q ∙ h)
-          (λ p l q. ap (λ (y : ℕ). has y x) q ∙ has-union-left (getD s (w .to) 0) put x (ap (λ (j : ℕ). has (getD s j 0) x) (sym p) ∙ h))
+          (λ p l q. ap (λ (y : ℕ). has y x) q ∙ has-union-left (getD s (w .to) 0) put x (ap (λ (j : ℕ). has (getD s j 0) x) (sym p) ∙ h));
     }
 
     narrow-cases {ℓ} : {C : Type ℓ} (i x : ℕ) → (has (getD s i 0) x ≡ true → C) → (i ≡ w .to → w .to < length s → has put x ≡ true → C)
@@ -95,7 +96,7 @@ module _ (all : ℕ) (small : all < 2 ^ 64) where
       places = narrow-length ∙ h .places;
       below = λ i.
           narrow-places i (λ q. subst (λ (y : ℕ). y < 2 ^ 64) (sym q) (h .below i))
-          (λ p l q. subst (λ (y : ℕ). y < 2 ^ 64) (sym q) (union-below 64 (h .below (w .to)) (minus-below 64 (w .brings (leaving all s)) small)))
+          (λ p l q. subst (λ (y : ℕ). y < 2 ^ 64) (sym q) (union-below 64 (h .below (w .to)) (minus-below 64 (w .brings (leaving all s)) small)));
     }
 
   narrow-monotone : (w : Way) → Monotone w → (s r : List ℕ) → length s ≡ length r → Inside s r → Inside (narrow all w s) (narrow all w r)
@@ -105,7 +106,7 @@ module _ (all : ℕ) (small : all < 2 ^ 64) where
         let b : (has all x ≡ true) × (has (w .brings (leaving all s)) x ≡ true → ⊥) = minus-from all (w .brings (leaving all s)) x h in
         ap (λ (j : ℕ). has (getD (narrow all w r) j 0) x) p
         ∙ narrow-puts w r (subst (λ (k : ℕ). w .to < k) l o) x
-          (minus-has all (w .brings (leaving all r)) x (b .0) (λ e. b .1 (m .more (leaving all r) (leaving all s) (leaving-less a) x e))))
+        (minus-has all (w .brings (leaving all r)) x (b .0) (λ e. b .1 (m .more (leaving all r) (leaving all s) (leaving-less a) x e))));
   }
 
   -- ---- every way once
@@ -139,7 +140,7 @@ module _ (all : ℕ) (small : all < 2 ^ 64) where
   all-still [] s q w m = elim m [ ]
   all-still (v ∷ ws) s q w m =
       let a : narrow all v s ≡ s =
-          inside-equal (narrow-length v s) (subst (λ (r : List ℕ). Inside (narrow all v s) r) q (all-grows ws (narrow all v s))) (narrow-grows v s) in
+      inside-equal (narrow-length v s) (subst (λ (r : List ℕ). Inside (narrow all v s) r) q (all-grows ws (narrow all v s))) (narrow-grows v s) in
       let ih : List·Memᴰ w ws → narrow all w s ≡ s = all-still ws s (ap (narrowAll all ws) (sym a) ∙ q) w in
       go a ih m
     where
@@ -150,7 +151,7 @@ module _ (all : ℕ) (small : all < 2 ^ 64) where
   -- what holds of the elements of s, and of what each way puts out of a list of which it holds, holds afterwards
   all-carries : (P : ℕ → ℕ → Type 0) (n : ℕ) (ws : List Way)
       → ((w : Way) → List·Memᴰ w ws → (r : List ℕ) → ((i x : ℕ) → has (getD r i 0) x ≡ true → P i x) → (x : ℕ) → w .to < n
-        → has (minus all (w .brings (leaving all r))) x ≡ true → P (w .to) x)
+      → has (minus all (w .brings (leaving all r))) x ≡ true → P (w .to) x)
       → (s : List ℕ) → length s ≡ n → ((i x : ℕ) → has (getD s i 0) x ≡ true → P i x) → (i x : ℕ) → has (getD (narrowAll all ws s) i 0) x ≡ true → P i x
   unfolding narrowAll
   all-carries P n [] f s o q = q
@@ -166,7 +167,7 @@ module _ (all : ℕ) (small : all < 2 ^ 64) where
     steady = record {
       keeps = λ s h. all-sets n ws s h;
       grows = λ s h. all-grows ws s;
-      monotone = λ s r h k a. all-monotone ws mono s r (h .places ∙ sym (k .places)) a
+      monotone = λ s r h k a. all-monotone ws mono s r (h .places ∙ sym (k .places)) a;
     }
 
     empty-sets : SetList n (replicate n 0)
@@ -203,19 +204,20 @@ module _ (all : ℕ) (small : all < 2 ^ 64) where
       where
         there : w .to < n
         there = greatest-inside (w .to) x h .0
+
         go : (b : Bool) → has (w .brings (leaving all (leftOut all n ws))) x ≡ b → has (w .brings (leaving all (leftOut all n ws))) x ≡ true
         go true e = e
         go false e =
             let gone : has (getD (leftOut all n ws) (w .to) 0) x ≡ true =
-                ap (λ (r : List ℕ). has (getD r (w .to) 0) x) (sym (out-still w m))
-                ∙ narrow-puts w (leftOut all n ws) (subst (λ (k : ℕ). w .to < k) (sym (out-sets .places)) there) x
-                  (minus-has all (w .brings (leaving all (leftOut all n ws))) x (greatest-inside (w .to) x h .1) (λ y. never (sym y ∙ e))) in
+            ap (λ (r : List ℕ). has (getD r (w .to) 0) x) (sym (out-still w m))
+            ∙ narrow-puts w (leftOut all n ws) (subst (λ (k : ℕ). w .to < k) (sym (out-sets .places)) there) x
+            (minus-has all (w .brings (leaving all (leftOut all n ws))) x (greatest-inside (w .to) x h .1) (λ y. never (sym y ∙ e))) in
             absurd (left-has (w .to) x there h gone)
 
     -- and every family that is inside what every way in brings, and inside all, is inside
     pub greatest-contains : (G : ℕ → ℕ → Type 0) → ((p x : ℕ) → G p x → has all x ≡ true)
         → ((w : Way) → List·Memᴰ w ws → (H : ℕ → ℕ) → ((p x : ℕ) → G p x → has (H p) x ≡ true) → (x : ℕ) → w .to < n → G (w .to) x
-          → has (w .brings H) x ≡ true)
+        → has (w .brings H) x ≡ true)
         → (p x : ℕ) → p < n → G p x → has (getD (greatest all n ws) p 0) x ≡ true
     unfolding leftOut leaving
     greatest-contains G inside kept p x l g =
@@ -229,6 +231,7 @@ module _ (all : ℕ) (small : all < 2 ^ 64) where
             minus-from all (w .brings (leaving all s)) e b .1
             (kept w m (leaving all s) (λ i y k. minus-has all (getD s i 0) y (inside i y k) (λ z. f i y z k)) e o g))
             r (h .places) q
+
         apart : (i e : ℕ) → has (getD (leftOut all n ws) i 0) e ≡ true → G i e → ⊥
         apart = settled-induction n (narrowAll all ws) steady (λ i e. G i e → ⊥) step (replicate n 0) empty-sets
             (λ i e h. none-in e (ap (λ (y : ℕ). has y e) (sym (zeros n i)) ∙ h))

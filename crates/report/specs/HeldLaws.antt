@@ -58,7 +58,7 @@ single-only s l e x h =
       member = h;
       alone = λ y g.
           one-only _ y (r .0) (ap (λ (z : ℕ). has z y) (sym (r .1)) ∙ g)
-          ∙ sym (one-only _ x (r .0) (ap (λ (z : ℕ). has z x) (sym (r .1)) ∙ h))
+          ∙ sym (one-only _ x (r .0) (ap (λ (z : ℕ). has z x) (sym (r .1)) ∙ h));
     }
 
 pub only-single : (s x : ℕ) → s < 2 ^ 64 → Only (λ y. has s y ≡ true) x → isSingle s ≡ true
@@ -66,8 +66,8 @@ unfolding isSingle
 only-single s x l o =
     let b : x < 64 = element-below s x l (o .member) in
     let e : s ≡ one x =
-        inside-both s (one x) (λ y h. ap (has (one x)) (o .alone y h) ∙ one-has x b)
-        (λ y h. ap (has s) (one-only x y b h) ∙ o .member) in
+    inside-both s (one x) (λ y h. ap (has (one x)) (o .alone y h) ∙ one-has x b)
+    (λ y h. ap (has s) (one-only x y b h) ∙ o .member) in
     eq-eqb (count s) 1 (ap count e ∙ count-one x b)
 
 only-from : (s : ℕ) → s < 2 ^ 64 → (x : ℕ) → has (onlyLock s) x ≡ true → Only (λ y. has s y ≡ true) x
@@ -132,7 +132,7 @@ module _ (t : Table) (k : Layout) (acc : Accepted t) (fits : Fits t k) (flow : L
   ways-cases C f g h w (List·Memᴰ·head e) = subst C (sym e) f
   ways-cases C f g h w (List·Memᴰ·tail m) =
       let r : (p : ℕ) × (p < k .statements) × List·Memᴰ w (waysAt p (k .statementCopy p) (k .statementAt p) (statement t (k .statementAt p))) =
-          of-some t k fits waysAt w m in
+      of-some t k fits waysAt w m in
       let c : ℕ = k .statementCopy (r .0) in
       let s : ℕ = k .statementAt (r .0) in
       go c s (place-at t k fits (r .0) (r .1)) (List·Memᴰ·append-cases (map (onward c s (statement t s)) (nexts s (statement t s))) (r .2))
@@ -140,7 +140,7 @@ module _ (t : Table) (k : Layout) (acc : Accepted t) (fits : Fits t k) (flow : L
       go : (c s : ℕ) → Place (copiesOf fits) c s → List·Memᴰ w (map (onward c s (statement t s)) (nexts s (statement t s))) ⊎ List·Memᴰ w (inward c s (statement t s)) → C w
       go c s v (inl a) =
           let q : (n : ℕ) × List·Memᴰ n (nexts s (statement t s)) × (w ≡ onward c s (statement t s) n) =
-              map-from (onward c s (statement t s)) (nexts s (statement t s)) w a in
+          map-from (onward c s (statement t s)) (nexts s (statement t s)) w a in
           subst C (sym (q .2)) (g c s (q .0) v (next-goes s (statement t s) (q .0) (q .1)))
       go c s v (inr b) = h c s v w b
 
@@ -288,7 +288,7 @@ module _ (t : Table) (k : Layout) (acc : Accepted t) (fits : Fits t k) (flow : L
         (way-among _ c s v (Start q a) e (Memᴰ·append-right (map (onward c s (Start q a)) (nexts s (Start q a))) (List·Memᴰ·head refl))) x
         (entry-is c s q x v (subst (λ (τ : Statement). Names τ q) (sym e) refl) h));
     by-main = λ x h.
-        none-in x (kept firstWay first-among x (subst (λ (r : ℕ). Held (k .first) (routine t r .first) x) (sym (fits .first-of)) h))
+        none-in x (kept firstWay first-among x (subst (λ (r : ℕ). Held (k .first) (routine t r .first) x) (sym (fits .first-of)) h));
   }
 
   -- ---- the greatest
@@ -303,7 +303,7 @@ module _ (t : Table) (k : Layout) (acc : Accepted t) (fits : Fits t k) (flow : L
         let u : StatementPlaced k c s = placed t k fits c s v in
         record {
           there = u .there;
-          held = subst (λ (d : ℕ). other d (k .statementAt (k .statementPlace c s)) x) (sym (u .copy)) (subst (λ (z : ℕ). other c z x) (sym (u .same)) a)
+          held = subst (λ (d : ℕ). other d (k .statementAt (k .statementPlace c s)) x) (sym (u .copy)) (subst (λ (z : ℕ). other c z x) (sym (u .same)) a);
         }
 
     to-pair : (c s x : ℕ) → Place (copiesOf fits) c s → At (k .statementPlace c s) x → other c s x

@@ -19,7 +19,9 @@ pub mod Future
 pub mod FutureLaws
 pub mod Findings
 pub mod ReportRules
+pub mod FindingsLaws
 pub mod Report
+pub mod ReportLaws
 pub mod Cases
 pub mod Notebook
 pub mod Vectors

@@ -79,5 +79,5 @@ goes-placed t k acc fits c s n w g = record {
   there = w .there;
   inside =
       goes-inside t (k .routineOf c) s (statement t s) (acc .operands (k .routineOf c) s (fits .of-there c (w .there)) (w .inside))
-      (acc .goes-on (k .routineOf c) s (fits .of-there c (w .there)) (w .inside)) n g
+      (acc .goes-on (k .routineOf c) s (fits .of-there c (w .there)) (w .inside)) n g;
 }

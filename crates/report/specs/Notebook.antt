@@ -21,7 +21,7 @@ the-table = record {
       ∷ row 4 1 1 0 0 0 0 0
       ∷ row 4 12 0 0 0 0 0 0
       ∷ [];
-  report = row 51 0 1 1 1 0 1 0 ∷ row 59 1 0 0 0 0 0 0 ∷ []
+  report = row 51 0 1 1 1 0 1 0 ∷ row 59 1 0 0 0 0 0 0 ∷ [];
 }
 
 -- "Main READs instead: shared 0, unguarded 0"
@@ -39,7 +39,7 @@ main-reads = record {
       ∷ row 4 1 1 0 0 0 0 0
       ∷ row 4 12 0 0 0 0 0 0
       ∷ [];
-  report = row 51 0 2 0 0 0 0 0 ∷ row 59 0 0 0 0 0 0 0 ∷ []
+  report = row 51 0 2 0 0 0 0 0 ∷ row 59 0 0 0 0 0 0 0 ∷ [];
 }
 
 -- "Main WRITEs only before START: shared 0"
@@ -57,7 +57,7 @@ writes-before = record {
       ∷ row 4 1 1 0 0 0 0 0
       ∷ row 4 12 0 0 0 0 0 0
       ∷ [];
-  report = row 51 0 1 1 0 0 0 0 ∷ row 59 0 0 0 0 0 0 0 ∷ []
+  report = row 51 0 1 1 0 0 0 0 ∷ row 59 0 0 0 0 0 0 0 ∷ [];
 }
 
 -- "START in a loop of a routine that WRITEs: shared with itself"
@@ -73,7 +73,7 @@ with-itself = record {
       ∷ row 4 2 0 0 0 0 0 0
       ∷ row 4 12 0 0 0 0 0 0
       ∷ [];
-  report = row 51 0 0 1 1 0 1 0 ∷ row 59 1 0 0 0 0 0 0 ∷ []
+  report = row 51 0 0 1 1 0 1 0 ∷ row 59 1 0 0 0 0 0 0 ∷ [];
 }
 
 -- "Both accesses between TAKE and GIVE of lock 0: common locks 1, unguarded 0"
@@ -97,7 +97,7 @@ both-guarded = record {
       ∷ row 4 6 3 0 0 0 0 0
       ∷ row 4 12 0 0 0 0 0 0
       ∷ [];
-  report = row 51 0 1 1 1 1 0 0 ∷ row 59 0 0 0 0 0 0 0 ∷ []
+  report = row 51 0 1 1 1 1 0 0 ∷ row 59 0 0 0 0 0 0 0 ∷ [];
 }
 
 -- "A TAKE whose handle may be lock 0 or 1 adds none"
@@ -114,7 +114,7 @@ take-of-two = record {
       ∷ row 4 2 0 0 0 0 0 0
       ∷ row 4 12 0 0 0 0 0 0
       ∷ [];
-  report = row 51 0 0 1 0 0 0 0 ∷ row 59 0 0 0 0 0 0 0 ∷ []
+  report = row 51 0 0 1 0 0 0 0 ∷ row 59 0 0 0 0 0 0 0 ∷ [];
 }
 
 -- "a GIVE through it is stray and removes both": both are held at the READ of cell 1 before it, none at the WRITE behind it
@@ -136,7 +136,7 @@ give-of-two = record {
       ∷ row 4 2 0 0 0 0 0 0
       ∷ row 4 12 0 0 0 0 0 0
       ∷ [];
-  report = row 51 0 0 1 0 0 0 0 ∷ row 51 1 1 0 0 3 0 0 ∷ row 52 4 0 0 0 0 0 0 ∷ row 59 0 1 0 0 0 0 0 ∷ []
+  report = row 51 0 0 1 0 0 0 0 ∷ row 51 1 1 0 0 3 0 0 ∷ row 52 4 0 0 0 0 0 0 ∷ row 59 0 1 0 0 0 0 0 ∷ [];
 }
 
 -- "TAKE, CALL of a routine with no GIVE, WRITE: still held"
@@ -154,7 +154,7 @@ held-over-call = record {
       ∷ row 4 12 0 0 0 0 0 0
       ∷ row 4 12 0 0 0 0 0 0
       ∷ [];
-  report = row 51 0 0 1 0 1 0 0 ∷ row 59 0 0 0 0 0 0 0 ∷ []
+  report = row 51 0 0 1 0 1 0 0 ∷ row 59 0 0 0 0 0 0 0 ∷ [];
 }
 
 abbrev pub notebook : List Case
@@ -184,7 +184,7 @@ given-by-call = record {
       ∷ row 4 6 2 0 0 0 0 0
       ∷ row 4 12 0 0 0 0 0 0
       ∷ [];
-  report = row 51 0 0 1 0 0 0 0 ∷ row 59 0 0 0 0 0 0 0 ∷ []
+  report = row 51 0 0 1 0 0 0 0 ∷ row 59 0 0 0 0 0 0 0 ∷ [];
 }
 
 -- "forgetting that a started thread's own STARTs belong to its effect": the routine that is started starts the one that READs
@@ -205,7 +205,7 @@ starts-in-effect = record {
       ∷ row 4 1 1 0 0 0 0 0
       ∷ row 4 12 0 0 0 0 0 0
       ∷ [];
-  report = row 51 0 1 1 1 0 1 0 ∷ row 59 1 0 0 0 0 0 0 ∷ []
+  report = row 51 0 1 1 1 0 1 0 ∷ row 59 1 0 0 0 0 0 0 ∷ [];
 }
 
 -- the futures of all CALLs of a routine belong to the future of its STARTs: main WRITEs after the CALL of a routine with a START
@@ -226,7 +226,7 @@ future-of-callers = record {
       ∷ row 4 1 1 0 0 0 0 0
       ∷ row 4 12 0 0 0 0 0 0
       ∷ [];
-  report = row 51 0 1 1 1 0 1 0 ∷ row 59 1 0 0 0 0 0 0 ∷ []
+  report = row 51 0 1 1 1 0 1 0 ∷ row 59 1 0 0 0 0 0 0 ∷ [];
 }
 
 abbrev pub traps : List Case

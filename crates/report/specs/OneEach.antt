@@ -54,7 +54,7 @@ unfolding until
 until-finds good from zero i l h e = absurd (omega arith)
 until-finds good from (suc n) i l h e =
     let ih : from + 1 ≤ i → (until good (from + 1) n < from + 1 + n) × (good (until good (from + 1) n) ≡ false) =
-        λ m. until-finds good (from + 1) n i m (omega arith) e in
+    λ m. until-finds good (from + 1) n i m (omega arith) e in
     rw until-step (go ih (good from) refl)
   where
     go : (from + 1 ≤ i → (until good (from + 1) n < from + 1 + n) × (good (until good (from + 1) n) ≡ false)) → (b : Bool) → good from ≡ b
@@ -73,7 +73,7 @@ true-in : (t : Table) (r s : ℕ) → isIn t s r ≡ true → InRoutine t r s
 unfolding isIn
 true-in t r s e =
     let b : (leb (routine t r .first) s ≡ true) × (ltb s (routine t r .first + routine t r .count) ≡ true) =
-        both-true (leb (routine t r .first) s) (ltb s (routine t r .first + routine t r .count)) e in
+    both-true (leb (routine t r .first) s) (ltb s (routine t r .first + routine t r .count)) e in
     record { low = leb-true _ _ (b .0); high = ltb-true _ _ (b .1) }
 
 -- the owner that is found is the routine of the statement
@@ -81,7 +81,7 @@ owner-is : (t : Table) → Accepted t → (r s : ℕ) → r < length (t .routine
 unfolding ownerOf
 owner-is t acc r s l i =
     let f : (ownerOf t s < 0 + length (t .routines)) × (not (isIn t s (ownerOf t s)) ≡ false) =
-        until-finds (λ q. not (isIn t s q)) 0 (length (t .routines)) r (omega arith) (omega arith) (ap not (in-true t r s i)) in
+    until-finds (λ q. not (isIn t s q)) 0 (length (t .routines)) r (omega arith) (omega arith) (ap not (in-true t r s i)) in
     acc .one-owner (ownerOf t s) r s (omega arith) l (true-in t (ownerOf t s) s (not-false _ (f .1))) i
 
 the-one : (s p : ℕ) → List·Memᴰ p (s ∷ []) → p ≡ s
@@ -120,7 +120,7 @@ module _ (t : Table) (acc : Accepted t) where
           own = subst (λ (c : ℕ). InRoutine t c p) (sym e) (o .2);
           back = refl;
           number = l;
-          among = List·Memᴰ·head refl
+          among = List·Memᴰ·head refl;
         };
-    places-of = λ s p l m. let e : p ≡ s = the-one s p m in (subst (λ (x : ℕ). x < length (t .statements)) (sym e) l, e)
+    places-of = λ s p l m. let e : p ≡ s = the-one s p m in (subst (λ (x : ℕ). x < length (t .statements)) (sym e) l, e);
   }

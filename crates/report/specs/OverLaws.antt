@@ -56,7 +56,7 @@ here : {from n : ℕ} → Within from (suc n) from
 here = record { low = le-refl _; high = omega arith }
 
 -- the first of the range, or one behind it
-first-or {ℓ} : {C : Type ℓ} {from n i : ℕ} → Within from (suc n) i → (i ≡ from → C) → (Within (from + 1) n i → C) → C
+pub first-or {ℓ} : {C : Type ℓ} {from n i : ℕ} → Within from (suc n) i → (i ≡ from → C) → (Within (from + 1) n i → C) → C
 first-or {C = C} {from} {n} {i} w f g = go (eqb i from) refl
   where
     go : (b : Bool) → eqb i from ≡ b → C
@@ -129,7 +129,7 @@ tabulate-sets n g b = record {
   below = λ i.
       by-length i (tabulate n g)
       (λ l. subst (λ (y : ℕ). y < 2 ^ 64) (sym (getD-tabulate n g i 0 (subst (λ (m : ℕ). i < m) (length-tabulate n g) l))) (b i))
-      (λ e. subst (λ (y : ℕ). y < 2 ^ 64) (sym e) (omega arith))
+      (λ e. subst (λ (y : ℕ). y < 2 ^ 64) (sym e) (omega arith));
 }
 
 pub tabulate-has : (n : ℕ) (g : ℕ → ℕ) (i x : ℕ) → i < n → has (g i) x ≡ true → has (getD (tabulate n g) i 0) x ≡ true
@@ -166,7 +166,7 @@ unfolding interFrom
 inter-at all from zero f i x w h = nothing-within w
 inter-at all from (suc n) f i x w h =
     let b : (has (f from) x ≡ true) × (has (interFrom all (from + 1) n f) x ≡ true) =
-        both-true (has (f from) x) (has (interFrom all (from + 1) n f) x) (sym (has-inter (f from) (interFrom all (from + 1) n f) x) ∙ h) in
+    both-true (has (f from) x) (has (interFrom all (from + 1) n f) x) (sym (has-inter (f from) (interFrom all (from + 1) n f) x) ∙ h) in
     let ih : Within (from + 1) n i → has (f i) x ≡ true = λ v. inter-at all (from + 1) n f i x v (b .1) in
     first-or w (λ e. subst (λ (j : ℕ). has (f j) x ≡ true) (sym e) (b .0)) ih
 
@@ -241,7 +241,7 @@ module _ (n : ℕ) (es : List Edge) (s : List ℕ) (sets : SetList n s) where
   along-edge e m l x h =
       let r : (k : ℕ) × (k < length (froms es)) × (k < length (tos es)) × (getD (froms es) k 0 ≡ e .from) × (getD (tos es) k 0 ≡ e .to) = edge-place es e m in
       let c : Held (least (froms es) (tos es) s) (getD (froms es) (r .0) 0) (getD (tos es) (r .0) 0) =
-          least-closed n (froms es) (tos es) s sets .edge (r .0) (r .1) (r .2) in
+      least-closed n (froms es) (tos es) s sets .edge (r .0) (r .1) (r .2) in
       let d : Held (least (froms es) (tos es) s) (e .from) (e .to) = rw (r .3, r .4) at c in
       d .carried (subst (λ (m : ℕ). e .to < m) (sym (least-sets n (froms es) (tos es) s sets .places)) l) x h
 

@@ -34,6 +34,16 @@ module _ (t : Table) (k : Layout) (fits : Fits t k) where
       subst (λ (d : ℕ). P p d (k .statementAt p) (statement t (k .statementAt p))) (sym (v .copy))
       (subst (λ (z : ℕ). P p c z (statement t (k .statementAt p))) (sym (v .same)) (subst (P p c s) (sym q) h))
 
+  pub from-placed {ℓ} : (P : ℕ → ℕ → ℕ → Statement → Type ℓ) (c s : ℕ) → Place (copiesOf fits) c s → (σ : Statement) → statement t s ≡ σ
+      → (let p = k .statementPlace c s in P p (k .statementCopy p) (k .statementAt p) (statement t (k .statementAt p))) → P (k .statementPlace c s) c s σ
+  from-placed P c s w σ e h =
+      let p = k .statementPlace c s in
+      let v = placed c s w in
+      let q : statement t (k .statementAt p) ≡ σ = ap (statement t) (v .same) ∙ e in
+      subst (P p c s) q
+      (subst (λ (z : ℕ). P p c z (statement t (k .statementAt p))) (v .same)
+      (subst (λ (d : ℕ). P p d (k .statementAt p) (statement t (k .statementAt p))) (v .copy) h))
+
   module _ {A : Type 0} (F : ℕ → ℕ → ℕ → Statement → List A) where
     -- what statement s of copy c has is in the list of all
     pub among-all : (x : A) (c s : ℕ) → Place (copiesOf fits) c s → (σ : Statement) → statement t s ≡ σ → List·Memᴰ x (F (k .statementPlace c s) c s σ)
@@ -46,7 +56,7 @@ module _ (t : Table) (k : Layout) (fits : Fits t k) where
         → (p : ℕ) × (p < k .statements) × List·Memᴰ x (F p (k .statementCopy p) (k .statementAt p) (statement t (k .statementAt p)))
     of-some x m =
         let r : (p : ℕ) × Within 0 (k .statements) p × List·Memᴰ x (F p (k .statementCopy p) (k .statementAt p) (statement t (k .statementAt p))) =
-            joined-from 0 (k .statements) _ x m in
+        joined-from 0 (k .statements) _ x m in
         (r .0, within-below (r .1), r .2)
 
   -- the parameters of a routine are its handles

@@ -50,7 +50,7 @@ families t k = record {
   held = HeldHas k (setsOf t k .held);
   effect = EffectHas (effectList (setsOf t k));
   future = FutureHas k (futureList (setsOf t k));
-  shared = λ x. has (sharedCells t k (setsOf t k)) x ≡ true
+  shared = λ x. has (sharedCells t k (setsOf t k)) x ≡ true;
 }
 
 -- ---- shared
@@ -141,9 +141,9 @@ module _ (t : Table) (k : Layout) (acc : Accepted t) (fits : Fits t k) where
         union-has 0 (k .statements) (sharedAt t k theSets) (k .statementPlace c s) x (below-within (placed t k fits c s v .there))
         (at-placed t k fits
         (λ p d z τ. has (byNaming 0 (clash (getD (theSets .reads) (k .leads d z) 0) (getD (theSets .writes) (k .leads d z) 0)
-                         (getD (theSets .futureReads) p 0) (getD (theSets .futureWrites) p 0)) 0 τ) x ≡ true)
+        (getD (theSets .futureReads) p 0) (getD (theSets .futureWrites) p 0)) 0 τ) x ≡ true)
         c s v (Start q a) e
-        (clash-has (λ w. getD (effectList theSets w) (k .leads c s) 0) (λ w. getD (futureList theSets w) (k .statementPlace c s) 0) x h))
+        (clash-has (λ w. getD (effectList theSets w) (k .leads c s) 0) (λ w. getD (futureList theSets w) (k .statementPlace c s) 0) x h));
   }
 
   -- a START at which the effect of the started routine and the future clash over cell x
@@ -158,7 +158,7 @@ module _ (t : Table) (k : Layout) (acc : Accepted t) (fits : Fits t k) where
 
   start-from : (p : ℕ) → p < k .statements → (σ : Statement) → statement t (k .statementAt p) ≡ σ → (x : ℕ)
       → has (byNaming 0 (clash (getD (theSets .reads) (k .leads (k .statementCopy p) (k .statementAt p)) 0)
-             (getD (theSets .writes) (k .leads (k .statementCopy p) (k .statementAt p)) 0) (getD (theSets .futureReads) p 0) (getD (theSets .futureWrites) p 0)) 0 σ) x ≡ true
+      (getD (theSets .writes) (k .leads (k .statementCopy p) (k .statementAt p)) 0) (getD (theSets .futureReads) p 0) (getD (theSets .futureWrites) p 0)) 0 σ) x ≡ true
       → AtStart x
   unfolding byNaming
   start-from p l (Read h) e x a = none-in x a
@@ -180,7 +180,7 @@ module _ (t : Table) (k : Layout) (acc : Accepted t) (fits : Fits t k) where
         clashes =
             subst (λ (z : ℕ). Clash (EffectHas (effectList theSets) (k .leads (k .statementCopy p) (k .statementAt p))) (λ w y. has (getD (futureList theSets w) z 0) y ≡ true) x)
             (sym (fits .statement-there p l .back))
-            (clash-from (λ w. getD (effectList theSets w) (k .leads (k .statementCopy p) (k .statementAt p)) 0) (λ w. getD (futureList theSets w) p 0) x a)
+            (clash-from (λ w. getD (effectList theSets w) (k .leads (k .statementCopy p) (k .statementAt p)) 0) (λ w. getD (futureList theSets w) p 0) x a);
       }
   start-from p l (Jump z) e x a = none-in x a
   start-from p l (JumpZero z) e x a = none-in x a
@@ -202,5 +202,5 @@ module _ (t : Table) (k : Layout) (acc : Accepted t) (fits : Fits t k) where
     held-rules = held-rules t k acc fits (flowSets t k) flow-below (gives t k (flowSets t k));
     effect-rules = the-effect-rules;
     future-rules = the-future-rules;
-    shared-rules = the-shared-rules
+    shared-rules = the-shared-rules;
   }
