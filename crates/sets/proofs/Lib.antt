@@ -1,1 +1,3 @@
 pub mod Shift
+pub mod Passes
+pub mod Worked

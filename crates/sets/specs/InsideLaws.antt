@@ -55,7 +55,7 @@ same-refl (x ∷ s) = ap (λ (b : Bool). b && same s s) (eq-eqb x x refl) ∙ sa
 tail-inside : {x y : ℕ} {s t : List ℕ} → Inside (x ∷ s) (y ∷ t) → Inside s t
 tail-inside a = record { at = λ i e h. a .at (suc i) e h }
 
-room-le : (s t : List ℕ) → length s ≡ length t → Inside s t → room t ≤ room s
+pub room-le : (s t : List ℕ) → length s ≡ length t → Inside s t → room t ≤ room s
 unfolding room
 room-le [] [] l a = le-refl 0
 room-le [] (y ∷ t) l a = absurd (omega arith)

@@ -49,9 +49,13 @@ settled pass s = settle pass (room s) s
 
 -- ---- edges
 
+-- the set x is put into the set at t; past the end of the list nothing happens
+unfoldable pub putInto : ℕ → ℕ → List ℕ → List ℕ
+putInto t x s = set s t (union (getD s t 0) x)
+
 -- the edge from f to t puts the set at f into the set at t; past the end of the list it does nothing
 unfoldable pub along : ℕ → ℕ → List ℕ → List ℕ
-along f t s = set s t (union (getD s t 0) (getD s f 0))
+along f t s = putInto t (getD s f 0) s
 
 -- every edge once, from the first to the last: edge k goes from the k-th number of the first list to the k-th of the second
 unfoldable pub passEdges : List ℕ → List ℕ → List ℕ → List ℕ

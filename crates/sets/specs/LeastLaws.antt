@@ -1,102 +1,64 @@
 -- What edges come to: the least list is closed under every edge, holds the start, and is inside every other such list. Assumes nothing.
 use mathlib.Core.Path.{_≡_, refl, sym, ap, _∙_, subst}
-use mathlib.Core.Bool.{Bool, true, false}
+use mathlib.Core.Bool.{true}
 use mathlib.Core.List.{List, [], _∷_}
-use Prim.Native.Nat.{ℕ, zero, suc, _+_, _^_, _≤_, _<_, suc-le-suc}
+use Prim.Native.Nat.{ℕ, zero, suc, _<_, suc-le-suc}
 use native.Mathlib.Nat.{le-of-suc-le-suc, zero-lt-suc}
 use native.Mathlib.Omega.{arith}
-use lib.Dec.{eqb, ltb}
-use lib.ListN.{length, getD, set, length-set}
-use lib.Seq.{getD-set-same, getD-set-other, set-out, set-getD}
-use borrow.Author.Tests.{eqb-true, eqb-false, ltb-true, ltb-false}
-use Rattle.sets.specs.Set.{has, union}
-use Rattle.sets.specs.SetLaws.{has-union-left, has-union-right, union-cases, union-below}
-use Rattle.sets.specs.Least.{SetList, Inside, Steady, settled, along, passEdges, least, Held, Closed}
+use lib.ListN.{length, getD}
+use Rattle.sets.specs.Set.{has}
+use Rattle.sets.specs.Least.{SetList, Inside, Steady, along, passEdges, least, Held, Closed}
 use Rattle.sets.specs.InsideLaws.{inside-refl, inside-trans, inside-equal}
-use Rattle.sets.specs.Settled.{settled-keeps, settled-sets, settled-closed, settled-holds-start, settled-inside, settled-is, settled-induction}
+use Rattle.sets.specs.Rules.{put-length, put-elsewhere, put-grows, put-cases, put-puts, put-sets, put-still, still-put, put-inside, put-monotone}
+use Rattle.sets.specs.Settled.{settled-keeps, settled-sets, settled-closed, settled-holds-start, settled-inside, settled-induction}
 
 -- ---- one edge
 
 module _ (f t : ℕ) (s : List ℕ) where
   pub along-length : length (along f t s) ≡ length s
   unfolding along
-  along-length = length-set s t (union (getD s t 0) (getD s f 0))
-
-  -- past the end nothing is written
-  along-out : length s ≤ t → along f t s ≡ s
-  unfolding along
-  along-out h = set-out s t (union (getD s t 0) (getD s f 0)) h
-
-  along-here : t < length s → getD (along f t s) t 0 ≡ union (getD s t 0) (getD s f 0)
-  unfolding along
-  along-here h = getD-set-same s t (union (getD s t 0) (getD s f 0)) 0 h
+  along-length = put-length t (getD s f 0) s
 
   -- every other place is kept
   pub along-elsewhere : (i : ℕ) → (i ≡ t → ⊥) → getD (along f t s) i 0 ≡ getD s i 0
   unfolding along
-  along-elsewhere i d = getD-set-other s t i (union (getD s t 0) (getD s f 0)) 0 d
-
-  -- a place is another one, or past the end, or the one that the edge leads to
-  along-places {ℓ} : {C : Type ℓ} (i : ℕ) → (getD (along f t s) i 0 ≡ getD s i 0 → C)
-      → (i ≡ t → t < length s → getD (along f t s) i 0 ≡ union (getD s t 0) (getD s f 0) → C) → C
-  along-places {C = C} i a b = go (eqb i t) refl (ltb t (length s)) refl
-    where
-      go : (x : Bool) → eqb i t ≡ x → (y : Bool) → ltb t (length s) ≡ y → C
-      go false d y l = a (along-elsewhere i (eqb-false i t d))
-      go true d false l = a (ap (λ (r : List ℕ). getD r i 0) (along-out (ltb-false t (length s) l)))
-      go true d true l =
-          let e : i ≡ t = eqb-true i t d in
-          b e (ltb-true t (length s) l) (ap (λ (j : ℕ). getD (along f t s) j 0) e ∙ along-here (ltb-true t (length s) l))
+  along-elsewhere = put-elsewhere t (getD s f 0) s
 
   pub along-grows : Inside s (along f t s)
-  along-grows = record {
-    at = λ i e h.
-        along-places i (λ q. ap (λ (x : ℕ). has x e) q ∙ h)
-        (λ p l q. ap (λ (x : ℕ). has x e) q ∙ has-union-left (getD s t 0) (getD s f 0) e (ap (λ (j : ℕ). has (getD s j 0) e) (sym p) ∙ h))
-  }
+  unfolding along
+  along-grows = put-grows t (getD s f 0) s
 
   -- an element that is there afterwards was there, or came along the edge
   pub along-cases {ℓ} : {C : Type ℓ} (i e : ℕ) → (has (getD s i 0) e ≡ true → C) → (i ≡ t → t < length s → has (getD s f 0) e ≡ true → C)
       → has (getD (along f t s) i 0) e ≡ true → C
-  along-cases i e a b h =
-      along-places i (λ q. a (ap (λ (x : ℕ). has x e) (sym q) ∙ h))
-      (λ p l q.
-      union-cases (getD s t 0) (getD s f 0) e (λ g. a (ap (λ (j : ℕ). has (getD s j 0) e) p ∙ g)) (b p l)
-      (ap (λ (x : ℕ). has x e) (sym q) ∙ h))
+  unfolding along
+  along-cases = put-cases t (getD s f 0) s
 
   pub along-puts : t < length s → (e : ℕ) → has (getD s f 0) e ≡ true → has (getD (along f t s) t 0) e ≡ true
-  along-puts l e h = ap (λ (x : ℕ). has x e) (along-here l) ∙ has-union-right (getD s t 0) (getD s f 0) e h
+  unfolding along
+  along-puts = put-puts t (getD s f 0) s
 
   pub along-sets : (n : ℕ) → SetList n s → SetList n (along f t s)
-  along-sets n h = record {
-    places = along-length ∙ h .places;
-    below = λ i.
-        along-places i (λ q. subst (λ (x : ℕ). x < 2 ^ 64) (sym q) (h .below i))
-        (λ p l q. subst (λ (x : ℕ). x < 2 ^ 64) (sym q) (union-below 64 (h .below t) (h .below f)))
-  }
+  unfolding along
+  along-sets n h = put-sets t (getD s f 0) s n (h .below f) h
 
   -- an edge that has nothing to put changes nothing, and the other way round
   pub held-still : Held s f t → along f t s ≡ s
-  held-still h =
-      inside-equal along-length
-      (record { at = λ i e g. along-cases i e (λ a. a) (λ p l b. ap (λ (j : ℕ). has (getD s j 0) e) p ∙ h .carried l e b) g })
-      along-grows
+  unfolding along
+  held-still h = put-still t (getD s f 0) s (h .carried)
 
   pub still-held : along f t s ≡ s → Held s f t
-  still-held q = record { carried = λ l e h. ap (λ (r : List ℕ). has (getD r t 0) e) (sym q) ∙ along-puts l e h }
+  unfolding along
+  still-held q = record { carried = still-put t (getD s f 0) s q }
 
   -- what is inside a list with nothing to put stays inside it
   pub along-inside : (r : List ℕ) → length s ≡ length r → Held r f t → Inside s r → Inside (along f t s) r
-  along-inside r l h a = record {
-    at = λ i e. along-cases i e (a .at i e)
-        (λ p m b. ap (λ (j : ℕ). has (getD r j 0) e) p ∙ h .carried (subst (λ (x : ℕ). t < x) l m) e (a .at f e b))
-  }
+  unfolding along
+  along-inside r l h a = put-inside t (getD s f 0) s r l (λ m e b. h .carried m e (a .at f e b)) a
 
 along-monotone : (f t : ℕ) (s r : List ℕ) → length s ≡ length r → Inside s r → Inside (along f t s) (along f t r)
-along-monotone f t s r l a = record {
-  at = λ i e. along-cases f t s i e (λ h. along-grows f t r .at i e (a .at i e h))
-      (λ p m b. ap (λ (j : ℕ). has (getD (along f t r) j 0) e) p ∙ along-puts f t r (subst (λ (x : ℕ). t < x) l m) e (a .at f e b))
-}
+unfolding along
+along-monotone f t s r l a = put-monotone t (getD s f 0) (getD r f 0) s r l (a .at f) a
 
 -- ---- a pass over the edges
 
@@ -129,7 +91,7 @@ pub edges-steady : (n : ℕ) (from to : List ℕ) → Steady n (passEdges from t
 edges-steady n from to = record {
   keeps = λ s h. pass-sets n from to s h;
   grows = λ s h. pass-grows from to s;
-  monotone = λ s t h k a. pass-monotone from to s t (h .places ∙ sym (k .places)) a
+  monotone = λ s t h k a. pass-monotone from to s t (h .places ∙ sym (k .places)) a;
 }
 
 -- ---- a pass changes nothing just where every edge has nothing to put
@@ -150,7 +112,7 @@ still-closed [] to s q = record { edge = λ k h g. absurd (omega arith) }
 still-closed (f ∷ from) [] s q = record { edge = λ k h g. absurd (omega arith) }
 still-closed (f ∷ from) (t ∷ to) s q =
     let a : along f t s ≡ s =
-        inside-equal (along-length f t s) (subst (λ (r : List ℕ). Inside (along f t s) r) q (pass-grows from to (along f t s))) (along-grows f t s) in
+    inside-equal (along-length f t s) (subst (λ (r : List ℕ). Inside (along f t s) r) q (pass-grows from to (along f t s))) (along-grows f t s) in
     let ih : Closed from to s = still-closed from to s (ap (passEdges from to) (sym a) ∙ q) in
     record { edge = both (still-held f t s a) ih }
   where

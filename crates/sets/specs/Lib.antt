@@ -2,5 +2,7 @@ pub mod Set
 pub mod SetLaws
 pub mod Least
 pub mod InsideLaws
+pub mod Rules
 pub mod Settled
 pub mod LeastLaws
+pub mod Pass

@@ -252,6 +252,29 @@ union-cases {C = C} a b i f g e = go (has a i) refl (sym (has-union a b i) ∙ e
     go true p q = f p
     go false p q = g q
 
+pub union-least : (a b c : ℕ) → subset a c ≡ true → subset b c ≡ true → subset (union a b) c ≡ true
+union-least a b c f g = has-subset (union a b) c (λ i. union-cases a b i (subset-has a c f i) (subset-has b c g i))
+
+-- what is left out of u turns inclusion round, and what is left out of that is the set again: greatest sets are least ones so seen
+pub minus-turns : (u a b : ℕ) → ((i : ℕ) → has a i ≡ true → has b i ≡ true) → (i : ℕ) → has (minus u b) i ≡ true → has (minus u a) i ≡ true
+minus-turns u a b f i e = has-minus u a i ∙ turn (has u i) (has a i) (has b i) (f i) (sym (has-minus u b i) ∙ e)
+  where
+    turn : (x y z : Bool) → (y ≡ true → z ≡ true) → (x && not z) ≡ true → (x && not y) ≡ true
+    turn false y z g h = h
+    turn true false z g h = refl
+    turn true true z g h = ap not (sym (g refl)) ∙ h
+
+pub minus-twice : (u a : ℕ) → ((i : ℕ) → has a i ≡ true → has u i ≡ true) → minus u (minus u a) ≡ a
+minus-twice u a f =
+    same-elements (minus u (minus u a)) a
+    (λ i. has-minus u (minus u a) i ∙ ap (λ (x : Bool). has u i && not x) (has-minus u a i) ∙ back (has u i) (has a i) (f i))
+  where
+    back : (x y : Bool) → (y ≡ true → x ≡ true) → (x && not (x && not y)) ≡ y
+    back true true g = refl
+    back true false g = refl
+    back false true g = g refl
+    back false false g = refl
+
 -- inside the first n: below 2 ^ n
 pub subset-firsts : (n s : ℕ) → n ≤ 64 → subset s (firsts n) ≡ true → s < 2 ^ n
 subset-firsts n s h k = below-of-has n s (λ i le. go i le (has s i) refl)
@@ -303,7 +326,7 @@ onesIn-lt (suc k) a b zero f l p q =
     omega (arith, digit-zero a p, digit-one b q)
 onesIn-lt (suc k) a b (suc j) f l p q =
     let ih : onesIn k (a / 2) < onesIn k (b / 2) =
-        onesIn-lt k (a / 2) (b / 2) j (half-inside a b f) (le-of-suc-le-suc l) (sym (has-suc a j) ∙ p) (sym (has-suc b j) ∙ q) in
+    onesIn-lt k (a / 2) (b / 2) j (half-inside a b f) (le-of-suc-le-suc l) (sym (has-suc a j) ∙ p) (sym (has-suc b j) ∙ q) in
     omega (arith, digit-le a b (f 0))
 
 pub count-inside : (a b : ℕ) → ((i : ℕ) → has a i ≡ true → has b i ≡ true) → count a ≤ count b
@@ -325,8 +348,8 @@ onesIn-more (suc k) a b zero l p q f =
 onesIn-more (suc k) a b (suc j) l p q f =
     let d : a % 2 ≡ b % 2 = same-digit a b (sym (has-zero a) ∙ f 0 (λ e. omega arith) ∙ has-zero b) in
     let ih : onesIn k (b / 2) ≡ suc (onesIn k (a / 2)) =
-        onesIn-more k (a / 2) (b / 2) j (le-of-suc-le-suc l) (sym (has-suc a j) ∙ p) (sym (has-suc b j) ∙ q)
-        (λ i n. sym (has-suc a i) ∙ f (suc i) (λ e. n (suc-inj e)) ∙ has-suc b i) in
+    onesIn-more k (a / 2) (b / 2) j (le-of-suc-le-suc l) (sym (has-suc a j) ∙ p) (sym (has-suc b j) ∙ q)
+    (λ i n. sym (has-suc a i) ∙ f (suc i) (λ e. n (suc-inj e)) ∙ has-suc b i) in
     omega arith
 
 pub count-with : (s i : ℕ) → i < 64 → has s i ≡ false → count (with s i) ≡ suc (count s)
@@ -504,3 +527,37 @@ lowest-nothing s e = go (isEmpty s) refl
         let q : lowest s ≡ Element (trailingZeros 64 s) = lowest-some s t in
         let w : _≡_ {A = ℕ} 0 1 = cc in
         absurd (omega arith)
+
+pub only-has : (s i : ℕ) → s < 2 ^ 64 → only s ≡ Element i → has s i ≡ true
+only-has s i h e = let p : (i < 64) × (s ≡ one i) = only-is s i h e in ap (λ (x : ℕ). has x i) (p .1) ∙ has-one i i (p .0) ∙ eq-eqb i i refl
+
+pub only-alone : (s i j : ℕ) → s < 2 ^ 64 → only s ≡ Element i → has s j ≡ true → j ≡ i
+only-alone s i j h e g =
+    let p : (i < 64) × (s ≡ one i) = only-is s i h e in
+    eqb-true j i (sym (has-one i j (p .0)) ∙ ap (λ (x : ℕ). has x j) (sym (p .1)) ∙ g)
+
+-- a set that has i and nothing else is that of i
+pub alone-only : (s i : ℕ) → s < 2 ^ 64 → has s i ≡ true → ((j : ℕ) → has s j ≡ true → j ≡ i) → only s ≡ Element i
+alone-only s i h e f = ap only same ∙ only-of-one i l
+  where
+    within : (b : Bool) → ltb i 64 ≡ b → i < 64
+    within true t = ltb-true i 64 t
+    within false t =
+        let z : true ≡ false = sym e ∙ has-beyond 64 i h (ltb-false i 64 t) in
+        let w : _≡_ {A = ℕ} 0 1 = cc in
+        absurd (omega arith)
+
+    l : i < 64
+    l = within (ltb i 64) refl
+
+    same : s ≡ one i
+    same =
+        inside-both s (one i) (λ j g. has-one i j l ∙ eq-eqb j i (f j g))
+        (λ j g. subst (λ (x : ℕ). has s x ≡ true) (sym (eqb-true j i (sym (has-one i j l) ∙ g))) e)
+
+pub only-nothing : (s : ℕ) → only s ≡ Nothing → count s ≡ 1 → ⊥
+unfolding isSingle
+only-nothing s e c =
+    let q : only s ≡ Element (trailingZeros 64 s) = only-when s (eq-eqb (count s) 1 c) in
+    let w : _≡_ {A = ℕ} 0 1 = cc in
+    omega arith

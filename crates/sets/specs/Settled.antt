@@ -97,7 +97,7 @@ module _ (n : ℕ) (pass : List ℕ → List ℕ) (steady : Steady n pass) where
   pub settle-enough : (m : ℕ) (s : List ℕ) → SetList n s → room s ≤ m → settle pass m s ≡ settled pass s
   settle-enough m s h l =
       let both : SetList n (settle pass m s) × Inside s (settle pass m s) =
-          kept-with (Inside s) (λ r q a. inside-trans a (steady .grows r q)) m s h (inside-refl s) in
+      kept-with (Inside s) (λ r q a. inside-trans a (steady .grows r q)) m s h (inside-refl s) in
       let closed : Inside (pass (settled pass s)) (settled pass s) = subst (λ (r : List ℕ). Inside r (settled pass s)) (sym (settled-closed s h)) (inside-refl _) in
       settled-is s (settle pass m s) h (both .0) (both .1)
       (settle-inside m s (settled pass s) h (settled-sets s h) (settled-holds-start s h) closed)

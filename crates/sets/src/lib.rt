@@ -1,5 +1,9 @@
 // Sets of at most 64 elements, each in one number: element i is bit i. And the solver of least closed lists of sets.
 ghost use mathlib.Core.Path.{_≡_};
+ghost use Prim.Native.Nat.{_<_, min};
+ghost use lib.ListN.{length, getD};
+ghost use Rattle.sets.specs.Least.{least};
+ghost use Rattle.sets.specs.Pass.{Put, Passed};
 ghost use Rattle.sets.specs.Set.{has, firsts, one, with, union, inter, minus, subset, isEmpty, count, isSingle, only, lowest};
 
 // The element that a question finds, or that there is none.
@@ -125,4 +129,103 @@ pub fn lowest(s: u64) -> Which
         return Which::Nothing;
     }
     Which::Element(u64::trailing_zeros(s) as usize)
+}
+
+// x, as an index.
+fn wide(x: u16) -> usize
+    ensures { λ r. ⌜ r ≡ x ⌝ }
+{
+    x as usize
+}
+
+// How many edges there are: as many as the shorter list has.
+fn edges(from: &[u16], to: &[u16]) -> usize
+    ensures { λ r. ⌜ r ≡ min (length (now (from .entry))) (length (now (to .entry))) ⌝ }
+{
+    if from.len() < to.len() {
+        return from.len();
+    }
+    to.len()
+}
+
+// Puts the set at f into the set at t, and returns whether that changed anything or something had changed before.
+fn put_along(sets: &mut [u64], f: usize, t: usize, changed: bool) -> bool
+    ensures { λ r. ⌜ Put f t (now (sets .entry)) (now (sets .exit)) changed r ⌝ }
+{
+    if t < sets.len() {
+        let old = sets[t];
+        if f < sets.len() {
+            let new = old | sets[f];
+            if new != old {
+                sets[t] = new;
+                return true;
+            }
+        }
+    }
+    changed
+}
+
+// Puts along edge k what it leads from, and returns as put_along does.
+fn put_edge(sets: &mut [u64], from: &[u16], to: &[u16], k: usize, changed: bool) -> bool
+    requires { ⌜ (k < length (now from)) × (k < length (now to)) ⌝ }
+    ensures { λ r. ⌜ Put (getD (now (from .entry)) k 0) (getD (now (to .entry)) k 0) (now (sets .entry)) (now (sets .exit)) changed r ⌝ }
+{
+    put_along(sets, wide(from[k]), wide(to[k]), changed)
+}
+
+// Goes along every edge once, from the first to the last, and returns whether anything changed. Two edges a turn: that runs faster.
+fn pass_up(sets: &mut [u64], from: &[u16], to: &[u16]) -> bool
+    ensures { λ r. ⌜ Passed (now (from .entry)) (now (to .entry)) (now (sets .entry)) (now (sets .exit)) r 0 (min (length (now (from .entry))) (length (now (to .entry)))) ⌝ }
+{
+    let n = edges(from, to);
+    let pairs = n - n % 2;
+    let mut changed = false;
+    let mut k = 0;
+    while k < pairs {
+        changed = put_edge(sets, from, to, k, changed);
+        changed = put_edge(sets, from, to, k + 1, changed);
+        k += 2;
+    }
+    if k < n {
+        return put_edge(sets, from, to, k, changed);
+    }
+    changed
+}
+
+// Goes along every edge once, from the last to the first, and returns whether anything changed. Two edges a turn.
+fn pass_down(sets: &mut [u64], from: &[u16], to: &[u16]) -> bool
+    ensures { λ r. ⌜ Passed (now (from .entry)) (now (to .entry)) (now (sets .entry)) (now (sets .exit)) r 0 (min (length (now (from .entry))) (length (now (to .entry)))) ⌝ }
+{
+    let mut changed = false;
+    let mut k = edges(from, to);
+    while 1 < k {
+        changed = put_edge(sets, from, to, k - 1, changed);
+        changed = put_edge(sets, from, to, k - 2, changed);
+        k -= 2;
+    }
+    if 0 < k {
+        return put_edge(sets, from, to, 0, changed);
+    }
+    changed
+}
+
+// One pass in the given order.
+fn pass(sets: &mut [u64], from: &[u16], to: &[u16], order: Order) -> bool
+    ensures { λ r. ⌜ Passed (now (from .entry)) (now (to .entry)) (now (sets .entry)) (now (sets .exit)) r 0 (min (length (now (from .entry))) (length (now (to .entry)))) ⌝ }
+{
+    match order {
+        Order::FirstToLast => pass_up(sets, from, to),
+        Order::LastToFirst => pass_down(sets, from, to),
+    }
+}
+
+// Makes the sets the least ones that hold them and in which, for every edge k, the set at from[k] is inside the set at to[k].
+// An edge from or to a place past the end does nothing. The order changes nothing but the time.
+pub fn solve(sets: &mut [u64], from: &[u16], to: &[u16], order: Order)
+    ensures { λ _. ⌜ now (sets .exit) ≡ least (now (from .entry)) (now (to .entry)) (now (sets .entry)) ⌝ }
+{
+    let mut going = true;
+    while going {
+        going = pass(sets, from, to, order);
+    }
 }

@@ -13,7 +13,9 @@ shl-result : tie.Need-shl-result
 shl-result c = search needs
 
 sub-result : tie.Need-sub-result
-sub-result c = omega (arith, shifted (c .before .args .n) (c .if1 .taken), pow-pos (c .before .args .n))
+sub-result c =
+    let h : c .before .args .n < 64 = omega arith in
+    omega (arith, shifted (c .before .args .n) h, pow-pos (c .before .args .n))
 
 returns : tie.Need-returns
 unfolding firsts

@@ -4,7 +4,7 @@ use Rattle.sets.specs.SetLaws.{only-when, only-unless}
 use borrow.Author.Needs.{needs}
 use borrow.Author.Tests.{eq-eqb, ne-eqb}
 use lib.Count.{trailing-le}
-use mathlib.Core.Path.{sym, _∙_}
+use mathlib.Core.Path.{_≡_, sym, _∙_}
 use native.Mathlib.Omega.{arith}
 use Rattle.sets.proofs.only.Statement.{statement}
 use Rattle.sets.proofs.only.Tie as tie
@@ -17,7 +17,9 @@ cast-t5 c = omega (arith, trailing-le 64 (c .before .before .args .s))
 
 returns : tie.Need-returns
 unfolding isSingle
-returns c = sym (only-when _ (eq-eqb _ 1 (sym (c .before .count .ensures) ∙ c .if1 .taken)))
+returns c =
+    let e : c .before .count .result ≡ 1 = omega arith in
+    sym (only-when _ (eq-eqb _ 1 (sym (c .before .count .ensures) ∙ e)))
 
 returns-2 : tie.Need-returns-2
 unfolding isSingle

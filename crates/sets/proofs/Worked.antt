@@ -1,0 +1,36 @@
+-- The definitions, computed: a chain listed backwards, a cycle, edges past the end; and sets of none, one and two elements. Assumes nothing.
+use mathlib.Core.Path.{_≡_, refl}
+use mathlib.Core.List.{List, [], _∷_}
+use Prim.Native.Nat.{ℕ}
+use lib.Count.{onesIn, trailingZeros}
+use Rattle.sets.specs.Set.{union, minus, count, isSingle, only}
+use Rattle.sets.specs.Least.{same, room, settle, settled, putInto, along, passEdges, least}
+use Rattle.sets.specs.declared.Which.the-variants.{Element, Nothing}
+
+chain : least (2 ∷ 1 ∷ 0 ∷ []) (3 ∷ 2 ∷ 1 ∷ []) (1 ∷ 2 ∷ 4 ∷ 8 ∷ []) ≡ 1 ∷ 3 ∷ 7 ∷ 15 ∷ []
+unfolding least settled settle room same passEdges along putInto union
+chain = refl
+
+cycle : least (0 ∷ 1 ∷ 2 ∷ []) (1 ∷ 2 ∷ 0 ∷ []) (1 ∷ 2 ∷ 4 ∷ 8 ∷ []) ≡ 7 ∷ 7 ∷ 7 ∷ 8 ∷ []
+unfolding least settled settle room same passEdges along putInto union
+cycle = refl
+
+past-the-end : least (5 ∷ 0 ∷ 0 ∷ []) (0 ∷ 5 ∷ 1 ∷ []) (1 ∷ 2 ∷ []) ≡ 1 ∷ 3 ∷ []
+unfolding least settled settle room same passEdges along putInto union
+past-the-end = refl
+
+only-of-none : only 0 ≡ Nothing
+unfolding only isSingle count onesIn
+only-of-none = refl
+
+only-of-one-element : only 9223372036854775808 ≡ Element 63
+unfolding only isSingle count onesIn trailingZeros
+only-of-one-element = refl
+
+only-of-two : only 6 ≡ Nothing
+unfolding only isSingle count onesIn
+only-of-two = refl
+
+left-over : minus 12 10 ≡ 4
+unfolding minus
+left-over = refl
