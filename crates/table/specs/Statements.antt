@@ -35,29 +35,40 @@ unfoldable pub argumentOk : List ℤ → ℕ → ℕ → ℕ → ℕ → Bool
 argumentOk f r q k x =
     cond (ltb k (parameters f q)) (ownOfKind f r (kindOf f (handlesFrom f q + k)) x) (eqb x 0)
 
--- CALL and START: a routine, and its arguments
+-- the four arguments, which stand in fields 3 to 6, and the last field, which is 0
+unfoldable pub argumentsOk : List ℤ → ℕ → ℕ → ℕ → Bool
+argumentsOk f r q line =
+    argumentOk f r q 0 (field f line 3) && argumentOk f r q 1 (field f line 4) && argumentOk f r q 2 (field f line 5) && argumentOk f r q 3 (field f line 6)
+    && unused f line 7
+
+-- CALL and START, in a line of routine r: a routine, and its arguments
 unfoldable pub namingOk : List ℤ → ℕ → ℕ → Bool
-namingOk f r s =
-    ltb (operand f s 0) (routines f) && argumentOk f r (operand f s 0) 0 (operand f s 1) && argumentOk f r (operand f s 0) 1 (operand f s 2)
-    && argumentOk f r (operand f s 0) 2 (operand f s 3) && argumentOk f r (operand f s 0) 3 (operand f s 4) && unused f (statementLine f s) 7
+namingOk f r line = ltb (field f line 2) (routines f) && argumentsOk f r (field f line 2) line
+
+-- POINT, in a line of routine r: two handles of one kind
+unfoldable pub pointOk : List ℤ → ℕ → ℕ → Bool
+pointOk f r line = ownHandle f r (field f line 2) && ownOfKind f r (kindOf f (field f line 2)) (field f line 3) && unused f line 4
+
+-- the rule of an operation, in a line of routine r: its operands, from field 2 on, and zeros behind them; an unknown operation has none
+unfoldable pub operationOk : List ℤ → ℕ → ℕ → ℕ → Bool
+operationOk f r line op =
+    let end = eqb op 12 && unused f line 2 in
+    let jump = ownStatement f r (field f line 2) && unused f line 3 in
+    let naming = namingOk f r line in
+    let point = pointOk f r line in
+    let lock = ownOfKind f r 2 (field f line 2) && unused f line 3 in
+    let value = unused f line 3 in
+    let cell = ownOfKind f r 1 (field f line 2) && unused f line 3 in
+    let from-10 = cond (eqb op 10 || eqb op 11) jump end in
+    let from-8 = cond (eqb op 8 || eqb op 9) naming from-10 in
+    let from-7 = cond (eqb op 7) point from-8 in
+    let from-5 = cond (eqb op 5 || eqb op 6) lock from-7 in
+    let from-3 = cond (eqb op 3 || eqb op 4) value from-5 in
+    cond (eqb op 1 || eqb op 2) cell from-3
 
 -- refusal 9: statement s of routine r has a known operation, right operands, and zeros behind them
 unfoldable pub statementOk : List ℤ → ℕ → ℕ → Bool
-statementOk f r s =
-    let end = eqb (operation f s) 12 && unused f (statementLine f s) 2 in
-    let jump = ownStatement f r (operand f s 0) && unused f (statementLine f s) 3 in
-    let naming = namingOk f r s in
-    let point =
-    ownHandle f r (operand f s 0) && ownOfKind f r (kindOf f (operand f s 0)) (operand f s 1) && unused f (statementLine f s) 4 in
-    let lock = ownOfKind f r 2 (operand f s 0) && unused f (statementLine f s) 3 in
-    let value = unused f (statementLine f s) 3 in
-    let cell = ownOfKind f r 1 (operand f s 0) && unused f (statementLine f s) 3 in
-    let from-10 = cond (eqb (operation f s) 10 || eqb (operation f s) 11) jump end in
-    let from-8 = cond (eqb (operation f s) 8 || eqb (operation f s) 9) naming from-10 in
-    let from-7 = cond (eqb (operation f s) 7) point from-8 in
-    let from-5 = cond (eqb (operation f s) 5 || eqb (operation f s) 6) lock from-7 in
-    let from-3 = cond (eqb (operation f s) 3 || eqb (operation f s) 4) value from-5 in
-    cond (eqb (operation f s) 1 || eqb (operation f s) 2) cell from-3
+statementOk f r s = operationOk f r (statementLine f s) (operation f s)
 
 -- the lowest statement of the n routines from r on that breaks the rule, or the one behind their last
 unfoldable pub badStatement : List ℤ → ℕ → ℕ → ℕ

@@ -6,7 +6,8 @@ use mathlib.Core.List.{List, [], _∷_}
 use lib.ListN.{getD, length}
 use lib.Dec.{eqb}
 use lib.IntN.{ℤ}
-use Rattle.table.specs.Fields.{number, field}
+use Rattle.table.specs.Tabulate.{tabulate}
+use Rattle.table.specs.Fields.{number}
 use Rattle.table.specs.Header.{cells, locks, handles, routines, statements, statementLine}
 use Rattle.table.specs.Handles.{routineOf, kindOf, originOf, startOf, handlesFrom, parameters}
 use Rattle.table.specs.Routines.{countOf, firstOf}
@@ -18,16 +19,6 @@ use Rattle.table.specs.declared.Statement.{Statement}
 use Rattle.table.specs.declared.Statement.the-variants.{Read, Write, Set, Add, Take, Give, Point, Call, Start, Jump, JumpZero, Return}
 use Rattle.table.specs.declared.Declaration.{Declaration}
 use Rattle.table.specs.declared.Routine.{Routine}
-
--- a list of n things, by their numbers
-module _ {A : Type 0} where
-  unfoldable pub tabulateFrom : ℕ → ℕ → (ℕ → A) → List A
-  tabulateFrom from zero g = []
-  tabulateFrom from (suc n) g = g from ∷ tabulateFrom (from + 1) n g
-
-  unfoldable pub tabulate : ℕ → (ℕ → A) → List A
-  unfolding tabulateFrom
-  tabulate n g = tabulateFrom 0 n g
 
 -- "All things, handles and statements too, are numbered from 0 through the whole table": a table is how many cells and locks it has, and its handles,
 -- routines and statements, each by its number

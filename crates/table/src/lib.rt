@@ -1,14 +1,26 @@
 // The reader: a table text, or the first refusal of document 01. Crates above see only the promises here.
-pub mod fields;
-pub mod handles;
-pub mod header;
-pub mod routines;
-pub mod statements;
+mod checks;
+mod fields;
+mod handles;
+mod header;
+mod naming;
+mod routines;
+mod statements;
+
+ghost use mathlib.Core.Path.{_≡_};
+ghost use Rattle.table.specs.Verdict.{readingOf, turnedDown};
+use lines::FirstBad;
 
 // What is said of a text: a table, or the number of the first refusal that applies and the line that goes with it.
 pub enum Verdict {
     Accepted,
     Refused { number: u32, line: usize },
+}
+
+// A text that was read: the verdict, and the numbers of its lines, eight a line; zeros behind its last line, and everywhere if it is refused.
+pub struct Reading {
+    pub verdict: Verdict,
+    pub numbers: [i32; 5384],
 }
 
 // A handle that a statement names, by its number through the whole table.
@@ -69,4 +81,39 @@ pub struct Routine {
     pub handle: usize,
     pub handles: usize,
     pub parameters: usize,
+}
+
+// The reading of a refused text.
+fn refused(number: u32, line: usize) -> Reading
+    ensures { λ r. ⌜ r ≡ turnedDown number line ⌝ }
+{
+    Reading {
+        verdict: Verdict::Refused { number, line },
+        numbers: [0i32; 5384],
+    }
+}
+
+// The table of a text, or the first refusal: its verdict and its numbers, for every text.
+pub fn read(text: &[u8]) -> Reading
+    ensures { λ r. ⌜ r ≡ readingOf (now (text .entry)) ⌝ }
+{
+    if !checks::text_ok(text.len()) {
+        return refused(1, 0);
+    }
+    let page = lines::read_page(text);
+    let first_bad = page.first_bad;
+    match first_bad {
+        FirstBad::Line(i) => refused(2, i),
+        FirstBad::Nothing => {
+            let numbers = page.numbers;
+            let verdict = checks::numbers_verdict(&numbers[..], text.len() / 49);
+            match verdict {
+                Verdict::Accepted => Reading {
+                    verdict: Verdict::Accepted,
+                    numbers,
+                },
+                Verdict::Refused { number, line } => refused(number, line),
+            }
+        }
+    }
 }

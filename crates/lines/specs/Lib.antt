@@ -1,0 +1,10 @@
+pub mod Field
+pub mod FieldLoops
+pub mod Lowest
+pub mod LowestLaws
+pub mod Line
+pub mod LineLoops
+pub mod FieldLaws
+pub mod LineLaws
+pub mod Print
+pub mod PrintLoops

@@ -1,0 +1,341 @@
+-- What the loops over fields and lines need of the definitions: pieces one after the other, and what is left to read.
+-- Assumes nothing.
+use mathlib.Core.Path.{_≡_, refl, sym, ap, _∙_}
+use Prim.Native.Nat.{ℕ, zero, suc, _+_, _*_, _-_, _≤_, _<_}
+use native.Mathlib.Omega.{arith}
+use native.Mathlib.Numerals.{add-one}
+use native.Mathlib.Nat.{mul-suc, mul-zero, zero-add, add-zero}
+use mathlib.Core.Bool.{Bool, true, false}
+use mathlib.Core.Option.{Option, none, some}
+use mathlib.Core.List.{List, [], _∷_, _++_, append-assoc, append-nil}
+use lib.Dec.{eqb}
+use lib.IntN.{ℤ, pos}
+use lib.ListN.{length, getD, take, drop, set, replicate, length-append, length-replicate, length-take, length-drop, drop-of-length-le, replicate-append-replicate, List·getD-append}
+use lib.Seq.{drop-cons, drop-drop, take-take, getD-append-add, set-at, getD-take, getD-drop}
+use borrow.Author.Tests.{eq-eqb, ne-eqb, eqb-true, eqb-false}
+use Rattle.lines.specs.Field.{fieldOf}
+use Rattle.lines.specs.FieldLoops.{field-short}
+use Rattle.lines.specs.Line.{endOf, joined, fieldsOf, lineOf, lineAt, orZeros, goodLine, lineCount, firstBad, lineNumbers, pieces, numbersOf}
+use Rattle.lines.specs.LowestLaws.{Passed, passed-start, passed-next, passed-stop, passed-done}
+
+-- pieces, one after the other
+
+module _ (f : List ℕ → List ℤ) (w : ℕ) where
+  pub pieces-none : (t : List ℕ) → pieces f w 0 t ≡ []
+  unfolding pieces
+  pieces-none t = refl
+
+  pub pieces-cons : (n : ℕ) (t : List ℕ) → pieces f w (suc n) t ≡ f (take w t) ++ pieces f w n (drop w t)
+  unfolding pieces
+  pieces-cons n t = refl
+
+  pub pieces-split : (n m : ℕ) (t : List ℕ) → pieces f w (n + m) t ≡ pieces f w n t ++ pieces f w m (drop (w * n) t)
+  pieces-split zero m t = rw (zero-add, mul-zero, pieces-none)
+  pieces-split (suc n) m t =
+      let e : suc n + m ≡ suc (n + m) = omega arith in
+      let k : w * suc n ≡ w + w * n = mul-suc w n ∙ omega arith in
+      rw (e, k, pieces-cons (n + m) t, pieces-cons n t, append-assoc, ← drop-drop)
+      (ap (λ (l : List ℤ). f (take w t) ++ l) (pieces-split n m (drop w t)))
+
+  pub pieces-next : (n : ℕ) (t : List ℕ) → pieces f w (suc n) t ≡ pieces f w n t ++ f (take w (drop (w * n) t))
+  pieces-next n t =
+      let e : suc n ≡ n + 1 = omega arith in
+      rw (e, pieces-split n 1 t, pieces-cons 0 (drop (w * n) t), pieces-none, append-nil)
+
+  module _ (k : ℕ) (sized : (b : List ℕ) → length (f b) ≡ k) where
+    pub pieces-length : (n : ℕ) (t : List ℕ) → length (pieces f w n t) ≡ k * n
+    pieces-length zero t = rw (pieces-none, mul-zero)
+    pieces-length (suc n) t = rw (pieces-cons, length-append, sized, pieces-length n (drop w t), mul-suc) (omega arith)
+
+    -- number j of piece i
+    pub pieces-at : (n i j : ℕ) (t : List ℕ) (d : ℤ) → i < n → j < k
+        → getD (pieces f w n t) (k * i + j) d ≡ getD (f (take w (drop (w * i) t))) j d
+    pieces-at zero i j t d h g = absurd (omega arith)
+    pieces-at (suc n) zero j t d h g =
+        rw (pieces-cons, mul-zero k, mul-zero w, zero-add) (List·getD-append (f (take w t)) (pieces f w n (drop w t)) d j (rw sized g))
+    pieces-at (suc n) (suc i) j t d h g =
+        let e : k * suc i + j ≡ length (f (take w t)) + (k * i + j) = omega (arith, mul-suc k i, sized (take w t)) in
+        let u : w * suc i ≡ w + w * i = mul-suc w i ∙ omega arith in
+        rw (pieces-cons, e, getD-append-add, u, ← drop-drop) (pieces-at n i j (drop w t) d (omega arith) g)
+
+-- fields and a line feed
+
+pub fields-end : (bs : List ℕ) → fieldsOf 0 bs ≡ endOf bs
+unfolding fieldsOf
+fields-end bs = refl
+
+pub fields-cons : (k : ℕ) (bs : List ℕ) → fieldsOf (suc k) bs ≡ joined (fieldOf (take 6 bs)) (fieldsOf k (drop 6 bs))
+unfolding fieldsOf
+fields-cons k bs = refl
+
+pub field-length : (cs : List ℕ) (z : ℤ) → fieldOf cs ≡ some z → length cs ≡ 6
+field-length cs z h = go (eqb (length cs) 6) refl
+  where
+    go : (b : Bool) → eqb (length cs) 6 ≡ b → length cs ≡ 6
+    go true e = eqb-true (length cs) 6 e
+    go false e = let u : _≡_ {A = ℕ} 0 1 = cc (field-short cs (eqb-false (length cs) 6 e)) in absurd (omega arith)
+
+-- the parts of a joined answer
+pub record Joined (o : Option ℤ) (p : Option (List ℤ)) (zs : List ℤ) : Type 0 where
+  pub head : ℤ
+  pub tail : List ℤ
+  pub of-head : o ≡ some head
+  pub of-tail : p ≡ some tail
+  pub whole : zs ≡ head ∷ tail
+
+pub joined-some : (o : Option ℤ) (p : Option (List ℤ)) (zs : List ℤ) → joined o p ≡ some zs → Joined o p zs
+joined-some none p zs h = let u : _≡_ {A = ℕ} 0 1 = cc in absurd (omega arith)
+joined-some (some z) none zs h = let u : _≡_ {A = ℕ} 0 1 = cc in absurd (omega arith)
+joined-some (some z) (some ws) zs h = record { head = z; tail = ws; of-head = refl; of-tail = refl; whole = cc }
+
+pub end-some : (bs : List ℕ) (zs : List ℤ) → endOf bs ≡ some zs → (bs ≡ 10 ∷ []) × (zs ≡ [])
+end-some [] zs h = let u : _≡_ {A = ℕ} 0 1 = cc in absurd (omega arith)
+end-some (c ∷ d ∷ bs) zs h = let u : _≡_ {A = ℕ} 0 1 = cc in absurd (omega arith)
+end-some (c ∷ []) zs h = go (eqb c 10) refl
+  where
+    go : (b : Bool) → eqb c 10 ≡ b → (c ∷ [] ≡ 10 ∷ []) × (zs ≡ [])
+    go true e = let g : some [] ≡ some zs = rw (e, endOf) at h in (ap (λ (x : ℕ). x ∷ []) (eqb-true c 10 e), cc)
+    go false e = let g : none ≡ some zs = rw (e, endOf) at h in let u : _≡_ {A = ℕ} 0 1 = cc in absurd (omega arith)
+
+pub fields-sized : (k : ℕ) (bs : List ℕ) (zs : List ℤ) → fieldsOf k bs ≡ some zs → (length bs ≡ 6 * k + 1) × (length zs ≡ k)
+fields-sized zero bs zs h =
+    let g : (bs ≡ 10 ∷ []) × (zs ≡ []) = end-some bs zs (sym (fields-end bs) ∙ h) in
+    (rw (g .0) refl, rw (g .1) refl)
+fields-sized (suc k) bs zs h =
+    let j : Joined (fieldOf (take 6 bs)) (fieldsOf k (drop 6 bs)) zs = joined-some _ _ zs (sym (fields-cons k bs) ∙ h) in
+    let g : (length (drop 6 bs) ≡ 6 * k + 1) × (length (j .tail) ≡ k) = fields-sized k (drop 6 bs) (j .tail) (j .of-tail) in
+    (omega (arith, g .0, length-drop 6 bs), rw (j .whole) (ap suc (g .1)))
+
+-- a line's numbers are eight
+pub line-sized : (bs : List ℕ) → length (lineNumbers bs) ≡ 8
+line-sized bs = go (lineOf bs) refl
+  where
+    go : (o : Option (List ℤ)) → lineOf bs ≡ o → length (orZeros o) ≡ 8
+    go none e = refl
+    go (some zs) e = fields-sized 8 bs zs e .1
+
+pub numbers-sized : (t : List ℕ) → length (numbersOf t) ≡ 5384
+numbers-sized t = pieces-length lineNumbers 49 8 line-sized 673 t
+
+pub line-short : (bs : List ℕ) → (length bs ≡ 49 → ⊥) → lineOf bs ≡ none
+line-short bs n = go (lineOf bs) refl
+  where
+    go : (o : Option (List ℤ)) → lineOf bs ≡ o → lineOf bs ≡ none
+    go none e = e
+    go (some zs) e = absurd (n (fields-sized 8 bs zs e .0))
+
+-- the fields of a line that have been read
+
+abbrev pub orZero : Option ℤ → ℤ
+orZero none = pos 0
+orZero (some z) = z
+
+-- the number of a field, 0 where it is none
+abbrev pub fieldNumber : List ℕ → List ℤ
+fieldNumber cs = orZero (fieldOf cs) ∷ []
+
+abbrev pub prefixed : List ℤ → Option (List ℤ) → Option (List ℤ)
+prefixed zs none = none
+prefixed zs (some ws) = some (zs ++ ws)
+
+abbrev pub firstFields : ℕ → List ℕ → List ℤ
+firstFields j b = pieces fieldNumber 6 j b
+
+first-length : (j : ℕ) (b : List ℕ) → length (firstFields j b) ≡ j
+first-length j b = rw (pieces-length fieldNumber 6 1 (λ b. refl)) (omega arith)
+
+-- after `done`, base numbers, stand the first j numbers of the line b, and zeros; and what is left of b gives the whole
+pub record Reading (done : List ℤ) (base size : ℕ) (b : List ℕ) (j : ℕ) (numbers : List ℤ) : Type 0 where
+  pub few : j ≤ 8
+  pub based : length done ≡ base
+  pub kept : numbers ≡ (done ++ firstFields j b) ++ replicate (size - (base + j)) (pos 0)
+  pub left : lineOf b ≡ prefixed (firstFields j b) (fieldsOf (8 - j) (drop (6 * j) b))
+
+prefixed-nil : (o : Option (List ℤ)) → o ≡ prefixed [] o
+prefixed-nil none = refl
+prefixed-nil (some ws) = refl
+
+prefixed-joined : (zs : List ℤ) (z : ℤ) (o : Option (List ℤ)) → prefixed zs (joined (some z) o) ≡ prefixed (zs ++ z ∷ []) o
+prefixed-joined zs z none = refl
+prefixed-joined zs z (some ws) = ap {B = Option (List ℤ)} some (sym (append-assoc zs (z ∷ []) ws))
+
+pub reading-start : (done : List ℤ) (base size : ℕ) (b : List ℕ) (numbers : List ℤ) → length done ≡ base
+    → numbers ≡ done ++ replicate (size - base) (pos 0) → Reading done base size b 0 numbers
+reading-start done base size b numbers l e = record {
+  few = omega arith;
+  based = l;
+  kept = rw (pieces-none, append-nil, add-zero) e;
+  left = rw (pieces-none) (prefixed-nil (lineOf b));
+}
+
+module _ {done : List ℤ} {base size : ℕ} {b : List ℕ} {j : ℕ} {numbers : List ℤ} (r : Reading done base size b j numbers) where
+  split : j < 8 → fieldsOf (8 - j) (drop (6 * j) b) ≡ joined (fieldOf (take 6 (drop (6 * j) b))) (fieldsOf (8 - suc j) (drop (6 * suc j) b))
+  split h =
+      let k : 8 - j ≡ suc (8 - suc j) = omega arith in
+      let m : 6 * suc j ≡ 6 * j + 6 = omega arith in
+      rw (k, m, ← drop-drop) (fields-cons (8 - suc j) (drop (6 * j) b))
+
+  pub reading-next : (z : ℤ) → j < 8 → base + j < size → fieldOf (take 6 (drop (6 * j) b)) ≡ some z
+      → Reading done base size b (j + 1) (set numbers (base + j) z)
+  reading-next z h w e =
+      let p : firstFields (suc j) b ≡ firstFields j b ++ z ∷ [] = pieces-next fieldNumber 6 j b ∙ rw e in
+      let k : size - (base + j) ≡ suc (size - (base + suc j)) = omega arith in
+      let l : length (done ++ firstFields j b) ≡ base + j = rw (length-append, first-length, r .based) in
+      rw add-one (record {
+        few = h;
+        based = r .based;
+        kept = rw (r .kept, k, p, set-at (done ++ firstFields j b) (pos 0) (replicate (size - (base + suc j)) (pos 0)) z (base + j) l) (simp append-assoc);
+        left = r .left ∙ rw (split h, e, p) (prefixed-joined (firstFields j b) z (fieldsOf (8 - suc j) (drop (6 * suc j) b)));
+      })
+
+  pub reading-bad : j < 8 → fieldOf (take 6 (drop (6 * j) b)) ≡ none → lineOf b ≡ none
+  reading-bad h e = r .left ∙ rw (split h, e)
+
+  pub reading-sized : base + j ≤ size → length numbers ≡ size
+  reading-sized h = rw (r .kept, length-append, length-append, first-length, r .based, length-replicate) (omega arith)
+
+end-feed : (c : ℕ) → c ≡ 10 → endOf (c ∷ []) ≡ some []
+end-feed c e = rw (eq-eqb c 10 e, endOf)
+
+end-other : (c : ℕ) → (c ≡ 10 → ⊥) → endOf (c ∷ []) ≡ none
+end-other c e = rw (ne-eqb c 10 e, endOf)
+
+module _ {done : List ℤ} {base size : ℕ} {b : List ℕ} {j : ℕ} {numbers : List ℤ} (r : Reading done base size b j numbers) (all : 8 ≤ j) (whole : length b ≡ 49) where
+  eight : j ≡ 8
+  eight = omega (arith, r .few)
+
+  last : drop (6 * j) b ≡ getD b 48 0 ∷ []
+  last = rw (eight, drop-cons b 48 0 (omega arith), drop-of-length-le b {i = 49} (omega arith))
+
+  pub reading-end : getD b 48 0 ≡ 10 → lineOf b ≡ some (firstFields 8 b)
+  reading-end e = r .left ∙ rw (last, eight, fields-end, end-feed _ e, append-nil)
+
+  pub reading-no-end : (getD b 48 0 ≡ 10 → ⊥) → lineOf b ≡ none
+  reading-no-end e = r .left ∙ rw (last, eight, fields-end, end-other _ e)
+
+  pub reading-kept : numbers ≡ (done ++ firstFields 8 b) ++ replicate (size - (base + 8)) (pos 0)
+  reading-kept = rw (← eight) (r .kept)
+
+-- a line as a part of a text
+
+take-drop-take : (k m n : ℕ) (l : List ℕ) → m + k ≤ n → take k (drop m (take n l)) ≡ take k (drop m l)
+take-drop-take k zero n l h = take-take k n l (omega arith)
+take-drop-take k (suc m) zero l h = absurd (omega arith)
+take-drop-take k (suc m) (suc n) [] h = refl
+take-drop-take k (suc m) (suc n) (x ∷ l) h = take-drop-take k m n l (omega arith)
+
+pub line-field : (t : List ℕ) (at j : ℕ) → j < 8 → take 6 (drop (6 * j) (take 49 (drop at t))) ≡ take 6 (drop (at + 6 * j) t)
+line-field t at j h = take-drop-take 6 (6 * j) 49 (drop at t) (omega arith) ∙ rw drop-drop
+
+pub line-last : (t : List ℕ) (at : ℕ) → getD (take 49 (drop at t)) 48 0 ≡ getD t (at + 48) 0
+line-last t at = getD-take 49 (drop at t) 48 0 (omega arith) ∙ getD-drop at t 48 0
+
+pub line-whole : (t : List ℕ) (at : ℕ) → at + 49 ≤ length t → length (take 49 (drop at t)) ≡ 49
+line-whole t at h = rw (length-take, length-drop) (omega arith)
+
+-- the lines of a text, from the first
+
+-- before line i every line is good, and its numbers stand in their places, zeros behind them
+pub record Paging (t : List ℕ) (n i : ℕ) (numbers : List ℤ) : Type 0 where
+  pub counted : n ≡ lineCount t
+  pub passed : Passed (goodLine t) n i
+  pub kept : numbers ≡ pieces lineNumbers 49 i t ++ replicate (5384 - 8 * i) (pos 0)
+
+-- the same, with j fields of line i
+pub record InLine (t : List ℕ) (n i j : ℕ) (numbers : List ℤ) : Type 0 where
+  pub counted : n ≡ lineCount t
+  pub passed : Passed (goodLine t) n i
+  pub more : i < n
+  pub reading : Reading (pieces lineNumbers 49 i t) (8 * i) 5384 (lineAt t i) j numbers
+
+-- where the lines are left: at the end, or at the first bad one
+pub record Left (t : List ℕ) (n i : ℕ) (numbers : List ℤ) : Type 0 where
+  pub bad : i < n → firstBad t ≡ some i
+  pub good : n ≤ i → (firstBad t ≡ none) × (numbers ≡ numbersOf t)
+
+pub page-start : (t : List ℕ) (n : ℕ) → n ≡ lineCount t → Paging t n 0 (replicate 5384 (pos 0))
+page-start t n e = record { counted = e; passed = passed-start (goodLine t) n; kept = rw pieces-none }
+
+rows-sized : (i : ℕ) (t : List ℕ) → length (pieces lineNumbers 49 i t) ≡ 8 * i
+rows-sized i t = pieces-length lineNumbers 49 8 line-sized i t
+
+pub page-in : {t : List ℕ} {n i : ℕ} {numbers : List ℤ} → Paging t n i numbers → i < n → InLine t n i 0 numbers
+page-in {t} {n} {i} {numbers} p h = record {
+  counted = p .counted;
+  passed = p .passed;
+  more = h;
+  reading = reading-start (pieces lineNumbers 49 i t) (8 * i) 5384 (lineAt t i) numbers (rows-sized i t) (p .kept);
+}
+
+pub page-few : (t : List ℕ) (n : ℕ) → n ≡ lineCount t → (n ≤ 673) × (49 * n ≤ length t)
+page-few t n e = rw e (omega arith, omega arith)
+
+pub page-whole : {t : List ℕ} {n i j : ℕ} {numbers : List ℤ} → InLine t n i j numbers → 49 * i + 49 ≤ length t
+page-whole {t} {n} {i} p = omega (arith, p .more, page-few t n (p .counted) .1)
+
+pub page-field : {t : List ℕ} {n i j : ℕ} {numbers : List ℤ} (z : ℤ) → InLine t n i j numbers → j < 8
+    → fieldOf (take 6 (drop (49 * i + 6 * j) t)) ≡ some z → InLine t n i (j + 1) (set numbers (8 * i + j) z)
+page-field {t} {n} {i} {j} z p h e = record {
+  counted = p .counted;
+  passed = p .passed;
+  more = p .more;
+  reading = reading-next (p .reading) z h (omega (arith, p .more, page-few t n (p .counted) .0)) (ap fieldOf (line-field t (49 * i) j h) ∙ e);
+}
+
+page-next : {t : List ℕ} {n i : ℕ} {numbers : List ℤ} → Passed (goodLine t) n i → n ≡ lineCount t → i < n → (zs : List ℤ)
+    → lineOf (lineAt t i) ≡ some zs → numbers ≡ (pieces lineNumbers 49 i t ++ zs) ++ replicate (5384 - (8 * i + 8)) (pos 0) → Paging t n (i + 1) numbers
+page-next {t} {n} {i} p c h zs e k =
+    let u : 8 * suc i ≡ 8 * i + 8 = omega arith in
+    record {
+      counted = c;
+      passed = passed-next p h (rw e);
+      kept = k ∙ rw (add-one, u, pieces-next lineNumbers 49 i t, e);
+    }
+
+pub page-feed : {t : List ℕ} {n i j : ℕ} {numbers : List ℤ} → InLine t n i j numbers → 8 ≤ j → getD t (49 * i + 48) 0 ≡ 10 → Paging t n (i + 1) numbers
+page-feed {t} {n} {i} p h e =
+    let w : length (lineAt t i) ≡ 49 = line-whole t (49 * i) (page-whole p) in
+    page-next (p .passed) (p .counted) (p .more) (firstFields 8 (lineAt t i))
+    (reading-end (p .reading) h w (line-last t (49 * i) ∙ e)) (reading-kept (p .reading) h w)
+
+left-bad : {t : List ℕ} {n i j : ℕ} {numbers : List ℤ} → InLine t n i j numbers → lineOf (lineAt t i) ≡ none → Left t n i numbers
+left-bad {t} {n} {i} p e = record {
+  bad = λ h. rw (← (p .counted)) (passed-stop (p .passed) h (rw e));
+  good = λ h. absurd (omega (arith, p .more));
+}
+
+pub page-bad-field : {t : List ℕ} {n i j : ℕ} {numbers : List ℤ} → InLine t n i j numbers → j < 8
+    → fieldOf (take 6 (drop (49 * i + 6 * j) t)) ≡ none → Left t n i numbers
+page-bad-field {t} {n} {i} {j} p h e = left-bad p (reading-bad (p .reading) h (ap fieldOf (line-field t (49 * i) j h) ∙ e))
+
+pub page-bad-feed : {t : List ℕ} {n i j : ℕ} {numbers : List ℤ} → InLine t n i j numbers → 8 ≤ j → (getD t (49 * i + 48) 0 ≡ 10 → ⊥) → Left t n i numbers
+page-bad-feed {t} {n} {i} {j} p h e =
+    left-bad p (reading-no-end (p .reading) h (line-whole t (49 * i) (page-whole p)) (λ u. e (sym (line-last t (49 * i)) ∙ u)))
+
+-- pieces of a text that is too short are no lines
+short-rows : (m : ℕ) (s : List ℕ) → length s < 49 → pieces lineNumbers 49 m s ≡ replicate (8 * m) (pos 0)
+short-rows zero s h = pieces-none lineNumbers 49 s
+short-rows (suc m) s h =
+    let e : lineOf (take 49 s) ≡ none = line-short (take 49 s) (λ l. omega (arith, l, length-take 49 s)) in
+    let d : drop 49 s ≡ [] = drop-of-length-le s {i = 49} (omega arith) in
+    let u : 8 * suc m ≡ 8 + 8 * m = omega arith in
+    rw (pieces-cons, e, d, short-rows m [] (omega arith), u) (replicate-append-replicate 8 (8 * m) (pos 0))
+
+rows-rest : (t : List ℕ) (n m : ℕ) → n ≡ lineCount t → n + m ≡ 673 → pieces lineNumbers 49 m (drop (49 * n) t) ≡ replicate (8 * m) (pos 0)
+rows-rest t n zero e h = pieces-none lineNumbers 49 (drop (49 * n) t)
+rows-rest t n (suc m) e h =
+    short-rows (suc m) (drop (49 * n) t) (rw length-drop (omega arith))
+
+pub page-done : {t : List ℕ} {n i : ℕ} {numbers : List ℤ} → Paging t n i numbers → n ≤ i → Left t n i numbers
+page-done {t} {n} {i} p h =
+    let e : i ≡ n = omega (arith, p .passed .within) in
+    let c : i ≡ lineCount t = e ∙ p .counted in
+    let m : i + (673 - i) ≡ 673 = omega (arith, page-few t n (p .counted) .0) in
+    let k : 5384 - 8 * i ≡ 8 * (673 - i) = omega (arith, page-few t n (p .counted) .0) in
+    record {
+      bad = λ g. absurd (omega arith);
+      good = λ g. (
+        rw (← (p .counted)) (passed-done (p .passed) h),
+        p .kept ∙ rw (k, ← rows-rest t i (673 - i) c m, ← pieces-split lineNumbers 49 i (673 - i) t, m),
+      );
+    }

@@ -1,0 +1,338 @@
+// A line of a table text: eight fields of six characters and a line feed, read and printed.
+ghost use mathlib.Core.Path.{_≡_};
+ghost use Prim.Native.Nat.{_+_, _≤_, _<_};
+ghost use mathlib.Core.Bool.{true};
+ghost use mathlib.Core.List.{_++_};
+ghost use lib.IntN.{natAbs};
+ghost use lib.ListN.{length, take, drop};
+ghost use lib.Seq.{paste};
+ghost use Rattle.lines.specs.Field.{fieldOf, decimalOf, digitsFrom, fieldAnswer, decimalAnswer, fieldAt, inField, fieldText};
+ghost use Rattle.lines.specs.FieldLoops.{PastSpaces};
+ghost use Rattle.lines.specs.Print.{printAnswer, printedAt};
+ghost use Rattle.lines.specs.Line.{allInField, lineText, lineOf, lineCount, lineAnswer, pageOf};
+
+// What six characters say: a number, or nothing.
+pub enum Field {
+    Number(i32),
+    Bad,
+}
+
+// Whether 49 bytes are a line.
+pub enum Form {
+    Good,
+    Bad,
+}
+
+// A line that was read: its form, and its numbers, zeros where the form is bad.
+pub struct Line {
+    pub form: Form,
+    pub numbers: [i32; 8],
+}
+
+// The lowest line of a text that is none.
+pub enum FirstBad {
+    Line(usize),
+    Nothing,
+}
+
+// A text that was read: its first bad line, and the numbers of 673 lines, eight a line. Zeros stand where a text has fewer
+// lines, and everywhere where a line is bad.
+pub struct Page {
+    pub first_bad: FirstBad,
+    pub numbers: [i32; 5384],
+}
+
+// What printing a line did: wrote it whole, or nothing.
+pub enum Printed {
+    Whole,
+    NoRoom,
+    NoField,
+}
+
+// What characters say that are to be digits alone.
+enum Decimal {
+    Value(u32),
+    Bad,
+}
+
+// The place of the first character that is no space, the length where there is none.
+fn past_spaces(cs: &[u8]) -> usize
+    ensures { λ r. ⌜ PastSpaces (now (cs .entry)) r ⌝ }
+{
+    let mut i = 0;
+    while i < cs.len() {
+        if cs[i] != b' ' {
+            return i;
+        }
+        i += 1;
+    }
+    i
+}
+
+// The number that the characters from `from` on say, digits all of them.
+fn digits(cs: &[u8], from: usize) -> Decimal
+    requires { ⌜ (length (now cs) ≡ 6) × (from ≤ 6) ⌝ }
+    ensures { λ r. ⌜ r ≡ decimalAnswer (digitsFrom 0 (drop from (now (cs .entry)))) ⌝ }
+{
+    let mut m: u32 = 0;
+    let mut i = from;
+    while i < cs.len() {
+        let c = cs[i];
+        if c < b'0' {
+            return Decimal::Bad;
+        }
+        if b'9' < c {
+            return Decimal::Bad;
+        }
+        m = 10 * m + (c - b'0') as u32;
+        i += 1;
+    }
+    Decimal::Value(m)
+}
+
+// The number that the characters from `from` on say, with no sign and no leading zero.
+fn unsigned(cs: &[u8], from: usize) -> Decimal
+    requires { ⌜ (length (now cs) ≡ 6) × (from ≤ 6) ⌝ }
+    ensures { λ r. ⌜ r ≡ decimalAnswer (decimalOf (drop from (now (cs .entry)))) ⌝ }
+{
+    if from == 6 {
+        return Decimal::Bad;
+    }
+    if cs[from] == b'0' {
+        if from == 5 {
+            return Decimal::Value(0);
+        }
+        return Decimal::Bad;
+    }
+    digits(cs, from)
+}
+
+// The number that six characters say.
+fn field_of(cs: &[u8]) -> Field
+    requires { ⌜ length (now cs) ≡ 6 ⌝ }
+    ensures { λ r. ⌜ r ≡ fieldAnswer (fieldOf (now (cs .entry))) ⌝ }
+{
+    let first = past_spaces(cs);
+    if 6 <= first {
+        return Field::Bad;
+    }
+    if cs[first] == b'-' {
+        return match unsigned(cs, first + 1) {
+            Decimal::Value(m) => {
+                if m == 0 {
+                    return Field::Bad;
+                }
+                Field::Number(-(m as i32))
+            }
+            Decimal::Bad => Field::Bad,
+        };
+    }
+    match unsigned(cs, first) {
+        Decimal::Value(m) => Field::Number(m as i32),
+        Decimal::Bad => Field::Bad,
+    }
+}
+
+// The number that the six characters at a place say; Bad too where fewer stand there.
+pub fn read_field(text: &[u8], at: usize) -> Field
+    ensures { λ r. ⌜ r ≡ fieldAt (now (text .entry)) at ⌝ }
+{
+    if text.len() < 6 {
+        return Field::Bad;
+    }
+    if text.len() - 6 < at {
+        return Field::Bad;
+    }
+    field_of(&text[at..at + 6])
+}
+
+// The eight numbers of the 49 bytes at a place; Bad and zeros where those are no line.
+pub fn read_line(text: &[u8], at: usize) -> Line
+    ensures { λ r. ⌜ r ≡ lineAnswer (lineOf (take 49 (drop at (now (text .entry))))) ⌝ }
+{
+    let bad = Line {
+        form: Form::Bad,
+        numbers: [0; 8],
+    };
+    if text.len() < 49 {
+        return bad;
+    }
+    if text.len() - 49 < at {
+        return bad;
+    }
+    let mut numbers = [0i32; 8];
+    let mut j = 0;
+    while j < 8 {
+        let Field::Number(z) = read_field(text, at + 6 * j) else {
+            return bad;
+        };
+        numbers[j] = z;
+        j += 1;
+    }
+    if text[at + 48] != b'\n' {
+        return bad;
+    }
+    Line {
+        form: Form::Good,
+        numbers,
+    }
+}
+
+// How many whole lines a text has, 673 at most.
+fn line_count(text: &[u8]) -> usize
+    ensures { λ r. ⌜ r ≡ lineCount (now (text .entry)) ⌝ }
+{
+    let n = text.len() / 49;
+    if 673 < n {
+        return 673;
+    }
+    n
+}
+
+// The numbers of a text's lines, and the first line that is none. Looks at whole lines, 673 at most.
+pub fn read_page(text: &[u8]) -> Page
+    ensures { λ r. ⌜ r ≡ pageOf (now (text .entry)) ⌝ }
+{
+    let lines = line_count(text);
+    let mut numbers = [0i32; 5384];
+    let mut i = 0;
+    'lines: while i < lines {
+        let mut j = 0;
+        while j < 8 {
+            let Field::Number(z) = read_field(text, 49 * i + 6 * j) else {
+                break 'lines;
+            };
+            numbers[8 * i + j] = z;
+            j += 1;
+        }
+        if text[49 * i + 48] != b'\n' {
+            break 'lines;
+        }
+        i += 1;
+    }
+    if i < lines {
+        return Page {
+            first_bad: FirstBad::Line(i),
+            numbers: [0; 5384],
+        };
+    }
+    Page {
+        first_bad: FirstBad::Nothing,
+        numbers,
+    }
+}
+
+// Whether a number is in the range of a field.
+fn in_range(n: i32) -> bool
+    ensures { λ r. ⌜ r ≡ inField n ⌝ }
+{
+    if n < -99999 {
+        return false;
+    }
+    if 999999 < n {
+        return false;
+    }
+    true
+}
+
+// Whether every number is in the range of a field.
+fn all_in_range(numbers: [i32; 8]) -> bool
+    ensures { λ r. ⌜ r ≡ allInField numbers ⌝ }
+{
+    let mut i = 0;
+    while i < 8 {
+        if !in_range(numbers[i]) {
+            return false;
+        }
+        i += 1;
+    }
+    true
+}
+
+// A number without its sign.
+fn magnitude(n: i32) -> u32
+    requires { ⌜ inField n ≡ true ⌝ }
+    ensures { λ r. ⌜ r ≡ natAbs n ⌝ }
+{
+    if n < 0 {
+        return (-n) as u32;
+    }
+    n as u32
+}
+
+// The six characters of a number.
+fn field_chars(n: i32) -> [u8; 6]
+    requires { ⌜ inField n ≡ true ⌝ }
+    ensures { λ r. ⌜ r ≡ fieldText n ⌝ }
+{
+    let mut cs = [b' '; 6];
+    let mut m = magnitude(n);
+    let mut k: usize = 5;
+    while 10 <= m {
+        cs[k] = b'0' + (m % 10) as u8;
+        m = m / 10;
+        k -= 1;
+    }
+    cs[k] = b'0' + m as u8;
+    if n < 0 {
+        cs[k - 1] = b'-';
+    }
+    cs
+}
+
+// Puts six characters into a line from a place on; all other places stay.
+fn put_field(line: &mut [u8; 49], at: usize, cs: [u8; 6])
+    requires { ⌜ (length (now line) ≡ 49) × (at + 6 ≤ 49) ⌝ }
+    ensures { λ _. ⌜ now (line .exit) ≡ paste (now (line .entry)) at cs 6 ⌝ }
+{
+    let mut i = 0;
+    while i < 6 {
+        line[at + i] = cs[i];
+        i += 1;
+    }
+}
+
+// The 49 bytes of eight numbers.
+fn line_chars(numbers: [i32; 8]) -> [u8; 49]
+    requires { ⌜ allInField numbers ≡ true ⌝ }
+    ensures { λ r. ⌜ r ≡ lineText numbers ⌝ }
+{
+    let mut line = [b'\n'; 49];
+    let mut i = 0;
+    while i < 8 {
+        put_field(&mut line, 6 * i, field_chars(numbers[i]));
+        i += 1;
+    }
+    line
+}
+
+// Writes a line to the start of a part; the places behind it stay.
+fn put_line(part: &mut [u8], line: [u8; 49])
+    requires { ⌜ 49 ≤ length (now part) ⌝ }
+    ensures { λ _. ⌜ now (part .exit) ≡ paste (now (part .entry)) 0 line 49 ⌝ }
+{
+    let mut i = 0;
+    while i < 49 {
+        part[i] = line[i];
+        i += 1;
+    }
+}
+
+// Prints eight numbers as a line into `out` from `at` on; the other places keep their contents. Where a number is out of range the
+// answer is NoField, else where the line does not fit NoRoom, and then no byte is written.
+pub fn print_line(out: &mut [u8], at: usize, numbers: [i32; 8]) -> Printed
+    ensures answer { λ r. ⌜ r ≡ printAnswer (now (out .entry)) at numbers ⌝ }
+    ensures buffer { λ _. ⌜ now (out .exit) ≡ printedAt (now (out .entry)) at numbers ⌝ }
+{
+    if !all_in_range(numbers) {
+        return Printed::NoField;
+    }
+    if out.len() < 49 {
+        return Printed::NoRoom;
+    }
+    if out.len() - 49 < at {
+        return Printed::NoRoom;
+    }
+    put_line(&mut out[at..], line_chars(numbers));
+    Printed::Whole
+}

@@ -1,0 +1,42 @@
+use mathlib.Core.Path.{ap₂}
+use Prim.Native.Nat.{ℕ, _+_}
+use mathlib.Core.Bool.{_&&_}
+use lib.Dec.{leb, ltb}
+use denote.Ref.{now}
+use Rattle.table.specs.Routines.{firstOf}
+-- `table::statements::own_statement` meets its contract. Assumes nothing.
+use native.Mathlib.Omega.{arith}
+use mathlib.Core.Path.{_∙_}
+use Rattle.table.specs.Statements.{ownStatement}
+use Rattle.table.specs.TabulateLaws.{entry-tabulate}
+use borrow.Author.Needs.{needs}
+use Rattle.table.proofs.statements.own_statement.Statement.{statement}
+use Rattle.table.proofs.statements.own_statement.Tie as tie
+use Rattle.table.proofs.statements.own_statement.Reads as reads
+use Rattle.table.proofs.statements.own_statement.Lts as lts
+use Rattle.table.proofs.routines.entry_at.Reads as entry-at-reads
+
+-- src/statements.rt:37:6
+entry-at-requires : tie.Need-entry-at-requires
+entry-at-requires c κs = search needs
+
+-- src/statements.rt:37:54
+add-entry-at : tie.Need-add-entry-at
+add-entry-at c = search needs
+
+-- src/statements.rt:37:38
+entry-at-requires-2 : tie.Need-entry-at-requires-2
+entry-at-requires-2 c κs = search needs
+
+-- src/statements.rt:32:1
+returns : tie.Need-returns
+unfolding ownStatement
+returns c = let a = c .before .before .before .before .before in
+    let g = firstOf (now (a .args .numbers)) in
+    let x = a .args .x in
+    ap₂ (λ (m n : ℕ). leb m x && ltb x n) (c .before .entry-at .ensures ∙ entry-tabulate 33 g _ (a .args .r) (a .pre .0 .first-is) (omega arith))
+    (c .entry-at2 .ensures ∙ entry-tabulate 33 g _ (a .args .r + 1) (a .pre .0 .first-is) (omega arith))
+
+pub own-statement-spec : {M : Type 1} → statement M
+own-statement-spec =
+    tie.close (tie.spec entry-at-requires add-entry-at entry-at-requires-2 returns)

@@ -1,0 +1,63 @@
+-- What stands where in a list by the numbers of its places. Assumes nothing.
+use mathlib.Core.Path.{_≡_, refl, sym, ap, _∙_}
+use mathlib.Core.List.{List, [], _∷_}
+use Prim.Native.Nat.{ℕ, zero, suc, _+_, _≤_, _<_, zero-le, suc-le-suc}
+use native.Mathlib.Omega.{arith}
+use native.Mathlib.Nat.{add-zero, zero-add, le-of-suc-le-suc, not-suc-le-zero}
+use lib.ListN.{length, getD, set, length-set}
+use lib.Seq.{ext-getD, getD-set-same, getD-set-other}
+use native.Mathlib.Decide.{ℕ-discrete}
+use Rattle.table.specs.Tabulate.{tabulateFrom, tabulate}
+
+module _ {A : Type 0} where
+  length-from : (from n : ℕ) (g : ℕ → A) → length (tabulateFrom from n g) ≡ n
+  unfolding tabulateFrom
+  length-from from zero g = refl
+  length-from from (suc n) g = ap suc (length-from (from + 1) n g)
+
+  getD-from : (from n : ℕ) (g : ℕ → A) (k : ℕ) (d : A) → k < n → getD (tabulateFrom from n g) k d ≡ g (from + k)
+  unfolding tabulateFrom
+  getD-from from zero g k d h = absurd (not-suc-le-zero h)
+  getD-from from (suc n) g zero d h = ap g (sym (add-zero from))
+  getD-from from (suc n) g (suc k) d h =
+      let e : from + 1 + k ≡ from + suc k = omega arith in getD-from (from + 1) n g k d (le-of-suc-le-suc h) ∙ ap g e
+
+  pub length-tabulate : (n : ℕ) (g : ℕ → A) → length (tabulate n g) ≡ n
+  unfolding tabulate
+  length-tabulate n g = length-from 0 n g
+
+  pub getD-tabulate : (n : ℕ) (g : ℕ → A) (k : ℕ) (d : A) → k < n → getD (tabulate n g) k d ≡ g k
+  unfolding tabulate
+  getD-tabulate n g k d h = getD-from 0 n g k d h ∙ ap g (zero-add k)
+
+  -- a list that has at each place what g says is the tabulated one
+  pub is-tabulate : (n : ℕ) (g : ℕ → A) (l : List A) (d : A) → length l ≡ n → ((k : ℕ) → k < n → getD l k d ≡ g k) → l ≡ tabulate n g
+  is-tabulate n g l d e h =
+      ext-getD d l (tabulate n g) (e ∙ sym (length-tabulate n g))
+      (λ i b. let b′ : i < n = omega (arith, e) in h i b′ ∙ sym (getD-tabulate n g i d b′))
+
+-- ---- a list that a loop fills from its front
+
+-- the first r of the n places hold what g says
+pub record Filled (g : ℕ → ℕ) (a : List ℕ) (n r : ℕ) : Type 0 where
+  pub long : length a ≡ n
+  pub holds : (k : ℕ) → k < r → getD a k 0 ≡ g k
+
+pub filled-none : (g : ℕ → ℕ) (a : List ℕ) (n : ℕ) → length a ≡ n → Filled g a n 0
+filled-none g a n e = record { long = e; holds = λ k h. absurd (not-suc-le-zero h) }
+
+pub filled-next : (g : ℕ → ℕ) (a : List ℕ) (n r v : ℕ) → Filled g a n r → r < n → v ≡ g r → Filled g (set a r v) n (r + 1)
+filled-next g a n r v f h e = record { long = length-set a r v ∙ f .long; holds = λ k b. at k b (ℕ-discrete k r) }
+  where
+    at : (k : ℕ) → k < r + 1 → Dec (k ≡ r) → getD (set a r v) k 0 ≡ g k
+    at k b (yes p) =
+        let inside : r < length a = omega (arith, f .long) in
+        ap (λ (i : ℕ). getD (set a r v) i 0) p ∙ getD-set-same a r v 0 inside ∙ e ∙ ap g (sym p)
+    at k b (no q) = let below : k < r = omega (arith, q) in getD-set-other a r k v 0 q ∙ f .holds k below
+
+pub filled-all : (g : ℕ → ℕ) (a : List ℕ) (n r : ℕ) → Filled g a n r → n ≤ r → a ≡ tabulate n g
+filled-all g a n r f h = is-tabulate n g a 0 (f .long) (λ k b. f .holds k (omega arith))
+
+-- an entry of a tabulated list of numbers
+pub entry-tabulate : (n : ℕ) (g : ℕ → ℕ) (l : List ℕ) (k : ℕ) → l ≡ tabulate n g → k < n → getD l k 0 ≡ g k
+entry-tabulate n g l k e h = ap (λ (a : List ℕ). getD a k 0) e ∙ getD-tabulate n g k 0 h

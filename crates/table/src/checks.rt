@@ -1,0 +1,143 @@
+// The verdict: the refusals in their order, each over the whole text before the next.
+ghost use mathlib.Core.Path.{_≡_};
+ghost use mathlib.Core.Bool.{true};
+ghost use Prim.Native.Nat.{ℕ, _<_, _^_};
+ghost use Rattle.table.specs.Tabulate.{tabulate};
+ghost use Rattle.table.specs.Header.{headerOk, statementLine};
+ghost use Rattle.table.specs.Routines.{firstOf};
+ghost use Rattle.table.specs.LayoutLaws.{Laid};
+ghost use Rattle.table.specs.Naming.{namesIn};
+ghost use Rattle.table.specs.Verdict.{namingVerdict, statementVerdict, declarationVerdict, numbersVerdict, textOk};
+use crate::Verdict;
+use crate::fields::field_at;
+use crate::handles::bad_handle;
+use crate::handles::previous;
+use crate::header::bad_leading;
+use crate::header::header_ok;
+use crate::header::length_ok;
+use crate::naming::cyclic;
+use crate::naming::names_in;
+use crate::naming::unnamed;
+use crate::routines::bad_routine;
+use crate::routines::entry_at;
+use crate::routines::first_handles;
+use crate::routines::first_statements;
+use crate::routines::parameter_counts;
+use crate::routines::sum_ok;
+use crate::statements::bad_end;
+use crate::statements::bad_statement;
+
+// Refusals 11 and 12.
+fn naming_verdict(numbers: &[i32], names: &[u64]) -> Verdict
+    ensures { λ v. ⌜ v ≡ namingVerdict (now (numbers .entry)) (now (names .entry)) ⌝ }
+{
+    let count = field_at(numbers, 0, 4);
+    let r = unnamed(names, count);
+    if r < count {
+        return Verdict::Refused {
+            number: 11,
+            line: 1 + field_at(numbers, 0, 3) + r,
+        };
+    }
+    let q = cyclic(names, count);
+    if q < count {
+        return Verdict::Refused {
+            number: 12,
+            line: 1 + field_at(numbers, 0, 3) + q,
+        };
+    }
+    Verdict::Accepted
+}
+
+// The line of statement `s`.
+fn statement_line(numbers: &[i32], s: usize) -> usize
+    requires { ⌜ s < 2 ^ 40 ⌝ }
+    ensures { λ x. ⌜ x ≡ statementLine (now (numbers .entry)) s ⌝ }
+{
+    1 + field_at(numbers, 0, 3) + field_at(numbers, 0, 4) + s
+}
+
+// Refusals 9 to 12, by the lists that the rules are tested with.
+fn statement_checks(numbers: &[i32], first: &[usize], handle: &[usize], counts: &[usize]) -> Verdict
+    requires { ⌜ Laid (now numbers) (now first) (now handle) (now counts) ⌝ }
+    ensures { λ v. ⌜ v ≡ statementVerdict (now (numbers .entry)) ⌝ }
+{
+    let s = bad_statement(numbers, first, handle, counts);
+    if s < field_at(numbers, 0, 5) {
+        return Verdict::Refused {
+            number: 9,
+            line: statement_line(numbers, s),
+        };
+    }
+    let r = bad_end(numbers, first, handle, counts);
+    if r < field_at(numbers, 0, 4) {
+        return Verdict::Refused {
+            number: 10,
+            line: statement_line(numbers, previous(entry_at(first, r + 1))),
+        };
+    }
+    let names = names_in(numbers, first, handle, counts);
+    naming_verdict(numbers, &names[..])
+}
+
+// Refusals 9 to 12.
+fn statement_verdict(numbers: &[i32], first: &[usize]) -> Verdict
+    requires { ⌜ headerOk (now numbers) ≡ true ⌝ }
+    requires { ⌜ now first ≡ tabulate 33 (firstOf (now numbers)) ⌝ }
+    requires { ⌜ ((k : ℕ) → k < 33 → firstOf (now numbers) k < 2 ^ 40) ⌝ }
+    ensures { λ v. ⌜ v ≡ statementVerdict (now (numbers .entry)) ⌝ }
+{
+    let handle = first_handles(numbers);
+    let counts = parameter_counts(numbers, &handle[..]);
+    statement_checks(numbers, first, &handle[..], &counts[..])
+}
+
+// Refusals 6 to 12.
+fn declaration_verdict(numbers: &[i32]) -> Verdict
+    requires { ⌜ headerOk (now numbers) ≡ true ⌝ }
+    ensures { λ v. ⌜ v ≡ declarationVerdict (now (numbers .entry)) ⌝ }
+{
+    let h = bad_handle(numbers);
+    if h < field_at(numbers, 0, 3) {
+        return Verdict::Refused {
+            number: 6,
+            line: 1 + h,
+        };
+    }
+    let r = bad_routine(numbers);
+    if r < field_at(numbers, 0, 4) {
+        return Verdict::Refused {
+            number: 7,
+            line: 1 + field_at(numbers, 0, 3) + r,
+        };
+    }
+    let first = first_statements(numbers);
+    if !sum_ok(numbers, &first[..]) {
+        return Verdict::Refused { number: 8, line: 0 };
+    }
+    statement_verdict(numbers, &first[..])
+}
+
+// Refusals 3 to 12, for a text of so many lines.
+pub fn numbers_verdict(numbers: &[i32], lines: usize) -> Verdict
+    ensures { λ v. ⌜ v ≡ numbersVerdict (now (numbers .entry)) lines ⌝ }
+{
+    if !header_ok(numbers) {
+        return Verdict::Refused { number: 3, line: 0 };
+    }
+    if !length_ok(numbers, lines) {
+        return Verdict::Refused { number: 4, line: 0 };
+    }
+    let line = bad_leading(numbers, lines);
+    if line < lines {
+        return Verdict::Refused { number: 5, line };
+    }
+    declaration_verdict(numbers)
+}
+
+// Refusal 1's rule, of a text's length.
+pub fn text_ok(n: usize) -> bool
+    ensures { λ b. ⌜ b ≡ textOk n ⌝ }
+{
+    (0 < n) & (n % 49 == 0) & (n <= 32977)
+}
