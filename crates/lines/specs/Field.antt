@@ -19,6 +19,7 @@ unfoldable pub digitsFrom : ℕ → List ℕ → Option ℕ
 digitsFrom m [] = some m
 digitsFrom m (c ∷ cs) = elim (isDigit c) [ true ↦ digitsFrom (10 * m + (c - 48)) cs | false ↦ none ]
 
+-- nothing stands behind a leading 0
 abbrev zeroAlone : List ℕ → Option ℕ
 zeroAlone [] = some 0
 zeroAlone (c ∷ cs) = none
@@ -28,11 +29,12 @@ unfoldable pub decimalOf : List ℕ → Option ℕ
 decimalOf [] = none
 decimalOf (c ∷ cs) = elim (eqb c 48) [ true ↦ zeroAlone cs | false ↦ digitsFrom 0 (c ∷ cs) ]
 
+-- a number with no sign
 abbrev pub positive : Option ℕ → Option ℤ
 positive none = none
 positive (some n) = some (pos n)
 
--- no -0
+-- a number behind a minus sign: no -0 (`negsuc n` is -(n + 1))
 abbrev pub negative : Option ℕ → Option ℤ
 negative none = none
 negative (some zero) = none
@@ -52,7 +54,7 @@ spacedOf (c ∷ cs) = elim (eqb c 32) [ true ↦ spacedOf cs | false ↦ signedO
 unfoldable pub fieldOf : List ℕ → Option ℤ
 fieldOf cs = elim (eqb (length cs) 6) [ true ↦ spacedOf cs | false ↦ none ]
 
--- the range of a field: -99,999 to 999,999
+-- the range of a field: -99,999 to 999,999. Six characters say no other number (`read-field-prints-back`)
 abbrev pub inField : ℤ → Bool
 inField (pos n) = ltb n 1000000
 inField (negsuc n) = ltb n 99999

@@ -20,6 +20,7 @@ endOf [] = none
 endOf (c ∷ []) = elim (eqb c 10) [ true ↦ some [] | false ↦ none ]
 endOf (c ∷ d ∷ cs) = none
 
+-- a first number and the others, where both are there
 abbrev pub joined : Option ℤ → Option (List ℤ) → Option (List ℤ)
 joined none zs = none
 joined (some z) none = none
@@ -48,10 +49,12 @@ lineText (z ∷ zs) = fieldText z ++ lineText zs
 abbrev pub lineAt : List ℕ → ℕ → List ℕ
 lineAt text i = take 49 (drop (49 * i) text)
 
+-- whether bytes are a line, by what was read of them
 abbrev pub isSome : Option (List ℤ) → Bool
 isSome none = false
 isSome (some zs) = true
 
+-- eight zeros where there is no line
 abbrev pub orZeros : Option (List ℤ) → List ℤ
 orZeros none = replicate 8 (pos 0)
 orZeros (some zs) = zs

@@ -1,7 +1,7 @@
 -- A line that is printed reads back as its numbers, and bytes that are a line are the ones that are printed for its numbers. The
 -- numbers of a text are those of its fields, each at its place. Assumes nothing.
 use mathlib.Core.Path.{_≡_, refl, sym, ap, _∙_}
-use Prim.Native.Nat.{ℕ, zero, suc, _+_, _*_, _/_, _%_, _<_}
+use Prim.Native.Nat.{ℕ, zero, suc, _+_, _*_, _/_, _%_, _≤_, _<_}
 use native.Mathlib.Omega.{arith}
 use mathlib.Core.Bool.{Bool, true, false}
 use mathlib.Core.Option.{Option, none, some}
@@ -14,9 +14,9 @@ use lib.Seq.{take-at, drop-at, drop-drop}
 use borrow.Author.Tests.{ltb-true, ltb-false}
 use Rattle.lines.specs.Field.{fieldOf, fieldText, inField}
 use Rattle.lines.specs.FieldLaws.{FieldIs, field-text-length, printed-field-reads-back, read-field-prints-back}
-use Rattle.lines.specs.Line.{fieldsOf, lineOf, lineText, lineAt, allInField, isSome, orZeros, goodLine, lineCount, firstBad, lineNumbers, numbersOf}
+use Rattle.lines.specs.Line.{fieldsOf, lineOf, lineText, lineAt, allInField, isSome, orZeros, goodLine, lineCount, firstBad, lineNumbers, numbersOf, pageAnswer, pageOf}
 use Rattle.lines.specs.LineLoops.{Joined, joined-some, end-some, fields-end, fields-cons, line-sized, numbers-sized, pieces-at, line-field}
-use Rattle.lines.specs.LowestLaws.{none-all-good}
+use Rattle.lines.specs.LowestLaws.{Lowest, none-all-good, some-lowest}
 
 -- all in the range, one case each
 
@@ -141,7 +141,7 @@ zeros-in-field : allInField (orZeros none) ≡ true
 unfolding allInField
 zeros-in-field = refl
 
-line-in-field : (bs : List ℕ) → allInField (lineNumbers bs) ≡ true
+pub line-in-field : (bs : List ℕ) → allInField (lineNumbers bs) ≡ true
 line-in-field bs = go (lineOf bs) refl
   where
     go : (o : Option (List ℤ)) → lineOf bs ≡ o → allInField (orZeros o) ≡ true
@@ -158,3 +158,26 @@ numbers-in-field t k = go (ltb k 5384) refl
         let q : k ≡ 8 * (k / 8) + k % 8 = omega arith in
         rw (q, number-of-line t (k / 8) (k % 8) (omega arith) (omega arith)) (all-at (lineNumbers (lineAt t (k / 8))) (k % 8) (line-in-field (lineAt t (k / 8))))
     go false e = rw (List·getD-eq-default (numbersOf t) (pos 0) {n = k} (rw numbers-sized (ltb-false k 5384 e)))
+
+-- what a page is
+
+bad-none : (o : Option (List ℤ)) → isSome o ≡ false → o ≡ none
+bad-none none h = refl
+bad-none (some zs) h = let u : _≡_ {A = ℕ} 0 1 = cc in absurd (omega arith)
+
+pub bad-line : (t : List ℕ) (i : ℕ) → goodLine t i ≡ false → lineOf (lineAt t i) ≡ none
+bad-line t i g = bad-none (lineOf (lineAt t i)) g
+
+-- the first bad line is a line, it is bad, and those before it are good
+pub first-bad-line : (t : List ℕ) (i : ℕ) → firstBad t ≡ some i → Lowest (goodLine t) 0 (lineCount t) i
+first-bad-line t i e = some-lowest (goodLine t) 0 (lineCount t) i e
+
+-- a text of n whole lines, 673 at most, has n lines
+pub line-count-whole : (t : List ℕ) (n : ℕ) → length t ≡ 49 * n → n ≤ 673 → lineCount t ≡ n
+line-count-whole t n e h = rw e (omega arith)
+
+pub page-good : (t : List ℕ) → firstBad t ≡ none → pageOf t ≡ pageAnswer none (numbersOf t)
+page-good t e = ap (λ (o : Option ℕ). pageAnswer o (numbersOf t)) e
+
+pub page-bad : (t : List ℕ) (i : ℕ) → firstBad t ≡ some i → pageOf t ≡ pageAnswer (some i) (numbersOf t)
+page-bad t i e = ap (λ (o : Option ℕ). pageAnswer o (numbersOf t)) e

@@ -126,6 +126,7 @@ line-short bs n = go (lineOf bs) refl
 
 -- the fields of a line that have been read
 
+-- 0 where there is no field
 abbrev pub orZero : Option ℤ → ℤ
 orZero none = pos 0
 orZero (some z) = z
@@ -134,10 +135,12 @@ orZero (some z) = z
 abbrev pub fieldNumber : List ℕ → List ℤ
 fieldNumber cs = orZero (fieldOf cs) ∷ []
 
+-- numbers in front of those that were read
 abbrev pub prefixed : List ℤ → Option (List ℤ) → Option (List ℤ)
 prefixed zs none = none
 prefixed zs (some ws) = some (zs ++ ws)
 
+-- the first j numbers of a line
 abbrev pub firstFields : ℕ → List ℕ → List ℤ
 firstFields j b = pieces fieldNumber 6 j b
 

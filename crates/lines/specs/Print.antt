@@ -8,6 +8,7 @@ use lib.ListN.{length, take, drop}
 use Rattle.lines.specs.Line.{allInField, lineText}
 use Rattle.lines.specs.declared.Printed as P
 
+-- a where the test passes, else b: for answers, and for bytes
 abbrev pub pickPrinted : Bool → P.Printed → P.Printed → P.Printed
 pickPrinted true a b = a
 pickPrinted false a b = b
