@@ -5,7 +5,8 @@ use Prim.Native.Nat.{ℕ}
 use mathlib.Core.Bool.{Bool}
 use mathlib.Core.List.{List, [], _∷_}
 use lib.ListN.{getD}
-use Rattle.table.specs.Table.{Table, routine, statement, tabulate}
+use Rattle.table.specs.Table.{Table, routine, statement}
+use Rattle.table.specs.Tabulate.{tabulate}
 use Rattle.report.specs.Over.{joinedFrom, unionFrom, Edge, leastAlong}
 use Rattle.report.specs.Layout.{Layout}
 use Rattle.report.specs.Operations.{accessed, given, byNaming}

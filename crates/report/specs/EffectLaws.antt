@@ -7,7 +7,8 @@ use native.Mathlib.Omega.{arith}
 use lib.ListN.{length, getD}
 use Rattle.sets.specs.Set.{has}
 use Rattle.sets.specs.Least.{SetList}
-use Rattle.table.specs.Table.{Table, routine, statement, tabulate, InRoutine}
+use Rattle.table.specs.Table.{Table, routine, statement, InRoutine}
+use Rattle.table.specs.Tabulate.{tabulate}
 use Rattle.table.specs.Accepted.{Names}
 use Rattle.table.specs.declared.Arguments.{Arguments}
 use Rattle.table.specs.declared.Handle.{Handle}

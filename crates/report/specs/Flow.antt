@@ -6,7 +6,8 @@ use mathlib.Core.List.{List, [], _∷_}
 use lib.Dec.{eqb}
 use lib.ListN.{getD}
 use Rattle.sets.specs.Set.{one}
-use Rattle.table.specs.Table.{Table, declaration, routine, statement, passed, tabulate}
+use Rattle.table.specs.Table.{Table, declaration, routine, statement, passed}
+use Rattle.table.specs.Tabulate.{tabulate}
 use Rattle.table.specs.declared.Arguments.{Arguments}
 use Rattle.table.specs.declared.Statement.{Statement}
 use Rattle.table.specs.declared.Statement.the-variants.{Read, Write, Set, Add, Take, Give, Point, Call, Start, Jump, JumpZero, Return}

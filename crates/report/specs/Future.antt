@@ -6,7 +6,8 @@ use mathlib.Core.Bool.{Bool, cond}
 use mathlib.Core.List.{List, [], _∷_, _++_, map}
 use lib.Dec.{ltb}
 use lib.ListN.{getD}
-use Rattle.table.specs.Table.{Table, statement, tabulate}
+use Rattle.table.specs.Table.{Table, statement}
+use Rattle.table.specs.Tabulate.{tabulate}
 use Rattle.report.specs.Over.{joinedFrom, unionAt, Edge, leastAlong}
 use Rattle.report.specs.Layout.{Layout}
 use Rattle.report.specs.Operations.{nexts, byNaming}

@@ -10,7 +10,8 @@ use lib.ListN.{length, getD}
 use borrow.Author.Tests.{ltb-true, ltb-false, lt-ltb, le-ltb}
 use Rattle.sets.specs.Set.{has}
 use Rattle.sets.specs.Least.{SetList}
-use Rattle.table.specs.Table.{Table, routine, statement, tabulate, InRoutine}
+use Rattle.table.specs.Table.{Table, routine, statement, InRoutine}
+use Rattle.table.specs.Tabulate.{tabulate}
 use Rattle.table.specs.Accepted.{Accepted, Names, Operands, GoesOn}
 use Rattle.table.specs.declared.Arguments.{Arguments}
 use Rattle.table.specs.declared.Statement.{Statement}

@@ -2,10 +2,10 @@
 -- Computed from what is left out, which only grows. Assumes nothing.
 use Prim.Native.Nat.{ℕ}
 use mathlib.Core.List.{List, [], _∷_}
-use lib.ListN.{getD, set, replicate}
-use Rattle.sets.specs.Set.{union, minus}
-use Rattle.sets.specs.Least.{settled}
-use Rattle.table.specs.Table.{tabulate}
+use lib.ListN.{getD, replicate}
+use Rattle.sets.specs.Set.{minus}
+use Rattle.sets.specs.Least.{putInto, settled}
+use Rattle.table.specs.Tabulate.{tabulate}
 
 -- a way into a place, and the set that it brings, out of the sets at all places
 pub record Way : Type 0 where
@@ -19,7 +19,7 @@ leaving all out p = minus all (getD out p 0)
 -- what a way does not bring is left out where it leads to
 unfoldable pub narrow : ℕ → Way → List ℕ → List ℕ
 unfolding leaving
-narrow all w out = set out (w .to) (union (getD out (w .to) 0) (minus all (w .brings (leaving all out))))
+narrow all w out = putInto (w .to) (minus all (w .brings (leaving all out))) out
 
 -- every way once, from the first to the last
 unfoldable pub narrowAll : ℕ → List Way → List ℕ → List ℕ

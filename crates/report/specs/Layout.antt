@@ -6,7 +6,8 @@ use mathlib.Core.Bool.{Bool, not, _&&_}
 use mathlib.Core.List.{List, [], _∷_}
 use lib.ListN.{getD, length}
 use lib.Dec.{leb, ltb}
-use Rattle.table.specs.Table.{Table, routine, statement, tabulate, InRoutine, OwnHandle}
+use Rattle.table.specs.Table.{Table, routine, statement, InRoutine, OwnHandle}
+use Rattle.table.specs.Tabulate.{tabulate}
 use Rattle.table.specs.Until.{until}
 use Rattle.table.specs.declared.Statement.{Statement}
 use Rattle.table.specs.declared.Statement.the-variants.{Read, Write, Set, Add, Take, Give, Point, Call, Start, Jump, JumpZero, Return}

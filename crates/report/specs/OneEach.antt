@@ -9,11 +9,12 @@ use lib.ListN.{length, getD}
 use borrow.Author.Tests.{leb-true, ltb-true, le-leb, lt-ltb, not-false}
 use Rattle.table.specs.Table.{Table, declaration, routine, statement, InRoutine, OwnHandle}
 use Rattle.table.specs.Accepted.{Accepted, Names, Operands, Passes}
+use Rattle.table.specs.TabulateLaws.{getD-tabulate}
 use Rattle.table.specs.Until.{until}
 use Rattle.table.specs.UntilLaws.{until-step}
 use Rattle.table.specs.declared.Statement.{Statement}
 use Rattle.table.specs.declared.Statement.the-variants.{Read, Write, Set, Add, Take, Give, Point, Call, Start, Jump, JumpZero, Return}
-use Rattle.report.specs.OverLaws.{never, both-true, true-both, getD-tabulate}
+use Rattle.report.specs.OverLaws.{never, both-true, true-both}
 use Rattle.report.specs.Layout.{Layout, named, isIn, ownerOf, oneEach}
 use Rattle.report.specs.Fits.{Fits, HandlePlaced, HandleThere, StatementPlaced, StatementThere}
 
@@ -50,7 +51,6 @@ names-there t r Return q o n = absurd n
 -- where the test fails somewhere, `until` finds a place at which it fails
 until-finds : (good : ℕ → Bool) (from n i : ℕ) → from ≤ i → i < from + n → good i ≡ false
     → (until good from n < from + n) × (good (until good from n) ≡ false)
-unfolding until
 until-finds good from zero i l h e = absurd (omega arith)
 until-finds good from (suc n) i l h e =
     let ih : from + 1 ≤ i → (until good (from + 1) n < from + 1 + n) × (good (until good (from + 1) n) ≡ false) =

@@ -13,7 +13,8 @@ use Rattle.sets.specs.Set.{has, union, inter}
 use Rattle.sets.specs.SetLaws.{has-union-left, has-union-right, union-cases, union-below, has-inter, has-empty, inter-below}
 use Rattle.sets.specs.Least.{SetList, Inside, least, Held, Closed}
 use Rattle.sets.specs.LeastLaws.{least-sets, least-holds-start, least-closed, least-inside, least-induction}
-use Rattle.table.specs.Table.{tabulate, tabulateFrom}
+use Rattle.table.specs.Tabulate.{tabulate}
+use Rattle.table.specs.TabulateLaws.{length-tabulate, getD-tabulate}
 use Rattle.report.specs.Over.{joinedFrom, unionFrom, interFrom, unionAt, Edge, froms, tos, leastAlong}
 
 -- ---- tests
@@ -90,25 +91,6 @@ module _ {A : Type 0} where
           → List·Memᴰ x (f from) ⊎ List·Memᴰ x (joinedFrom (from + 1) n f) → (i : ℕ) × Within from (suc n) i × List·Memᴰ x (f i)
       go ih (inl a) = (from, here, a)
       go ih (inr b) = let r : (i : ℕ) × Within (from + 1) n i × List·Memᴰ x (f i) = ih b in (r .0, later (r .1), r .2)
-
-  length-tabulateFrom : (from n : ℕ) (g : ℕ → A) → length (tabulateFrom from n g) ≡ n
-  unfolding tabulateFrom
-  length-tabulateFrom from zero g = refl
-  length-tabulateFrom from (suc n) g = ap suc (length-tabulateFrom (from + 1) n g)
-
-  pub length-tabulate : (n : ℕ) (g : ℕ → A) → length (tabulate n g) ≡ n
-  unfolding tabulate
-  length-tabulate n g = length-tabulateFrom 0 n g
-
-  getD-tabulateFrom : (from n : ℕ) (g : ℕ → A) (i : ℕ) (d : A) → i < n → getD (tabulateFrom from n g) i d ≡ g (from + i)
-  unfolding tabulateFrom
-  getD-tabulateFrom from zero g i d h = absurd (omega arith)
-  getD-tabulateFrom from (suc n) g zero d h = ap g (omega arith)
-  getD-tabulateFrom from (suc n) g (suc i) d h = getD-tabulateFrom (from + 1) n g i d (le-of-suc-le-suc h) ∙ ap g (omega arith)
-
-  pub getD-tabulate : (n : ℕ) (g : ℕ → A) (i : ℕ) (d : A) → i < n → getD (tabulate n g) i d ≡ g i
-  unfolding tabulate
-  getD-tabulate n g i d h = getD-tabulateFrom 0 n g i d h ∙ ap g (omega arith)
 
 -- below the length, or past it, where a set is empty
 pub by-length {ℓ} : {C : Type ℓ} (i : ℕ) (s : List ℕ) → (i < length s → C) → (getD s i 0 ≡ 0 → C) → C
