@@ -9,7 +9,7 @@ use Rattle.sets.specs.Set.{has, minus}
 use Rattle.sets.specs.SetLaws.{has-minus, minus-below}
 use Rattle.sets.specs.Least.{SetList, Inside, Steady, settled}
 use Rattle.sets.specs.Rules.{put-length, put-cases, still-put, put-steady, same-steady, then-steady, then-still}
-use Rattle.sets.specs.Settled.{settled-sets, settled-closed, settled-induction}
+use Rattle.sets.specs.Settled.{settled-sets, settled-closed, settled-is, settled-induction}
 use Rattle.table.specs.TabulateLaws.{getD-tabulate}
 use Rattle.report.specs.Greatest.{Way, leaving, narrow, narrowAll, leftOut, greatest}
 use Rattle.report.specs.OverLaws.{never, none-in, both-true, true-both, by-length, tabulate-from}
@@ -72,7 +72,7 @@ module _ (all : ℕ) (small : all < 2 ^ 64) where
   all-still n [] m s h q w i = elim i [ ]
   all-still n (v ∷ ws) m s h q w i =
       let both : (narrow all v s ≡ s) × (narrowAll all ws s ≡ s) =
-          then-still n (narrow all v) (narrowAll all ws) (narrow-steady n v (m v (List·Memᴰ·head refl))) (all-steady n ws (λ u j. m u (List·Memᴰ·tail j))) s h q in
+      then-still n (narrow all v) (narrowAll all ws) (narrow-steady n v (m v (List·Memᴰ·head refl))) (all-steady n ws (λ u j. m u (List·Memᴰ·tail j))) s h q in
       let ih : List·Memᴰ w ws → narrow all w s ≡ s = all-still n ws (λ u j. m u (List·Memᴰ·tail j)) s h (both .1) w in
       go (both .0) ih i
     where
@@ -138,9 +138,9 @@ module _ (all : ℕ) (small : all < 2 ^ 64) where
         go true e = e
         go false e =
             let gone : has (getD (leftOut all n ws) (w .to) 0) x ≡ true =
-                still-put (w .to) (out w (leftOut all n ws)) (leftOut all n ws) (out-still w m)
-                (subst (λ (k : ℕ). w .to < k) (sym (out-sets .places)) there) x
-                (minus-has all (w .brings (leaving all (leftOut all n ws))) x (greatest-inside (w .to) x h .1) (λ y. never (sym y ∙ e))) in
+            still-put (w .to) (out w (leftOut all n ws)) (leftOut all n ws) (out-still w m)
+            (subst (λ (k : ℕ). w .to < k) (sym (out-sets .places)) there) x
+            (minus-has all (w .brings (leaving all (leftOut all n ws))) x (greatest-inside (w .to) x h .1) (λ y. never (sym y ∙ e))) in
             absurd (left-has (w .to) x there h gone)
 
     -- and every family that is inside what every way in brings, and inside all, is inside
@@ -164,3 +164,18 @@ module _ (all : ℕ) (small : all < 2 ^ 64) where
         apart : (i e : ℕ) → has (getD (leftOut all n ws) i 0) e ≡ true → G i e → ⊥
         apart = settled-induction n (narrowAll all ws) steady (λ i e. G i e → ⊥) step (replicate n 0) empty-sets
             (λ i e h. none-in e (ap (λ (y : ℕ). has y e) (sym (zeros n i)) ∙ h))
+
+    -- a list inside what is left out, from which no way leaves out more, is what is left out
+    pub left-out-is : (r : List ℕ) → SetList n r → Inside r (leftOut all n ws)
+        → ((w : Way) → List·Memᴰ w ws → w .to < n → (x : ℕ) → has (minus all (w .brings (leaving all r))) x ≡ true → has (getD r (w .to) 0) x ≡ true)
+        → r ≡ leftOut all n ws
+    unfolding leftOut
+    left-out-is r h a c =
+        settled-is n (narrowAll all ws) steady (replicate n 0) r empty-sets h
+        (record { at = λ i x e. none-in x (ap (λ (y : ℕ). has y x) (sym (zeros n i)) ∙ e) }) a
+        (record { at = closed })
+      where
+        closed : (i x : ℕ) → has (getD (narrowAll all ws r) i 0) x ≡ true → has (getD r i 0) x ≡ true
+        closed =
+            all-carries (λ i x. has (getD r i 0) x ≡ true) n ws (λ w m q f x l b. c w m l x (out-more w (mono w m) q r (record { at = f }) x b)) r (h .places)
+            (λ i x e. e)

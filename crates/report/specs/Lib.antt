@@ -22,6 +22,7 @@ pub mod ReportRules
 pub mod FindingsLaws
 pub mod Report
 pub mod ReportLaws
+pub mod ReportTextLaws
 pub mod Cases
 pub mod Notebook
 pub mod Vectors

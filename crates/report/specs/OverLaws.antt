@@ -3,8 +3,8 @@ use Prim.Native.Nat.{ℕ, zero, suc, _+_, _^_, _≤_, _<_}
 use mathlib.Core.Path.{_≡_, refl, sym, ap, _∙_, subst}
 use mathlib.Core.Bool.{Bool, true, false, _&&_}
 use mathlib.Core.Logic.{_⊎_, inl, inr}
-use mathlib.Core.List.{List, [], _∷_, _++_, map, List·Memᴰ, List·Memᴰ·head, List·Memᴰ·tail, Memᴰ·append-left, Memᴰ·append-right, List·Memᴰ·append-cases}
-use native.Mathlib.Nat.{le-refl, zero-lt-suc, suc-inj, le-of-suc-le-suc}
+use mathlib.Core.List.{List, [], _∷_, _++_, map, List·Memᴰ, List·Memᴰ·head, List·Memᴰ·tail, Memᴰ·append-left, Memᴰ·append-right, List·Memᴰ·append-cases, append-nil, append-assoc}
+use native.Mathlib.Nat.{add-zero, le-refl, zero-lt-suc, suc-inj, le-of-suc-le-suc}
 use native.Mathlib.Omega.{arith}
 use lib.Dec.{eqb, ltb}
 use lib.ListN.{length, getD, List·getD-eq-default}
@@ -12,7 +12,8 @@ use borrow.Author.Tests.{eqb-true, eqb-false, ltb-true, ltb-false}
 use Rattle.sets.specs.Set.{has, union, inter}
 use Rattle.sets.specs.SetLaws.{has-union-left, has-union-right, union-cases, union-below, has-inter, has-empty, inter-below}
 use Rattle.sets.specs.Least.{SetList, Inside, least, Held, Closed}
-use Rattle.sets.specs.LeastLaws.{least-sets, least-holds-start, least-closed, least-inside, least-induction}
+use Rattle.sets.specs.InsideLaws.{inside-equal}
+use Rattle.sets.specs.LeastLaws.{least-sets, least-holds-start, least-closed, least-induction}
 use Rattle.table.specs.Tabulate.{tabulate}
 use Rattle.table.specs.TabulateLaws.{length-tabulate, getD-tabulate}
 use Rattle.report.specs.Over.{joinedFrom, unionFrom, interFrom, unionAt, Edge, froms, tos, leastAlong}
@@ -79,6 +80,17 @@ module _ {A : Type 0} where
   joined-has from (suc n) f i x w m =
       let ih : Within (from + 1) n i → List·Memᴰ x (joinedFrom (from + 1) n f) = λ v. joined-has (from + 1) n f i x v m in
       first-or w (λ e. Memᴰ·append-left _ (subst (λ (j : ℕ). List·Memᴰ x (f j)) e m)) (λ v. Memᴰ·append-right (f from) (ih v))
+
+  -- the last list of a range
+  pub joined-last : (from n : ℕ) (f : ℕ → List A) → joinedFrom from (suc n) f ≡ joinedFrom from n f ++ f (from + n)
+  unfolding joinedFrom
+  joined-last from zero f = append-nil (f from) ∙ ap f (sym (add-zero from))
+  joined-last from (suc n) f =
+      ap {B = List A} (λ r. f from ++ r) (joined-last (from + 1) n f ∙ ap {B = List A} (λ (j : ℕ). joinedFrom (from + 1) n f ++ f j) (next from n))
+      ∙ sym (append-assoc (f from) (joinedFrom (from + 1) n f) (f (from + suc n)))
+    where
+      next : (a b : ℕ) → a + 1 + b ≡ a + suc b
+      next a b = omega arith
 
   pub joined-from : (from n : ℕ) (f : ℕ → List A) (x : A) → List·Memᴰ x (joinedFrom from n f) → (i : ℕ) × Within from n i × List·Memᴰ x (f i)
   unfolding joinedFrom
@@ -237,3 +249,9 @@ module _ (n : ℕ) (es : List Edge) (s : List ℕ) (sets : SetList n s) where
       let r : (e : Edge) × List·Memᴰ e es × (getD (froms es) k 0 ≡ e .from) × (getD (tos es) k 0 ≡ e .to) = place-edge es k l in
       subst (λ (j : ℕ). P j y) (sym (r .3)) (f (r .0) (r .1) (subst (λ (j : ℕ). j < n) (r .3) o) y (subst (λ (j : ℕ). P j y) (r .2) q)))
       p i x h
+
+  -- a list between the start and the least list that every edge leaves is the least list
+  pub along-is : (r : List ℕ) → SetList n r → Inside s r → Inside r (leastAlong es s)
+      → ((e : Edge) → List·Memᴰ e es → e .to < n → (x : ℕ) → has (getD r (e .from) 0) x ≡ true → has (getD r (e .to) 0) x ≡ true) → r ≡ leastAlong es s
+  along-is r h a b c =
+      inside-equal (h .places ∙ sym (along-sets .places)) b (record { at = along-induction (λ i x. has (getD r i 0) x ≡ true) c (a .at) })

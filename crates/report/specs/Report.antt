@@ -5,6 +5,7 @@ use mathlib.Core.List.{List, [], _∷_, _++_, map}
 use lib.Dec.{eqb}
 use lib.ListN.{getD, length}
 use lib.IntN.{ℤ, pos}
+use Rattle.lines.specs.Line.{lineText}
 use Rattle.sets.specs.Set.{has}
 use Rattle.table.specs.Table.{Table}
 use Rattle.report.specs.Over.{joinedFrom}
@@ -57,6 +58,15 @@ linesFor t k = let ls = findingLines t k in ls ++ (totalLine ls ∷ [])
 -- the report of a table: its lines, each of eight numbers
 unfoldable pub reportLines : Table → List (List ℤ)
 reportLines t = map (map pos) (linesFor t (oneEach t))
+
+-- "Every line read or printed has a table line's form": the bytes of the lines, one behind the other
+unfoldable pub textOf : List (List ℤ) → List ℕ
+textOf [] = []
+textOf (l ∷ ls) = lineText l ++ textOf ls
+
+-- the report as it is printed
+unfoldable pub reportText : Table → List ℕ
+reportText t = textOf (reportLines t)
 
 -- "its counts are the two totals in line 59 of its report", which is the last
 unfoldable pub lastLine : List (List ℤ) → List ℤ
