@@ -229,8 +229,103 @@ future-of-callers = record {
   report = row 51 0 1 1 1 0 1 0 ∷ row 59 1 0 0 0 0 0 0 ∷ [];
 }
 
+-- the locks that a routine may give up go down CALLs, not STARTs: the lock is held over the CALL though a thread started there GIVEs it
+abbrev pub given-by-start : Case
+given-by-start = record {
+  lines =
+      row 1 1 1 4 3 9 0 0
+      ∷ row 2 0 1 1 0 0 0 0
+      ∷ row 2 0 2 1 0 0 0 0
+      ∷ row 2 1 2 0 0 0 0 0
+      ∷ row 2 2 2 0 0 0 0 0
+      ∷ row 3 5 0 0 0 0 0 0
+      ∷ row 3 2 0 0 0 0 0 0
+      ∷ row 3 2 0 0 0 0 0 0
+      ∷ row 4 8 1 1 0 0 0 0
+      ∷ row 4 5 1 0 0 0 0 0
+      ∷ row 4 8 1 1 0 0 0 0
+      ∷ row 4 2 0 0 0 0 0 0
+      ∷ row 4 12 0 0 0 0 0 0
+      ∷ row 4 9 2 2 0 0 0 0
+      ∷ row 4 12 0 0 0 0 0 0
+      ∷ row 4 6 3 0 0 0 0 0
+      ∷ row 4 12 0 0 0 0 0 0
+      ∷ [];
+  report = row 51 0 0 1 0 1 0 0 ∷ row 52 7 0 0 0 0 0 0 ∷ row 59 0 1 0 0 0 0 0 ∷ [];
+}
+
+-- "At the first statement of a routine every way in counts, the entry included": a loop back to it has given up the lock that the CALL holds
+abbrev pub every-way-in : Case
+every-way-in = record {
+  lines =
+      row 1 1 1 3 2 6 0 0
+      ∷ row 2 0 2 1 0 0 0 0
+      ∷ row 2 1 2 0 0 0 0 0
+      ∷ row 2 1 1 1 0 0 0 0
+      ∷ row 3 3 0 0 0 0 0 0
+      ∷ row 3 3 0 0 0 0 0 0
+      ∷ row 4 5 0 0 0 0 0 0
+      ∷ row 4 8 1 0 0 0 0 0
+      ∷ row 4 12 0 0 0 0 0 0
+      ∷ row 4 1 2 0 0 0 0 0
+      ∷ row 4 6 1 0 0 0 0 0
+      ∷ row 4 10 3 0 0 0 0 0
+      ∷ [];
+  report = row 51 0 1 0 0 0 0 0 ∷ row 52 4 0 0 0 0 0 0 ∷ row 59 0 1 0 0 0 0 0 ∷ [];
+}
+
+-- the entry is empty for a routine named by a START, though a CALL of it holds a lock
+abbrev pub called-and-started : Case
+called-and-started = record {
+  lines =
+      row 1 1 1 2 2 6 0 0
+      ∷ row 2 0 2 1 0 0 0 0
+      ∷ row 2 1 1 1 0 0 0 0
+      ∷ row 3 4 0 0 0 0 0 0
+      ∷ row 3 2 0 0 0 0 0 0
+      ∷ row 4 5 0 0 0 0 0 0
+      ∷ row 4 8 1 0 0 0 0 0
+      ∷ row 4 9 1 0 0 0 0 0
+      ∷ row 4 12 0 0 0 0 0 0
+      ∷ row 4 1 1 0 0 0 0 0
+      ∷ row 4 12 0 0 0 0 0 0
+      ∷ [];
+  report = row 51 0 1 0 0 0 0 0 ∷ row 59 0 0 0 0 0 0 0 ∷ [];
+}
+
+-- "all locks if there is none": behind a CALL of a routine that has no RETURN all locks are held
+abbrev pub no-return : Case
+no-return = record {
+  lines =
+      row 1 1 2 1 2 4 0 0
+      ∷ row 2 0 1 1 0 0 0 0
+      ∷ row 3 3 0 0 0 0 0 0
+      ∷ row 3 1 0 0 0 0 0 0
+      ∷ row 4 8 1 0 0 0 0 0
+      ∷ row 4 2 0 0 0 0 0 0
+      ∷ row 4 12 0 0 0 0 0 0
+      ∷ row 4 10 3 0 0 0 0 0
+      ∷ [];
+  report = row 51 0 0 1 0 3 0 0 ∷ row 59 0 0 0 0 0 0 0 ∷ [];
+}
+
+-- a statement that no way leads to counts as an access, and all locks are held there
+abbrev pub never-reached : Case
+never-reached = record {
+  lines =
+      row 1 1 1 1 1 3 0 0
+      ∷ row 2 0 1 1 0 0 0 0
+      ∷ row 3 3 0 0 0 0 0 0
+      ∷ row 4 10 2 0 0 0 0 0
+      ∷ row 4 2 0 0 0 0 0 0
+      ∷ row 4 12 0 0 0 0 0 0
+      ∷ [];
+  report = row 51 0 0 1 0 1 0 0 ∷ row 59 0 0 0 0 0 0 0 ∷ [];
+}
+
 abbrev pub traps : List Case
-traps = given-by-call ∷ starts-in-effect ∷ future-of-callers ∷ []
+traps =
+    given-by-call ∷ starts-in-effect ∷ future-of-callers ∷ given-by-start ∷ every-way-in ∷ called-and-started ∷ no-return ∷ never-reached ∷ []
 
 pub traps-hold : asComputed traps ≡ asGiven traps
 unfolding asComputed
