@@ -1,17 +1,14 @@
 -- The effects, and the locks that a routine may give up, satisfy their rules, and are inside any sets that do. Assumes nothing.
-use Prim.Native.Nat.{ℕ, _+_, _^_, _≤_, _<_}
+use Prim.Native.Nat.{ℕ, _^_, _<_}
 use mathlib.Core.Path.{_≡_, refl, sym, ap, _∙_, subst}
 use mathlib.Core.Bool.{Bool, true, false, cond}
 use mathlib.Core.List.{List, [], _∷_, List·Memᴰ, List·Memᴰ·head, List·Memᴰ·eq-of-singleton}
 use native.Mathlib.Omega.{arith}
-use lib.ListN.{length, getD}
+use lib.ListN.{getD}
 use Rattle.sets.specs.Set.{has}
 use Rattle.sets.specs.Least.{SetList}
-use Rattle.table.specs.Table.{Table, routine, statement, InRoutine}
+use Rattle.table.specs.Table.{Table, routine, statement}
 use Rattle.table.specs.Tabulate.{tabulate}
-use Rattle.table.specs.Accepted.{Names}
-use Rattle.table.specs.declared.Arguments.{Arguments}
-use Rattle.table.specs.declared.Handle.{Handle}
 use Rattle.table.specs.declared.Statement.{Statement}
 use Rattle.table.specs.declared.Statement.the-variants.{Read, Write, Set, Add, Take, Give, Point, Call, Start, Jump, JumpZero, Return}
 use Rattle.report.specs.Over.{Edge, leastAlong}
@@ -23,7 +20,7 @@ use Rattle.report.specs.Flow.{flowAt}
 use Rattle.report.specs.FlowLaws.{FlowHas}
 use Rattle.report.specs.Effect.{overCopy, upFrom, namingEdges, callEdges, effects, gives}
 use Rattle.report.specs.PlaceLaws.{place-at, among-all, of-some}
-use Rattle.report.specs.Rules.{Copies, Place, GivesRules, Does, EffectRules}
+use Rattle.report.specs.Rules.{Place, GivesRules, Does, EffectRules}
 
 -- lock x is one that copy c may give up; cell x is in the effect of copy c
 abbrev pub GivesHas : List ℕ → ℕ → ℕ → Type 0
@@ -31,6 +28,22 @@ GivesHas gives c x = has (getD gives c 0) x ≡ true
 
 abbrev pub EffectHas : (Bool → List ℕ) → ℕ → Bool → ℕ → Type 0
 EffectHas effect c w x = has (getD (effect w) c 0) x ≡ true
+
+-- ---- a READ reads and a WRITE writes
+
+pub reads-of : (w : Bool) (x a : ℕ) → (w ≡ false) × (has a x ≡ true) → has (cond w 0 a) x ≡ true
+reads-of w x a (e, h) = rw e h
+
+pub writes-of : (w : Bool) (x a : ℕ) → (w ≡ true) × (has a x ≡ true) → has (cond w a 0) x ≡ true
+writes-of w x a (e, h) = rw e h
+
+pub from-reads : (w : Bool) (x a : ℕ) → has (cond w 0 a) x ≡ true → (w ≡ false) × (has a x ≡ true)
+from-reads true x a h = none-in x h
+from-reads false x a h = (refl, h)
+
+pub from-writes : (w : Bool) (x a : ℕ) → has (cond w a 0) x ≡ true → (w ≡ true) × (has a x ≡ true)
+from-writes true x a h = (refl, h)
+from-writes false x a h = none-in x h
 
 -- ---- sets of copies: what the statements of a copy have, and what goes up along edges
 
@@ -188,12 +201,6 @@ module _ (t : Table) (k : Layout) (fits : Fits t k) (flow : List ℕ) (below : (
   unfolding effects
   effects-sets w = up-sets t k fits (accessOf w) (accessOf-below w) (namingEdges t k)
 
-  reads-of : (w : Bool) (x a : ℕ) → (w ≡ false) × (has a x ≡ true) → has (cond w 0 a) x ≡ true
-  reads-of w x a (e, h) = rw e h
-
-  writes-of : (w : Bool) (x a : ℕ) → (w ≡ true) × (has a x ≡ true) → has (cond w a 0) x ≡ true
-  writes-of w x a (e, h) = rw e h
-
   does-in : (c s : ℕ) (w : Bool) (x : ℕ) → Place (copiesOf fits) c s → (σ : Statement) → statement t s ≡ σ
       → Does (copiesOf fits) (FlowHas k flow) (EffectHas (effects t k flow)) c s σ w x → EffectHas (effects t k flow) c w x
   unfolding effects accessed namingEdges upFrom byNaming
@@ -220,14 +227,6 @@ module _ (t : Table) (k : Layout) (fits : Fits t k) (flow : List ℕ) (below : (
   effect-rules = record { of-statement = λ c s w x v σ e d. does-in c s w x v σ e d }
 
   -- ---- the effect of a statement, as a set and by the rule
-
-  from-reads : (w : Bool) (x a : ℕ) → has (cond w 0 a) x ≡ true → (w ≡ false) × (has a x ≡ true)
-  from-reads true x a h = none-in x h
-  from-reads false x a h = (refl, h)
-
-  from-writes : (w : Bool) (x a : ℕ) → has (cond w a 0) x ≡ true → (w ≡ true) × (has a x ≡ true)
-  from-writes true x a h = (refl, h)
-  from-writes false x a h = none-in x h
 
   module _ (effect : ℕ → Bool → ℕ → Type 0) (c s : ℕ) (w : Bool) (e x : ℕ) where
     pub accessed-does : (has e x ≡ true → effect (k .leads c s) w x) → (σ : Statement) → has (accessed w (flowAt k flow c) e σ) x ≡ true

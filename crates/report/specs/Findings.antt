@@ -15,7 +15,7 @@ use Rattle.report.specs.Effect.{effects, gives}
 use Rattle.report.specs.Held.{allLocks, heldSets}
 use Rattle.report.specs.Future.{futures}
 
--- all sets of a table
+-- all sets of a table: flow by handle; reads, writes and given locks by copy; held locks and futures by statement
 pub record Sets : Type 0 where
   pub flow : List ℕ
   pub reads : List ℕ
@@ -25,6 +25,7 @@ pub record Sets : Type 0 where
   pub futureReads : List ℕ
   pub futureWrites : List ℕ
 
+-- each is computed once, out of those before it
 unfoldable pub setsOf : Table → Layout → Sets
 setsOf t k =
     let flow = flowSets t k in
@@ -55,6 +56,7 @@ sharedAt t k a p =
     byNaming 0 (clash (getD (a .reads) d 0) (getD (a .writes) d 0) (getD (a .futureReads) p 0) (getD (a .futureWrites) p 0)) 0
     (statement t (k .statementAt p))
 
+-- all shared cells
 unfoldable pub sharedCells : Table → Layout → Sets → ℕ
 sharedCells t k a = unionFrom 0 (k .statements) (sharedAt t k a)
 
@@ -94,12 +96,13 @@ strayBy flow held (Jump s) = false
 strayBy flow held (JumpZero s) = false
 strayBy flow held Return = false
 
+-- the statement at a place is a stray GIVE
 unfoldable pub strayAt : Table → Layout → Sets → ℕ → Bool
 strayAt t k a p = strayBy (flowAt k (a .flow) (k .statementCopy p)) (getD (a .held) p 0) (statement t (k .statementAt p))
 
 -- ---- by statements of the table
 
--- how many statements read, or write, cell x: "a statement is an access if it is one in some copy"
+-- "reading statements, writing statements": how many statements read, or write, cell x in some copy
 unfoldable pub accessCount : Table → Layout → Sets → Bool → ℕ → ℕ
 accessCount t k a w x = countFrom 0 (length (t .statements)) (λ s. has (unionAt (k .placesOf s) (ownAccess t k a w)) x)
 

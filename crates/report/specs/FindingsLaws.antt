@@ -1,35 +1,40 @@
 -- What the report says of a cell and of a GIVE, by the rules: common locks, unguarded, stray. Assumes nothing.
-use Prim.Native.Nat.{ℕ, _+_, _^_, _≤_, _<_}
+use Prim.Native.Nat.{ℕ, _^_, _<_}
 use mathlib.Core.Path.{_≡_, refl, sym, ap, _∙_, subst}
 use mathlib.Core.Bool.{Bool, true, false, cond, not, _&&_, _||_}
 use mathlib.Core.Logic.{_⊎_, inl, inr}
-use mathlib.Core.List.{List, [], _∷_, List·Memᴰ}
+use mathlib.Core.List.{List·Memᴰ}
 use native.Mathlib.Omega.{arith}
-use lib.Dec.{eqb}
 use lib.Count.{trailingZeros}
-use lib.ListN.{length, getD}
+use lib.ListN.{getD}
 use borrow.Author.Tests.{eqb-true, eq-eqb, not-false}
-use Rattle.sets.specs.Set.{has, subset, isEmpty, isSingle, count, lowest}
-use Rattle.sets.specs.SetLaws.{has-empty, has-beyond, below-of-has, firsts-below, subset-has, has-subset, single-is-one, has-one, lowest-some, lowest-is}
+use Rattle.sets.specs.Set.{has, subset, isEmpty, isSingle, count}
+use Rattle.sets.specs.SetLaws.{has-beyond, below-of-has, firsts-below, subset-has, has-subset, single-is-one, has-one, lowest-some, lowest-is}
 use Rattle.table.specs.Table.{Table, statement}
 use Rattle.table.specs.Accepted.{Accepted}
 use Rattle.table.specs.declared.Handle.{Handle}
 use Rattle.table.specs.declared.Statement.{Statement}
 use Rattle.table.specs.declared.Statement.the-variants.{Read, Write, Set, Add, Take, Give, Point, Call, Start, Jump, JumpZero, Return}
-use Rattle.report.specs.OverLaws.{Within, never, none-in, both-true, true-both, not-has, inter-at, inter-inside, inter-has, unionAt-has, unionAt-from, below-within, within-below}
+use Rattle.report.specs.OverLaws.{never, none-in, both-true, true-both, not-has, inter-at, inter-inside, inter-has, unionAt-has, unionAt-from, below-within, within-below}
 use Rattle.report.specs.Layout.{Layout}
-use Rattle.report.specs.Fits.{Fits, StatementPlaced, copiesOf}
+use Rattle.report.specs.Fits.{Fits, copiesOf}
 use Rattle.report.specs.Operations.{accessed, reading, writing}
-use Rattle.report.specs.Flow.{flowAt, flowSets}
-use Rattle.report.specs.FlowLaws.{FlowHas, flow-sets}
+use Rattle.report.specs.Flow.{flowAt}
+use Rattle.report.specs.FlowLaws.{flow-sets}
+use Rattle.report.specs.EffectLaws.{reads-of, writes-of, from-reads, from-writes}
 use Rattle.report.specs.Held.{allLocks}
-use Rattle.report.specs.HeldLaws.{HeldHas, single-only, only-single}
+use Rattle.report.specs.HeldLaws.{single-only, only-single}
 use Rattle.report.specs.Findings.{Sets, setsOf, sharedCells, ownAccess, touchesAt, commonLocks, isUnguarded, strayBy, strayAt, isStray}
 use Rattle.report.specs.PlaceLaws.{placed, place-at, at-placed, from-placed}
 use Rattle.report.specs.ReportRules.{families}
-use Rattle.report.specs.Rules.{Copies, Place, Only, Accesses, Common, Sound}
+use Rattle.report.specs.Rules.{Place, Accesses, Common, Sound}
 
--- ---- a set that is not empty has an element
+-- ---- a mark, and a set that is not empty
+
+pub mark : (b : Bool) → has (cond b 1 0) 0 ≡ b
+unfolding has
+mark true = refl
+mark false = refl
 
 pub some-element : (s : ℕ) → s < 2 ^ 64 → isEmpty s ≡ false → (i : ℕ) × (has s i ≡ true)
 some-element s l e = (trailingZeros 64 s, lowest-is s (trailingZeros 64 s) l (lowest-some s e) .0)
@@ -65,25 +70,11 @@ module _ (t : Table) (k : Layout) (acc : Accepted t) (fits : Fits t k) where
 
   -- ---- accesses
 
-  reads-in : (w : Bool) (a x : ℕ) → (w ≡ false) × (has a x ≡ true) → has (cond w 0 a) x ≡ true
-  reads-in w a x (e, h) = rw e h
-
-  writes-in : (w : Bool) (a x : ℕ) → (w ≡ true) × (has a x ≡ true) → has (cond w a 0) x ≡ true
-  writes-in w a x (e, h) = rw e h
-
-  in-reads : (w : Bool) (a x : ℕ) → has (cond w 0 a) x ≡ true → (w ≡ false) × (has a x ≡ true)
-  in-reads true a x h = none-in x h
-  in-reads false a x h = (refl, h)
-
-  in-writes : (w : Bool) (a x : ℕ) → has (cond w a 0) x ≡ true → (w ≡ true) × (has a x ≡ true)
-  in-writes true a x h = (refl, h)
-  in-writes false a x h = none-in x h
-
   accesses-has : (c : ℕ) (σ : Statement) (w : Bool) (x : ℕ) → Accesses (copiesOf fits) (families t k .flow) c σ w x
       → has (accessed w (flowAt k (theSets .flow) c) 0 σ) x ≡ true
   unfolding accessed
-  accesses-has c (Read h) w x a = reads-in w _ x a
-  accesses-has c (Write h) w x a = writes-in w _ x a
+  accesses-has c (Read h) w x a = reads-of w x _ a
+  accesses-has c (Write h) w x a = writes-of w x _ a
   accesses-has c (Set n) w x a = absurd a
   accesses-has c (Add n) w x a = absurd a
   accesses-has c (Take h) w x a = absurd a
@@ -98,8 +89,8 @@ module _ (t : Table) (k : Layout) (acc : Accepted t) (fits : Fits t k) where
   has-accesses : (c : ℕ) (σ : Statement) (w : Bool) (x : ℕ) → has (accessed w (flowAt k (theSets .flow) c) 0 σ) x ≡ true
       → Accesses (copiesOf fits) (families t k .flow) c σ w x
   unfolding accessed
-  has-accesses c (Read h) w x a = in-reads w _ x a
-  has-accesses c (Write h) w x a = in-writes w _ x a
+  has-accesses c (Read h) w x a = from-reads w x _ a
+  has-accesses c (Write h) w x a = from-writes w x _ a
   has-accesses c (Set n) w x a = none-in x a
   has-accesses c (Add n) w x a = none-in x a
   has-accesses c (Take h) w x a = none-in x a
@@ -233,11 +224,6 @@ module _ (t : Table) (k : Layout) (acc : Accepted t) (fits : Fits t k) where
       ))
 
   -- a statement is a stray GIVE if it is one at some place
-
-  mark : (b : Bool) → has (cond b 1 0) 0 ≡ b
-  unfolding has
-  mark true = refl
-  mark false = refl
 
   pub stray-has : (s p : ℕ) → List·Memᴰ p (k .placesOf s) → strayAt t k theSets p ≡ true → isStray t k theSets s ≡ true
   unfolding isStray

@@ -52,5 +52,6 @@ allFlowEdges t k =
 unfoldable pub flowStarts : Table → Layout → List ℕ
 flowStarts t k = tabulate (k .handles) (λ p. startOf t (k .handleAt p))
 
+-- "Flow: the least sets" under the rules above
 unfoldable pub flowSets : Table → Layout → List ℕ
 flowSets t k = leastAlong (allFlowEdges t k) (flowStarts t k)

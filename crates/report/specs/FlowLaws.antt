@@ -12,17 +12,17 @@ use Rattle.sets.specs.Set.{has, one}
 use Rattle.sets.specs.SetLaws.{has-one, one-below}
 use Rattle.sets.specs.Least.{SetList}
 use Rattle.table.specs.Table.{Table, declaration, routine, statement, passed, OwnHandle}
-use Rattle.table.specs.Accepted.{Accepted, Operands, Passes, OwnOfKind, Names, HandleFacts}
+use Rattle.table.specs.Accepted.{Accepted, Operands, Passes, Names, HandleFacts}
 use Rattle.table.specs.declared.Arguments.{Arguments}
 use Rattle.table.specs.declared.Statement.{Statement}
 use Rattle.table.specs.declared.Statement.the-variants.{Read, Write, Set, Add, Take, Give, Point, Call, Start, Jump, JumpZero, Return}
-use Rattle.report.specs.Over.{Edge, leastAlong}
+use Rattle.report.specs.Over.{Edge}
 use Rattle.report.specs.OverLaws.{Within, none-in, joined-has, joined-from, below-within, within-below, tabulate-sets, tabulate-has, tabulate-from, along-sets, along-start, along-edge, along-induction}
 use Rattle.report.specs.Layout.{Layout}
 use Rattle.report.specs.Fits.{Fits, HandlePlaced, HandleThere, copiesOf}
 use Rattle.report.specs.Flow.{flowAt, startOf, passing, flowEdges, allFlowEdges, flowStarts, flowSets}
 use Rattle.report.specs.PlaceLaws.{place-at, among-all, of-some, parameter-own}
-use Rattle.report.specs.Rules.{Copies, Place, Passing, FlowStep, FlowRules}
+use Rattle.report.specs.Rules.{Place, Passing, FlowStep, FlowRules}
 
 -- thing x is in the flow set of handle h of copy c
 abbrev pub FlowHas : Layout → List ℕ → ℕ → ℕ → ℕ → Type 0

@@ -1,11 +1,10 @@
 -- "Future of a statement: the effects of all statements that may follow it in its routine, round loops too, with the futures of all CALLs of that
 -- routine." A list of sets, one for each statement of each copy, and behind them one for each copy: the futures of all CALLs of it.
 -- Assumes nothing.
-use Prim.Native.Nat.{ℕ, _+_, _-_}
+use Prim.Native.Nat.{ℕ, _+_}
 use mathlib.Core.Bool.{Bool, cond}
 use mathlib.Core.List.{List, [], _∷_, _++_, map}
 use lib.Dec.{ltb}
-use lib.ListN.{getD}
 use Rattle.table.specs.Table.{Table, statement}
 use Rattle.table.specs.Tabulate.{tabulate}
 use Rattle.report.specs.Over.{joinedFrom, unionAt, Edge, leastAlong}
@@ -30,6 +29,7 @@ futureEdges t k =
     ++ (record { from = callers k (k .statementCopy p); to = p }
     ∷ byNaming (record { from = p; to = callers k (k .leads (k .statementCopy p) (k .statementAt p)) } ∷ []) [] [] (statement t (k .statementAt p))))
 
+-- before anything goes along the edges: the effects of what may come next, and nothing for the CALLs of a copy
 unfoldable pub futureStarts : Table → Layout → List ℕ → List ℕ → Bool → List ℕ
 futureStarts t k flow effect w =
     tabulate (k .statements + k .copies)

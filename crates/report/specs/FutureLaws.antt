@@ -1,26 +1,25 @@
 -- The futures satisfy their rules, and are inside any sets that do. Assumes nothing.
-use Prim.Native.Nat.{ℕ, _+_, _-_, _^_, _≤_, _<_}
-use mathlib.Core.Path.{_≡_, refl, sym, ap, _∙_, subst}
+use Prim.Native.Nat.{ℕ, _+_, _^_, _<_}
+use mathlib.Core.Path.{_≡_, refl, sym, subst}
 use mathlib.Core.Bool.{Bool, true, false, cond}
 use mathlib.Core.Logic.{_⊎_, inl, inr}
 use mathlib.Core.List.{List, [], _∷_, _++_, map, List·Memᴰ, List·Memᴰ·head, List·Memᴰ·tail, List·Memᴰ·eq-of-singleton, List·Memᴰ·append-cases, Memᴰ·append-left, Memᴰ·append-right}
 use native.Mathlib.Omega.{arith}
 use lib.Dec.{ltb}
-use lib.ListN.{length, getD}
-use borrow.Author.Tests.{ltb-true, ltb-false, lt-ltb, le-ltb}
+use lib.ListN.{getD}
+use borrow.Author.Tests.{ltb-true, lt-ltb}
 use Rattle.sets.specs.Set.{has}
 use Rattle.sets.specs.Least.{SetList}
-use Rattle.table.specs.Table.{Table, routine, statement, InRoutine}
-use Rattle.table.specs.Tabulate.{tabulate}
-use Rattle.table.specs.Accepted.{Accepted, Names, Operands, GoesOn}
+use Rattle.table.specs.Table.{Table, statement}
+use Rattle.table.specs.Accepted.{Accepted}
 use Rattle.table.specs.declared.Arguments.{Arguments}
 use Rattle.table.specs.declared.Statement.{Statement}
 use Rattle.table.specs.declared.Statement.the-variants.{Read, Write, Set, Add, Take, Give, Point, Call, Start, Jump, JumpZero, Return}
-use Rattle.report.specs.Over.{Edge, leastAlong, unionAt}
+use Rattle.report.specs.Over.{Edge, unionAt}
 use Rattle.report.specs.OverLaws.{none-in, unionAt-has, unionAt-from, unionAt-below, tabulate-sets, tabulate-has, tabulate-from, along-sets, along-start, along-edge, along-induction}
 use Rattle.report.specs.Layout.{Layout}
 use Rattle.report.specs.Fits.{Fits, StatementPlaced, copiesOf}
-use Rattle.report.specs.Operations.{nexts, accessed, byNaming}
+use Rattle.report.specs.Operations.{nexts, byNaming}
 use Rattle.report.specs.Flow.{flowAt}
 use Rattle.report.specs.FlowLaws.{FlowHas}
 use Rattle.report.specs.Effect.{effectOf}
@@ -28,7 +27,7 @@ use Rattle.report.specs.EffectLaws.{EffectHas, accessed-below, accessed-
 use Rattle.report.specs.Future.{callers, nextEffects, futureEdges, futureStarts, futures}
 use Rattle.report.specs.NextLaws.{goes-next, next-goes, goes-placed, map-has, map-from}
 use Rattle.report.specs.PlaceLaws.{placed, place-at, at-placed, among-all, of-some}
-use Rattle.report.specs.Rules.{Copies, Place, Goes, Does, FutureRules}
+use Rattle.report.specs.Rules.{Place, Goes, Does, FutureRules}
 
 -- cell x is in the future of statement s of copy c
 abbrev pub FutureHas : Layout → (Bool → List ℕ) → ℕ → ℕ → Bool → ℕ → Type 0

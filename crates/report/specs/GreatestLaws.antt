@@ -1,5 +1,5 @@
 -- The greatest sets: each is inside what every way into its place brings, and every family that is so is inside them. Assumes nothing.
-use Prim.Native.Nat.{ℕ, zero, suc, _+_, _^_, _≤_, _<_}
+use Prim.Native.Nat.{ℕ, _^_, _<_}
 use mathlib.Core.Path.{_≡_, refl, sym, ap, _∙_, subst}
 use mathlib.Core.Bool.{Bool, true, false, not, _&&_}
 use mathlib.Core.List.{List, [], _∷_, List·Memᴰ, List·Memᴰ·head, List·Memᴰ·tail}
@@ -7,7 +7,7 @@ use native.Mathlib.Omega.{arith}
 use lib.ListN.{length, getD, replicate, length-replicate, getD-replicate}
 use Rattle.sets.specs.Set.{has, minus}
 use Rattle.sets.specs.SetLaws.{has-minus, minus-below}
-use Rattle.sets.specs.Least.{SetList, Inside, Steady, settled}
+use Rattle.sets.specs.Least.{SetList, Inside, Steady}
 use Rattle.sets.specs.Rules.{put-length, put-cases, still-put, put-steady, same-steady, then-steady, then-still}
 use Rattle.sets.specs.Settled.{settled-sets, settled-closed, settled-is, settled-induction}
 use Rattle.table.specs.TabulateLaws.{getD-tabulate}

@@ -1,9 +1,9 @@
 -- "Held: the greatest sets of locks before each statement." A list of sets, one for each statement of each copy. Assumes nothing.
-use Prim.Native.Nat.{ℕ, _+_}
+use Prim.Native.Nat.{ℕ}
 use mathlib.Core.Bool.{cond}
 use mathlib.Core.List.{List, [], _∷_, _++_, map}
 use lib.ListN.{getD}
-use Rattle.sets.specs.Set.{union, inter, minus, firsts, isSingle}
+use Rattle.sets.specs.Set.{union, minus, firsts, isSingle}
 use Rattle.table.specs.Table.{Table, routine, statement}
 use Rattle.table.specs.declared.Statement.{Statement}
 use Rattle.table.specs.declared.Statement.the-variants.{Read, Write, Set, Add, Take, Give, Point, Call, Start, Jump, JumpZero, Return}
@@ -66,5 +66,6 @@ allWays t k flow given =
     record { to = entry t k (k .first); brings = λ held. 0 }
     ∷ joinedFrom 0 (k .statements) (λ p. waysFrom t k flow given (k .statementCopy p) (k .statementAt p))
 
+-- "Held: the greatest sets of locks before each statement" under the rules above
 unfoldable pub heldSets : Table → Layout → List ℕ → List ℕ → List ℕ
 heldSets t k flow given = greatest (allLocks t) (k .statements) (allWays t k flow given)

@@ -1,24 +1,22 @@
 -- The held sets satisfy document 01's rules, and contain any sets that do. Assumes nothing.
-use Prim.Native.Nat.{ℕ, _+_, _^_, _≤_, _<_}
+use Prim.Native.Nat.{ℕ, _^_, _≤_, _<_}
 use mathlib.Core.Path.{_≡_, refl, sym, ap, _∙_, subst}
 use mathlib.Core.Bool.{Bool, true, false, cond}
 use mathlib.Core.Logic.{_⊎_, inl, inr}
 use mathlib.Core.List.{List, [], _∷_, _++_, map, List·Memᴰ, List·Memᴰ·head, List·Memᴰ·tail, List·Memᴰ·eq-of-singleton, List·Memᴰ·append-cases, Memᴰ·append-left, Memᴰ·append-right}
 use native.Mathlib.Omega.{arith}
 use native.Mathlib.Nat.{le-refl}
-use lib.Dec.{eqb, ltb}
-use lib.ListN.{length, getD}
+use lib.Dec.{ltb}
+use lib.ListN.{getD}
 use borrow.Author.Tests.{eqb-true, eq-eqb, ltb-true, ltb-false, lt-ltb}
-use Rattle.sets.specs.Set.{has, one, union, minus, firsts, count, isSingle}
+use Rattle.sets.specs.Set.{has, one, count, isSingle}
 use Rattle.sets.specs.SetLaws.{has-union-left, has-union-right, union-cases, has-firsts, firsts-below, has-one, has-beyond, single-is-one, count-one, inside-both}
-use Rattle.table.specs.Table.{Table, routine, statement, InRoutine}
+use Rattle.table.specs.Table.{Table, routine, statement}
 use Rattle.table.specs.Accepted.{Accepted, Names}
-use Rattle.table.specs.declared.Arguments.{Arguments}
 use Rattle.table.specs.declared.Statement.{Statement}
 use Rattle.table.specs.declared.Statement.the-variants.{Read, Write, Set, Add, Take, Give, Point, Call, Start, Jump, JumpZero, Return}
-use Rattle.report.specs.Over.{interFrom}
-use Rattle.report.specs.OverLaws.{Within, never, none-in, inter-at, inter-inside, inter-has}
-use Rattle.report.specs.Greatest.{Way, leaving, leftOut, greatest}
+use Rattle.report.specs.OverLaws.{never, none-in, inter-at, inter-inside, inter-has}
+use Rattle.report.specs.Greatest.{Way, leaving, leftOut}
 use Rattle.report.specs.GreatestLaws.{Monotone, minus-has, minus-from, greatest-is, greatest-inside, greatest-kept, greatest-contains}
 use Rattle.report.specs.Layout.{Layout}
 use Rattle.report.specs.Fits.{Fits, StatementPlaced, copiesOf}
@@ -29,7 +27,7 @@ use Rattle.report.specs.EffectLaws.{GivesHas}
 use Rattle.report.specs.Held.{allLocks, entry, onlyLock, atReturns, heldAfter, waysFrom, allWays, heldSets}
 use Rattle.report.specs.NextLaws.{goes-next, next-goes, goes-placed, map-has, map-from}
 use Rattle.report.specs.PlaceLaws.{placed, place-at, among-all, of-some}
-use Rattle.report.specs.Rules.{Copies, Place, Goes, Only, After, AtReturns, HeldRules}
+use Rattle.report.specs.Rules.{Place, Goes, Only, After, AtReturns, HeldRules}
 
 -- lock x is held before statement s of copy c
 abbrev pub HeldHas : Layout → List ℕ → ℕ → ℕ → ℕ → Type 0

@@ -1,12 +1,11 @@
 -- Copies of routines. Every rule of the report is written over a copy of a routine and a handle or a statement of it.
 -- Today there is one copy of each routine, so copies, handles and statements keep the table's numbers. Assumes nothing.
-use Prim.Native.Nat.{ℕ, zero, suc, _+_, _<_}
-use mathlib.Core.Path.{_≡_}
+use Prim.Native.Nat.{ℕ, _+_}
 use mathlib.Core.Bool.{Bool, not, _&&_}
 use mathlib.Core.List.{List, [], _∷_}
 use lib.ListN.{getD, length}
 use lib.Dec.{leb, ltb}
-use Rattle.table.specs.Table.{Table, routine, statement, InRoutine, OwnHandle}
+use Rattle.table.specs.Table.{Table, declaration, routine, statement}
 use Rattle.table.specs.Tabulate.{tabulate}
 use Rattle.table.specs.Until.{until}
 use Rattle.table.specs.declared.Statement.{Statement}
@@ -56,7 +55,7 @@ isIn t s r = leb (routine t r .first) s && ltb s (routine t r .first + routine t
 unfoldable pub ownerOf : Table → ℕ → ℕ
 ownerOf t s = until (λ r. not (isIn t s r)) 0 (length (t .routines))
 
--- one copy of each routine
+-- one copy of each routine: a copy has its routine's number, and handles and statements keep theirs
 unfoldable pub oneEach : Table → Layout
 oneEach t =
     let owners : List ℕ = tabulate (length (t .statements)) (ownerOf t) in
@@ -66,7 +65,7 @@ oneEach t =
       routineOf = λ c. c;
       leads = λ c s. named (statement t s);
       handles = length (t .handles);
-      handleCopy = λ h. getD (t .handles) h (record { routine = 0; kind = 0; origin = 0; start = 0 }) .routine;
+      handleCopy = λ h. declaration t h .routine;
       handleAt = λ h. h;
       handlePlace = λ c h. h;
       statements = length (t .statements);

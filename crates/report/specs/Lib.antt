@@ -1,4 +1,5 @@
 pub mod Rules
+pub mod Traps
 pub mod Over
 pub mod Greatest
 pub mod Layout
@@ -24,5 +25,6 @@ pub mod HeldLaws
 pub mod FutureLaws
 pub mod ReportRules
 pub mod FindingsLaws
+pub mod OneCopy
 pub mod ReportLaws
 pub mod ReportTextLaws

@@ -1,6 +1,6 @@
 -- What may come next, as a list and by the rule. Assumes nothing.
-use Prim.Native.Nat.{ℕ, _+_}
-use mathlib.Core.Path.{_≡_, refl, sym, ap}
+use Prim.Native.Nat.{ℕ}
+use mathlib.Core.Path.{_≡_, refl, ap}
 use mathlib.Core.Logic.{_⊎_, inl, inr}
 use mathlib.Core.List.{List, [], _∷_, map, List·Memᴰ, List·Memᴰ·head, List·Memᴰ·tail, List·Memᴰ·eq-of-singleton}
 use Rattle.table.specs.Table.{Table, statement, InRoutine}
@@ -10,7 +10,7 @@ use Rattle.table.specs.declared.Statement.the-variants.{Read, Write, Set, Add, 
 use Rattle.report.specs.Layout.{Layout}
 use Rattle.report.specs.Fits.{Fits, copiesOf}
 use Rattle.report.specs.Operations.{nexts}
-use Rattle.report.specs.Rules.{Copies, Place, Goes}
+use Rattle.report.specs.Rules.{Place, Goes}
 
 pub goes-next : (s : ℕ) (σ : Statement) (n : ℕ) → Goes s σ n → List·Memᴰ n (nexts s σ)
 unfolding nexts

@@ -1,22 +1,22 @@
 -- One copy of each routine fits every accepted table. Assumes nothing.
 use Prim.Native.Nat.{ℕ, zero, suc, _+_, _≤_, _<_}
 use mathlib.Core.Path.{_≡_, refl, sym, ap, _∙_, subst}
-use mathlib.Core.Bool.{Bool, true, false, not, cond, _&&_}
-use mathlib.Core.List.{List, [], _∷_, List·Memᴰ, List·Memᴰ·head, List·Memᴰ·eq-of-singleton}
+use mathlib.Core.Bool.{Bool, true, false, not, cond}
+use mathlib.Core.List.{[], _∷_, List·Memᴰ, List·Memᴰ·head, List·Memᴰ·eq-of-singleton}
 use native.Mathlib.Omega.{arith}
 use lib.Dec.{leb, ltb}
-use lib.ListN.{length, getD}
+use lib.ListN.{length}
 use borrow.Author.Tests.{leb-true, ltb-true, le-leb, lt-ltb, not-false}
-use Rattle.table.specs.Table.{Table, declaration, routine, statement, InRoutine, OwnHandle}
-use Rattle.table.specs.Accepted.{Accepted, Names, Operands, Passes}
+use Rattle.table.specs.Table.{Table, routine, statement, InRoutine}
+use Rattle.table.specs.Accepted.{Accepted, Names, Operands}
 use Rattle.table.specs.TabulateLaws.{getD-tabulate}
 use Rattle.table.specs.Until.{until}
 use Rattle.table.specs.UntilLaws.{until-step}
 use Rattle.table.specs.declared.Statement.{Statement}
 use Rattle.table.specs.declared.Statement.the-variants.{Read, Write, Set, Add, Take, Give, Point, Call, Start, Jump, JumpZero, Return}
 use Rattle.report.specs.OverLaws.{never, both-true, true-both}
-use Rattle.report.specs.Layout.{Layout, named, isIn, ownerOf, oneEach}
-use Rattle.report.specs.Fits.{Fits, HandlePlaced, HandleThere, StatementPlaced, StatementThere}
+use Rattle.report.specs.Layout.{named, isIn, ownerOf, oneEach}
+use Rattle.report.specs.Fits.{Fits}
 
 names-named : (σ : Statement) (q : ℕ) → Names σ q → named σ ≡ q
 unfolding named
@@ -94,7 +94,8 @@ module _ (t : Table) (acc : Accepted t) where
       let g : s < routine t r .first + routine t r .count = i .high in
       omega arith
 
-  copy-is : (r s : ℕ) → r < length (t .routines) → InRoutine t r s → oneEach t .statementCopy s ≡ r
+  -- the copy of a statement is the routine that it is dealt out to
+  pub copy-is : (r s : ℕ) → r < length (t .routines) → InRoutine t r s → oneEach t .statementCopy s ≡ r
   unfolding oneEach
   copy-is r s l i = getD-tabulate (length (t .statements)) (ownerOf t) s 0 (statement-below r s l i) ∙ owner-is t acc r s l i
 

@@ -36,6 +36,7 @@ module _ {A : Type 0} where
   byNaming call start other (JumpZero s) = other
   byNaming call start other Return = other
 
+-- the statement is RETURN
 unfoldable pub isReturn : Statement → Bool
 isReturn (Read h) = false
 isReturn (Write h) = false

@@ -36,6 +36,7 @@ pub record Edge : Type 0 where
   pub from : ℕ
   pub to : ℕ
 
+-- where the edges of a list come from, and where they lead to
 unfoldable pub froms : List Edge → List ℕ
 froms es = map (λ (e : Edge). e .from) es
 

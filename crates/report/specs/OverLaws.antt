@@ -3,15 +3,15 @@ use Prim.Native.Nat.{ℕ, zero, suc, _+_, _^_, _≤_, _<_}
 use mathlib.Core.Path.{_≡_, refl, sym, ap, _∙_, subst}
 use mathlib.Core.Bool.{Bool, true, false, _&&_}
 use mathlib.Core.Logic.{_⊎_, inl, inr}
-use mathlib.Core.List.{List, [], _∷_, _++_, map, List·Memᴰ, List·Memᴰ·head, List·Memᴰ·tail, Memᴰ·append-left, Memᴰ·append-right, List·Memᴰ·append-cases, append-nil, append-assoc}
-use native.Mathlib.Nat.{add-zero, le-refl, zero-lt-suc, suc-inj, le-of-suc-le-suc}
+use mathlib.Core.List.{List, [], _∷_, _++_, List·Memᴰ, List·Memᴰ·head, List·Memᴰ·tail, Memᴰ·append-left, Memᴰ·append-right, List·Memᴰ·append-cases, append-nil, append-assoc}
+use native.Mathlib.Nat.{add-zero, le-refl, zero-lt-suc, le-of-suc-le-suc}
 use native.Mathlib.Omega.{arith}
 use lib.Dec.{eqb, ltb}
 use lib.ListN.{length, getD, List·getD-eq-default}
 use borrow.Author.Tests.{eqb-true, eqb-false, ltb-true, ltb-false}
-use Rattle.sets.specs.Set.{has, union, inter}
-use Rattle.sets.specs.SetLaws.{has-union-left, has-union-right, union-cases, union-below, has-inter, has-empty, inter-below}
-use Rattle.sets.specs.Least.{SetList, Inside, least, Held, Closed}
+use Rattle.sets.specs.Set.{has}
+use Rattle.sets.specs.SetLaws.{has-union-left, has-union-right, union-cases, union-below, has-inter, has-empty}
+use Rattle.sets.specs.Least.{SetList, Inside, least, Held}
 use Rattle.sets.specs.InsideLaws.{inside-equal}
 use Rattle.sets.specs.LeastLaws.{least-sets, least-holds-start, least-closed, least-induction}
 use Rattle.table.specs.Tabulate.{tabulate}

@@ -1,19 +1,17 @@
 -- What stands in a list or a union over all statements of all copies. Assumes nothing.
 use Prim.Native.Nat.{ℕ, _+_, _≤_, _<_}
-use mathlib.Core.Path.{_≡_, refl, sym, ap, _∙_, subst}
-use mathlib.Core.Bool.{Bool, true, false}
+use mathlib.Core.Path.{_≡_, sym, ap, _∙_, subst}
 use mathlib.Core.List.{List, List·Memᴰ}
 use native.Mathlib.Omega.{arith}
-use lib.ListN.{length, getD}
-use Rattle.sets.specs.Set.{has}
-use Rattle.table.specs.Table.{Table, declaration, routine, statement, InRoutine, OwnHandle}
+use lib.ListN.{length}
+use Rattle.table.specs.Table.{Table, routine, statement, OwnHandle}
 use Rattle.table.specs.Accepted.{Accepted, RoutineFacts}
 use Rattle.table.specs.declared.Statement.{Statement}
-use Rattle.report.specs.Over.{joinedFrom, unionFrom}
-use Rattle.report.specs.OverLaws.{Within, joined-has, joined-from, union-has, union-from, below-within, within-below}
+use Rattle.report.specs.Over.{joinedFrom}
+use Rattle.report.specs.OverLaws.{Within, joined-has, joined-from, below-within, within-below}
 use Rattle.report.specs.Layout.{Layout}
-use Rattle.report.specs.Fits.{Fits, StatementPlaced, StatementThere, copiesOf}
-use Rattle.report.specs.Rules.{Copies, Place}
+use Rattle.report.specs.Fits.{Fits, StatementPlaced, copiesOf}
+use Rattle.report.specs.Rules.{Place}
 
 module _ (t : Table) (k : Layout) (fits : Fits t k) where
   -- the place of a statement of a copy, and the statement of a place

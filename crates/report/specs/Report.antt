@@ -13,6 +13,7 @@ use Rattle.report.specs.Layout.{Layout, oneEach}
 use Rattle.report.specs.Operations.{reading, writing}
 use Rattle.report.specs.Findings.{Sets, setsOf, sharedCells, commonLocks, isUnguarded, accessCount, isStray}
 
+-- 1 or 0
 abbrev pub bit : Bool → ℕ
 bit b = cond b 1 0
 
@@ -26,10 +27,11 @@ cellLine t k a shared x =
 unfoldable pub cellLines : Table → Layout → Sets → List (List ℕ)
 cellLines t k a = let shared = sharedCells t k a in joinedFrom 0 (t .cells) (λ x. cellLine t k a shared x ∷ [])
 
--- "then 52, statement, six zeros, for each stray GIVE in order"
+-- "then 52, statement, six zeros"
 unfoldable pub strayLine : ℕ → List ℕ
 strayLine s = 52 ∷ s ∷ 0 ∷ 0 ∷ 0 ∷ 0 ∷ 0 ∷ 0 ∷ []
 
+-- "for each stray GIVE in order"
 unfoldable pub strayLines : Table → Layout → Sets → List (List ℕ)
 strayLines t k a = joinedFrom 0 (length (t .statements)) (λ s. cond (isStray t k a s) (strayLine s ∷ []) [])
 
@@ -49,9 +51,11 @@ saysStray l = eqb (getD l 0 0) 52
 unfoldable pub totalLine : List (List ℕ) → List ℕ
 totalLine ls = 59 ∷ countLines saysUnguarded ls ∷ countLines saysStray ls ∷ 0 ∷ 0 ∷ 0 ∷ 0 ∷ 0 ∷ []
 
+-- the lines above line 59
 unfoldable pub findingLines : Table → Layout → List (List ℕ)
 findingLines t k = let a = setsOf t k in cellLines t k a ++ strayLines t k a
 
+-- all lines
 unfoldable pub linesFor : Table → Layout → List (List ℕ)
 linesFor t k = let ls = findingLines t k in ls ++ (totalLine ls ∷ [])
 
@@ -74,8 +78,10 @@ lastLine [] = []
 lastLine (l ∷ []) = l
 lastLine (l ∷ m ∷ ls) = lastLine (m ∷ ls)
 
+-- unguarded cells
 unfoldable pub unguardedTotal : Table → ℤ
 unguardedTotal t = getD (lastLine (reportLines t)) 1 (pos 0)
 
+-- stray GIVEs
 unfoldable pub strayTotal : Table → ℤ
 strayTotal t = getD (lastLine (reportLines t)) 2 (pos 0)

@@ -1,31 +1,27 @@
 -- The lines of the report: the totals of line 59 are the counts of unguarded cells and of stray GIVEs, and where both are 0 the report is clean.
 -- Assumes nothing.
-use Prim.Native.Nat.{ℕ, zero, suc, _+_, _≤_, _<_}
-use mathlib.Core.Path.{_≡_, refl, sym, ap, _∙_, subst}
-use mathlib.Core.Bool.{Bool, true, false, cond, _&&_}
-use mathlib.Core.Logic.{_⊎_, inl, inr}
-use mathlib.Core.List.{List, [], _∷_, _++_, map, List·Memᴰ}
+use Prim.Native.Nat.{ℕ, zero, suc, _+_}
+use mathlib.Core.Path.{_≡_, refl, sym, ap, _∙_}
+use mathlib.Core.Bool.{Bool, true, false, cond}
+use mathlib.Core.List.{List, [], _∷_, _++_, map}
 use native.Mathlib.Omega.{arith}
 use native.Mathlib.Nat.{add-assoc, zero-add, add-zero}
 use lib.Dec.{eqb}
 use lib.IntN.{ℤ, pos}
 use lib.ListN.{length, getD}
-use Rattle.sets.specs.Set.{has}
-use Rattle.table.specs.Table.{Table, statement}
+use Rattle.table.specs.Table.{Table}
 use Rattle.table.specs.Accepted.{Accepted}
-use Rattle.table.specs.declared.Handle.{Handle}
-use Rattle.table.specs.declared.Statement.the-variants.{Give}
 use Rattle.report.specs.Over.{joinedFrom, countFrom}
 use Rattle.report.specs.OverLaws.{Within, first-or, never, below-within}
 use Rattle.report.specs.Layout.{Layout, oneEach}
-use Rattle.report.specs.Fits.{Fits, StatementPlaced, StatementThere, copiesOf}
+use Rattle.report.specs.Fits.{Fits, StatementThere, copiesOf}
 use Rattle.report.specs.OneEach.{one-each-fits}
 use Rattle.report.specs.Findings.{Sets, setsOf, sharedCells, commonLocks, isUnguarded, strayAt, isStray}
 use Rattle.report.specs.FindingsLaws.{guarded-is, sound-if, stray-has}
 use Rattle.report.specs.PlaceLaws.{placed}
 use Rattle.report.specs.Report.{bit, cellLine, cellLines, strayLine, strayLines, countLines, saysUnguarded, saysStray, totalLine, findingLines, linesFor, reportLines, lastLine, unguardedTotal, strayTotal}
 use Rattle.report.specs.ReportRules.{families, report-rules}
-use Rattle.report.specs.Rules.{Copies, Place, Clean, Rules}
+use Rattle.report.specs.Rules.{Place, Clean, Rules}
 
 -- ---- counting
 

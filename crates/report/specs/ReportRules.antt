@@ -1,39 +1,33 @@
 -- The sets of a table that is accepted satisfy all rules of the report, and what the report says of a cell and of a GIVE is what the rules say.
 -- Assumes nothing.
-use Prim.Native.Nat.{ℕ, _+_, _^_, _≤_, _<_}
-use mathlib.Core.Path.{_≡_, refl, sym, ap, _∙_, subst, fun-ext}
-use mathlib.Core.Bool.{Bool, true, false, cond, not, _&&_, _||_}
+use Prim.Native.Nat.{ℕ, _^_, _<_}
+use mathlib.Core.Path.{_≡_, refl, sym, _∙_, subst, fun-ext}
+use mathlib.Core.Bool.{Bool, true, false, cond}
 use mathlib.Core.Logic.{_⊎_, inl, inr}
-use mathlib.Core.List.{List, [], _∷_}
+use mathlib.Core.List.{List}
 use native.Mathlib.Omega.{arith}
-use lib.Dec.{ltb}
-use lib.ListN.{length, getD}
-use borrow.Author.Tests.{ltb-true, lt-ltb}
-use Rattle.sets.specs.Set.{has, union, inter, subset, isEmpty, isSingle}
-use Rattle.sets.specs.SetLaws.{has-union-left, has-union-right, union-cases, has-inter, subset-has, has-subset, has-empty}
-use Rattle.sets.specs.Least.{SetList}
-use Rattle.table.specs.Table.{Table, routine, statement, InRoutine}
-use Rattle.table.specs.Accepted.{Accepted, Names}
+use lib.ListN.{getD}
+use Rattle.sets.specs.Set.{has, union, inter}
+use Rattle.sets.specs.SetLaws.{has-union-left, has-union-right, union-cases, has-inter}
+use Rattle.table.specs.Table.{Table, statement}
+use Rattle.table.specs.Accepted.{Accepted}
 use Rattle.table.specs.declared.Arguments.{Arguments}
-use Rattle.table.specs.declared.Handle.{Handle}
 use Rattle.table.specs.declared.Statement.{Statement}
 use Rattle.table.specs.declared.Statement.the-variants.{Read, Write, Set, Add, Take, Give, Point, Call, Start, Jump, JumpZero, Return}
-use Rattle.report.specs.Over.{unionFrom, interFrom}
-use Rattle.report.specs.OverLaws.{Within, never, none-in, both-true, true-both, not-has, union-has, union-from, inter-at, inter-inside, inter-has, below-within, within-below}
+use Rattle.report.specs.OverLaws.{none-in, both-true, true-both, union-has, union-from, below-within, within-below}
 use Rattle.report.specs.Layout.{Layout}
-use Rattle.report.specs.Fits.{Fits, StatementPlaced, copiesOf}
-use Rattle.report.specs.Operations.{accessed, byNaming, reading, writing}
-use Rattle.report.specs.Flow.{flowAt, flowSets}
+use Rattle.report.specs.Fits.{Fits, copiesOf}
+use Rattle.report.specs.Operations.{byNaming}
+use Rattle.report.specs.Flow.{flowSets}
 use Rattle.report.specs.FlowLaws.{FlowHas, flow-sets, flow-rules}
 use Rattle.report.specs.Effect.{effects, gives}
-use Rattle.report.specs.EffectLaws.{GivesHas, EffectHas, gives-rules, effects-sets, effect-rules, accessed-does, does-accessed}
-use Rattle.report.specs.Held.{allLocks, heldSets}
-use Rattle.report.specs.HeldLaws.{HeldHas, held-rules, single-only, only-single}
+use Rattle.report.specs.EffectLaws.{GivesHas, EffectHas, gives-rules, effects-sets, effect-rules}
+use Rattle.report.specs.HeldLaws.{HeldHas, held-rules}
 use Rattle.report.specs.Future.{futures}
 use Rattle.report.specs.FutureLaws.{FutureHas, future-rules}
-use Rattle.report.specs.Findings.{Sets, setsOf, clash, sharedAt, sharedCells, ownAccess, touchesAt, commonLocks, isUnguarded, strayBy, strayAt}
+use Rattle.report.specs.Findings.{Sets, setsOf, clash, sharedAt, sharedCells}
 use Rattle.report.specs.PlaceLaws.{placed, place-at, at-placed}
-use Rattle.report.specs.Rules.{Copies, Place, Only, Does, Accesses, Clash, SharedRules, EffectRules, FutureRules, Common, Sound, Families, Rules, Clean}
+use Rattle.report.specs.Rules.{Place, Clash, SharedRules, EffectRules, FutureRules, Families, Rules}
 
 -- reads or writes, by which is asked for
 abbrev pub effectList : Sets → Bool → List ℕ
@@ -127,12 +121,6 @@ module _ (t : Table) (k : Layout) (acc : Accepted t) (fits : Fits t k) where
 
   abbrev theSets : Sets
   theSets = setsOf t k
-
-  effect-at : ℕ → Bool → ℕ
-  effect-at d w = getD (effectList theSets w) d 0
-
-  future-at : ℕ → Bool → ℕ
-  future-at p w = getD (futureList theSets w) p 0
 
   the-shared-rules : SharedRules (copiesOf fits) (EffectHas (effectList theSets)) (FutureHas k (futureList theSets)) (λ x. has (sharedCells t k theSets) x ≡ true)
   unfolding sharedCells sharedAt byNaming

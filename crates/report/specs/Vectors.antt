@@ -1,5 +1,4 @@
 -- Tables and their reports, from the vectors that the product is judged by: the definitions compute each report. Assumes nothing.
-use Prim.Native.Nat.{ℕ}
 use mathlib.Core.Path.{_≡_, refl}
 use mathlib.Core.List.{List, [], _∷_}
 use Rattle.report.specs.Cases.{Case, row, negative, asComputed, asGiven}

@@ -1,1 +1,1 @@
-// The report of a table, as definitions and their laws: see specs/. No code runs here.
+// The report of document 01: definitions only, in specs/.
