@@ -1,0 +1,50 @@
+-- A case is a table as its lines and the report that it is to have. Assumes nothing.
+use Prim.Native.Nat.{ℕ}
+use mathlib.Core.List.{List, [], _∷_, _++_, map}
+use lib.IntN.{ℤ, pos, negsuc}
+use lib.Count.{onesIn}
+use Rattle.sets.specs.Set.{has, firsts, one, union, inter, minus, subset, isEmpty, count, isSingle}
+use Rattle.sets.specs.Least.{same, room, settle, settled, putInto, along, passEdges, least}
+use Rattle.lines.specs.Lowest.{lowest}
+use Rattle.table.specs.Until.{until}
+use Rattle.table.specs.Fields.{plain}
+use Rattle.table.specs.Handles.{handlesFrom, parameters}
+use Rattle.table.specs.Routines.{firstOf}
+use Rattle.table.specs.Table.{statementOf, declarationOf, routineAt, tableOf}
+use Rattle.table.specs.Tabulate.{tabulateFrom, tabulate}
+use Rattle.report.specs.Over.{joinedFrom, unionFrom, interFrom, countFrom, unionAt, froms, tos, leastAlong}
+use Rattle.report.specs.Greatest.{leaving, narrow, narrowAll, leftOut, greatest}
+use Rattle.report.specs.Layout.{named, isIn, ownerOf, oneEach}
+use Rattle.report.specs.Operations.{nexts, byNaming, isReturn, accessed, given}
+use Rattle.report.specs.Flow.{startOf, passing, flowEdges, allFlowEdges, flowStarts, flowSets}
+use Rattle.report.specs.Effect.{overCopy, upFrom, namingEdges, callEdges, effects, gives, effectOf}
+use Rattle.report.specs.Held.{entry, onlyLock, atReturns, heldAfter, waysFrom, allWays, heldSets}
+use Rattle.report.specs.Future.{callers, nextEffects, futureEdges, futureStarts, futures}
+use Rattle.report.specs.Findings.{setsOf, clash, sharedAt, sharedCells, ownAccess, touchesAt, commonLocks, isUnguarded, strayBy, strayAt, accessCount, isStray}
+use Rattle.report.specs.Report.{cellLine, cellLines, strayLine, strayLines, countLines, saysUnguarded, saysStray, totalLine, findingLines, linesFor, reportLines}
+
+pub record Case : Type 0 where
+  pub lines : List (List ℤ)
+  pub report : List (List ℤ)
+
+-- a line of eight numbers
+abbrev pub row : ℕ → ℕ → ℕ → ℕ → ℕ → ℕ → ℕ → ℕ → List ℤ
+row a b c d e f g h = pos a ∷ pos b ∷ pos c ∷ pos d ∷ pos e ∷ pos f ∷ pos g ∷ pos h ∷ []
+
+-- the line of SET or ADD with the number -(n + 1)
+abbrev pub negative : ℕ → ℕ → List ℤ
+negative operation n = pos 4 ∷ pos operation ∷ negsuc n ∷ pos 0 ∷ pos 0 ∷ pos 0 ∷ pos 0 ∷ pos 0 ∷ []
+
+abbrev pub inOneList : List (List ℤ) → List ℤ
+inOneList [] = []
+inOneList (l ∷ ls) = l ++ inOneList ls
+
+-- the reports of the cases, as the definitions give them and as they are to be
+unfoldable pub asComputed : List Case → List (List (List ℤ))
+unfolding onesIn has firsts one union inter minus subset isEmpty count isSingle same room settle settled putInto along passEdges least lowest until plain handlesFrom parameters firstOf tabulateFrom tabulate statementOf declarationOf routineAt tableOf joinedFrom unionFrom interFrom countFrom unionAt froms tos leastAlong leaving narrow narrowAll leftOut greatest named isIn ownerOf oneEach nexts byNaming isReturn accessed given startOf passing flowEdges allFlowEdges flowStarts flowSets overCopy upFrom namingEdges callEdges effects gives effectOf entry onlyLock atReturns heldAfter waysFrom allWays heldSets callers nextEffects futureEdges futureStarts futures setsOf clash sharedAt sharedCells ownAccess touchesAt commonLocks isUnguarded strayBy strayAt accessCount isStray cellLine cellLines strayLine strayLines countLines saysUnguarded saysStray totalLine findingLines linesFor reportLines
+asComputed [] = []
+asComputed (c ∷ cs) = reportLines (tableOf (inOneList (c .lines))) ∷ asComputed cs
+
+abbrev pub asGiven : List Case → List (List (List ℤ))
+asGiven [] = []
+asGiven (c ∷ cs) = c .report ∷ asGiven cs

@@ -1,0 +1,111 @@
+-- What the report says of a cell and of a GIVE, from the sets. Assumes nothing.
+use Prim.Native.Nat.{ℕ}
+use mathlib.Core.Bool.{Bool, false, cond, not, _&&_, _||_}
+use mathlib.Core.List.{List}
+use lib.ListN.{getD, length}
+use Rattle.sets.specs.Set.{has, union, inter, subset, isEmpty, isSingle}
+use Rattle.table.specs.Table.{Table, statement}
+use Rattle.table.specs.declared.Statement.{Statement}
+use Rattle.table.specs.declared.Statement.the-variants.{Read, Write, Set, Add, Take, Give, Point, Call, Start, Jump, JumpZero, Return}
+use Rattle.report.specs.Over.{unionFrom, interFrom, countFrom, unionAt}
+use Rattle.report.specs.Layout.{Layout}
+use Rattle.report.specs.Operations.{reading, writing, accessed, byNaming}
+use Rattle.report.specs.Flow.{flowAt, flowSets}
+use Rattle.report.specs.Effect.{effects, gives}
+use Rattle.report.specs.Held.{allLocks, heldSets}
+use Rattle.report.specs.Future.{futures}
+
+-- all sets of a table: flow by handle; reads, writes and given locks by copy; held locks and futures by statement
+pub record Sets : Type 0 where
+  pub flow : List ℕ
+  pub reads : List ℕ
+  pub writes : List ℕ
+  pub given : List ℕ
+  pub held : List ℕ
+  pub futureReads : List ℕ
+  pub futureWrites : List ℕ
+
+-- each is computed once, out of those before it
+unfoldable pub setsOf : Table → Layout → Sets
+setsOf t k =
+    let flow = flowSets t k in
+    let reads = effects t k flow reading in
+    let writes = effects t k flow writing in
+    let given = gives t k flow in
+    record {
+      flow = flow;
+      reads = reads;
+      writes = writes;
+      given = given;
+      held = heldSets t k flow given;
+      futureReads = futures t k flow reads reading;
+      futureWrites = futures t k flow writes writing;
+    }
+
+-- ---- shared
+
+-- the cells that both of two effects touch and one of them writes
+unfoldable pub clash : ℕ → ℕ → ℕ → ℕ → ℕ
+clash reads writes otherReads otherWrites =
+    inter (inter (union reads writes) (union otherReads otherWrites)) (union writes otherWrites)
+
+-- "A cell is shared if at some START the effect of the started routine and the future of that START both touch it and one of them writes it"
+unfoldable pub sharedAt : Table → Layout → Sets → ℕ → ℕ
+sharedAt t k a p =
+    let d = k .leads (k .statementCopy p) (k .statementAt p) in
+    byNaming 0 (clash (getD (a .reads) d 0) (getD (a .writes) d 0) (getD (a .futureReads) p 0) (getD (a .futureWrites) p 0)) 0
+    (statement t (k .statementAt p))
+
+-- all shared cells
+unfoldable pub sharedCells : Table → Layout → Sets → ℕ
+sharedCells t k a = unionFrom 0 (k .statements) (sharedAt t k a)
+
+-- ---- common locks
+
+-- the cells that the statement at a place reads or writes itself
+unfoldable pub ownAccess : Table → Layout → Sets → Bool → ℕ → ℕ
+ownAccess t k a w p = accessed w (flowAt k (a .flow) (k .statementCopy p)) 0 (statement t (k .statementAt p))
+
+-- the statement at a place is an access of cell x
+unfoldable pub touchesAt : Table → Layout → Sets → ℕ → ℕ → Bool
+touchesAt t k a x p = has (ownAccess t k a reading p) x || has (ownAccess t k a writing p) x
+
+-- "Common locks of a cell: the intersection of the held sets of all its access statements; all locks if there are none"
+unfoldable pub commonLocks : Table → Layout → Sets → ℕ → ℕ
+commonLocks t k a x =
+    interFrom (allLocks t) 0 (k .statements) (λ p. cond (touchesAt t k a x p) (getD (a .held) p 0) (allLocks t))
+
+-- unguarded: shared, and no lock is common
+unfoldable pub isUnguarded : ℕ → ℕ → ℕ → Bool
+isUnguarded shared common x = has shared x && isEmpty common
+
+-- ---- stray
+
+-- "A GIVE is stray unless its flow set is one lock that is held there"
+unfoldable pub strayBy : (ℕ → ℕ) → ℕ → Statement → Bool
+strayBy flow held (Read h) = false
+strayBy flow held (Write h) = false
+strayBy flow held (Set n) = false
+strayBy flow held (Add n) = false
+strayBy flow held (Take h) = false
+strayBy flow held (Give h) = not (isSingle (flow (h .number)) && subset (flow (h .number)) held)
+strayBy flow held (Point h g) = false
+strayBy flow held (Call q a) = false
+strayBy flow held (Start q a) = false
+strayBy flow held (Jump s) = false
+strayBy flow held (JumpZero s) = false
+strayBy flow held Return = false
+
+-- the statement at a place is a stray GIVE
+unfoldable pub strayAt : Table → Layout → Sets → ℕ → Bool
+strayAt t k a p = strayBy (flowAt k (a .flow) (k .statementCopy p)) (getD (a .held) p 0) (statement t (k .statementAt p))
+
+-- ---- by statements of the table
+
+-- "reading statements, writing statements": how many statements read, or write, cell x in some copy
+unfoldable pub accessCount : Table → Layout → Sets → Bool → ℕ → ℕ
+accessCount t k a w x = countFrom 0 (length (t .statements)) (λ s. has (unionAt (k .placesOf s) (ownAccess t k a w)) x)
+
+-- statement s is a stray GIVE in some copy
+unfoldable pub isStray : Table → Layout → Sets → ℕ → Bool
+isStray t k a s = has (unionAt (k .placesOf s) (λ p. cond (strayAt t k a p) 1 0)) 0

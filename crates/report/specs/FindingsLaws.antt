@@ -1,0 +1,236 @@
+-- What the report says of a cell and of a GIVE, by the rules: common locks, unguarded, stray. Assumes nothing.
+use Prim.Native.Nat.{ℕ, _^_, _<_}
+use mathlib.Core.Path.{_≡_, refl, sym, ap, _∙_, subst}
+use mathlib.Core.Bool.{Bool, true, false, cond, not, _&&_, _||_}
+use mathlib.Core.Logic.{_⊎_, inl, inr}
+use mathlib.Core.List.{List·Memᴰ}
+use native.Mathlib.Omega.{arith}
+use lib.Count.{trailingZeros}
+use lib.ListN.{getD}
+use borrow.Author.Tests.{eqb-true, eq-eqb, not-false}
+use Rattle.sets.specs.Set.{has, subset, isEmpty, isSingle, count}
+use Rattle.sets.specs.SetLaws.{has-beyond, below-of-has, firsts-below, subset-has, has-subset, single-is-one, has-one, lowest-some, lowest-is}
+use Rattle.table.specs.Table.{Table, statement}
+use Rattle.table.specs.Accepted.{Accepted}
+use Rattle.table.specs.declared.Handle.{Handle}
+use Rattle.table.specs.declared.Statement.{Statement}
+use Rattle.table.specs.declared.Statement.the-variants.{Read, Write, Set, Add, Take, Give, Point, Call, Start, Jump, JumpZero, Return}
+use Rattle.report.specs.OverLaws.{never, none-in, both-true, true-both, not-has, inter-at, inter-inside, inter-has, unionAt-has, unionAt-from, below-within, within-below}
+use Rattle.report.specs.Layout.{Layout}
+use Rattle.report.specs.Fits.{Fits, copiesOf}
+use Rattle.report.specs.Operations.{accessed, reading, writing}
+use Rattle.report.specs.Flow.{flowAt}
+use Rattle.report.specs.FlowLaws.{flow-sets}
+use Rattle.report.specs.EffectLaws.{reads-of, writes-of, from-reads, from-writes}
+use Rattle.report.specs.Held.{allLocks}
+use Rattle.report.specs.HeldLaws.{single-only, only-single}
+use Rattle.report.specs.Findings.{Sets, setsOf, sharedCells, ownAccess, touchesAt, commonLocks, isUnguarded, strayBy, strayAt, isStray}
+use Rattle.report.specs.PlaceLaws.{placed, place-at, at-placed, from-placed}
+use Rattle.report.specs.ReportRules.{families}
+use Rattle.report.specs.Rules.{Place, Accesses, Common, Sound}
+
+-- ---- a mark, and a set that is not empty
+
+pub mark : (b : Bool) → has (cond b 1 0) 0 ≡ b
+unfolding has
+mark true = refl
+mark false = refl
+
+pub some-element : (s : ℕ) → s < 2 ^ 64 → isEmpty s ≡ false → (i : ℕ) × (has s i ≡ true)
+some-element s l e = (trailingZeros 64 s, lowest-is s (trailingZeros 64 s) l (lowest-some s e) .0)
+
+single-has : (s : ℕ) → s < 2 ^ 64 → isSingle s ≡ true → (i : ℕ) × (has s i ≡ true)
+unfolding isSingle
+single-has s l e =
+    let r = single-is-one s l (eqb-true (count s) 1 e) in
+    (trailingZeros 64 s, ap (λ (x : ℕ). has x (trailingZeros 64 s)) (r .1) ∙ has-one (trailingZeros 64 s) (trailingZeros 64 s) (r .0) ∙ eq-eqb (trailingZeros 64 s) (trailingZeros 64 s) refl)
+
+pub empty-has {ℓ} : {C : Type ℓ} (s i : ℕ) → isEmpty s ≡ true → has s i ≡ true → C
+unfolding isEmpty
+empty-has s i e h = none-in i (ap (λ (x : ℕ). has x i) (sym (eqb-true s 0 e)) ∙ h)
+
+either : (a b : Bool) → (a || b) ≡ true → (a ≡ true) ⊎ (b ≡ true)
+either true b h = inl refl
+either false b h = inr h
+
+either-left : {a : Bool} (b : Bool) → a ≡ true → (a || b) ≡ true
+either-left b e = rw e
+
+either-right : (a : Bool) {b : Bool} → b ≡ true → (a || b) ≡ true
+either-right true e = refl
+either-right false e = e
+
+module _ (t : Table) (k : Layout) (acc : Accepted t) (fits : Fits t k) where
+  abbrev theSets : Sets
+  theSets = setsOf t k
+
+  flow-below : (i : ℕ) → getD (theSets .flow) i 0 < 2 ^ 64
+  unfolding setsOf
+  flow-below = flow-sets t k acc fits .below
+
+  -- ---- accesses
+
+  accesses-has : (c : ℕ) (σ : Statement) (w : Bool) (x : ℕ) → Accesses (copiesOf fits) (families t k .flow) c σ w x
+      → has (accessed w (flowAt k (theSets .flow) c) 0 σ) x ≡ true
+  unfolding accessed
+  accesses-has c (Read h) w x a = reads-of w x _ a
+  accesses-has c (Write h) w x a = writes-of w x _ a
+  accesses-has c (Set n) w x a = absurd a
+  accesses-has c (Add n) w x a = absurd a
+  accesses-has c (Take h) w x a = absurd a
+  accesses-has c (Give h) w x a = absurd a
+  accesses-has c (Point h g) w x a = absurd a
+  accesses-has c (Call q b) w x a = absurd a
+  accesses-has c (Start q b) w x a = absurd a
+  accesses-has c (Jump z) w x a = absurd a
+  accesses-has c (JumpZero z) w x a = absurd a
+  accesses-has c Return w x a = absurd a
+
+  has-accesses : (c : ℕ) (σ : Statement) (w : Bool) (x : ℕ) → has (accessed w (flowAt k (theSets .flow) c) 0 σ) x ≡ true
+      → Accesses (copiesOf fits) (families t k .flow) c σ w x
+  unfolding accessed
+  has-accesses c (Read h) w x a = from-reads w x _ a
+  has-accesses c (Write h) w x a = from-writes w x _ a
+  has-accesses c (Set n) w x a = none-in x a
+  has-accesses c (Add n) w x a = none-in x a
+  has-accesses c (Take h) w x a = none-in x a
+  has-accesses c (Give h) w x a = none-in x a
+  has-accesses c (Point h g) w x a = none-in x a
+  has-accesses c (Call q b) w x a = none-in x a
+  has-accesses c (Start q b) w x a = none-in x a
+  has-accesses c (Jump z) w x a = none-in x a
+  has-accesses c (JumpZero z) w x a = none-in x a
+  has-accesses c Return w x a = none-in x a
+
+  accesses-touch : (c s : ℕ) (w : Bool) (x : ℕ) → Place (copiesOf fits) c s → Accesses (copiesOf fits) (families t k .flow) c (statement t s) w x
+      → touchesAt t k theSets x (k .statementPlace c s) ≡ true
+  unfolding touchesAt ownAccess
+  accesses-touch c s w x v a =
+      at-placed t k fits
+      (λ p d z τ. (has (accessed reading (flowAt k (theSets .flow) d) 0 τ) x || has (accessed writing (flowAt k (theSets .flow) d) 0 τ) x) ≡ true)
+      c s v (statement t s) refl (go w (accesses-has c (statement t s) w x a))
+    where
+      go : (w : Bool) → has (accessed w (flowAt k (theSets .flow) c) 0 (statement t s)) x ≡ true
+          → (has (accessed reading (flowAt k (theSets .flow) c) 0 (statement t s)) x || has (accessed writing (flowAt k (theSets .flow) c) 0 (statement t s)) x) ≡ true
+      go true h = either-right (has (accessed reading (flowAt k (theSets .flow) c) 0 (statement t s)) x) h
+      go false h = either-left (has (accessed writing (flowAt k (theSets .flow) c) 0 (statement t s)) x) h
+
+  touch-accesses : (p x : ℕ) → touchesAt t k theSets x p ≡ true
+      → (w : Bool) × Accesses (copiesOf fits) (families t k .flow) (k .statementCopy p) (statement t (k .statementAt p)) w x
+  unfolding touchesAt ownAccess
+  touch-accesses p x h = go (either _ _ h)
+    where
+      go : (has (ownAccess t k theSets reading p) x ≡ true) ⊎ (has (ownAccess t k theSets writing p) x ≡ true)
+          → (w : Bool) × Accesses (copiesOf fits) (families t k .flow) (k .statementCopy p) (statement t (k .statementAt p)) w x
+      go (inl a) = (false, has-accesses (k .statementCopy p) (statement t (k .statementAt p)) false x a)
+      go (inr a) = (true, has-accesses (k .statementCopy p) (statement t (k .statementAt p)) true x a)
+
+  -- ---- common locks: exactly the locks that are held at all accesses
+
+  pub common-has : (x l : ℕ) → has (allLocks t) l ≡ true → Common (copiesOf fits) (families t k .flow) (families t k .held) x l
+      → has (commonLocks t k theSets x) l ≡ true
+  unfolding commonLocks
+  common-has x l a f =
+      inter-has (allLocks t) 0 (k .statements) _ l a (λ p w. go p (within-below w) (touchesAt t k theSets x p) refl)
+    where
+      go : (p : ℕ) → p < k .statements → (b : Bool) → touchesAt t k theSets x p ≡ b → has (cond b (getD (theSets .held) p 0) (allLocks t)) l ≡ true
+      go p m true e =
+          let r = touch-accesses p x e in
+          subst (λ (z : ℕ). has (getD (theSets .held) z 0) l ≡ true) (fits .statement-there p m .back)
+          (f (k .statementCopy p) (k .statementAt p) (r .0) (place-at t k fits p m) (r .1))
+      go p m false e = a
+
+  pub common-from : (x l : ℕ) → has (commonLocks t k theSets x) l ≡ true
+      → (has (allLocks t) l ≡ true) × Common (copiesOf fits) (families t k .flow) (families t k .held) x l
+  unfolding commonLocks
+  common-from x l h = (
+    inter-inside (allLocks t) 0 (k .statements) _ l h,
+    λ c s w v a.
+        ap (λ (b : Bool). has (cond b (getD (theSets .held) (k .statementPlace c s) 0) (allLocks t)) l) (sym (accesses-touch c s w x v a))
+        ∙ inter-at (allLocks t) 0 (k .statements) _ (k .statementPlace c s) l (below-within (placed t k fits c s v .there)) h,
+  )
+
+  common-below : (x : ℕ) → commonLocks t k theSets x < 2 ^ 64
+  unfolding commonLocks
+  common-below x =
+      below-of-has 64 (commonLocks t k theSets x)
+      (λ i l. not-has (commonLocks t k theSets x) i (λ h. never (sym (common-from x i h .0) ∙ has-beyond 64 i (firsts-below (t .locks)) l)))
+
+  -- ---- unguarded: exactly if shared and no lock is common
+
+  pub unguarded-is : (x : ℕ) → isUnguarded (sharedCells t k theSets) (commonLocks t k theSets x) x ≡ true
+      → families t k .shared x × ((l : ℕ) → has (allLocks t) l ≡ true → Common (copiesOf fits) (families t k .flow) (families t k .held) x l → ⊥)
+  unfolding isUnguarded
+  unguarded-is x h =
+      let b = both-true (has (sharedCells t k theSets) x) (isEmpty (commonLocks t k theSets x)) h in
+      (b .0, λ l a c. empty-has (commonLocks t k theSets x) l (b .1) (common-has x l a c))
+
+  pub unguarded-if : (x : ℕ) → families t k .shared x
+      → ((l : ℕ) → has (allLocks t) l ≡ true → Common (copiesOf fits) (families t k .flow) (families t k .held) x l → ⊥)
+      → isUnguarded (sharedCells t k theSets) (commonLocks t k theSets x) x ≡ true
+  unfolding isUnguarded
+  unguarded-if x s n = true-both s (go (isEmpty (commonLocks t k theSets x)) refl)
+    where
+      go : (b : Bool) → isEmpty (commonLocks t k theSets x) ≡ b → isEmpty (commonLocks t k theSets x) ≡ true
+      go true e = e
+      go false e =
+          let r = some-element (commonLocks t k theSets x) (common-below x) e in
+          let c = common-from x (r .0) (r .1) in
+          absurd (n (r .0) (c .0) (c .1))
+
+  -- a cell that is not unguarded is not shared or has a common lock
+  pub guarded-is : (x : ℕ) → isUnguarded (sharedCells t k theSets) (commonLocks t k theSets x) x ≡ false
+      → (families t k .shared x → ⊥) ⊎ ((l : ℕ) × Common (copiesOf fits) (families t k .flow) (families t k .held) x l)
+  unfolding isUnguarded
+  guarded-is x h = go (isEmpty (commonLocks t k theSets x)) refl
+    where
+      go : (b : Bool) → isEmpty (commonLocks t k theSets x) ≡ b
+          → (families t k .shared x → ⊥) ⊎ ((l : ℕ) × Common (copiesOf fits) (families t k .flow) (families t k .held) x l)
+      go true e = inl (λ s. never (sym (true-both s e) ∙ h))
+      go false e =
+          let r = some-element (commonLocks t k theSets x) (common-below x) e in
+          inr (r .0, common-from x (r .0) (r .1) .1)
+
+  -- ---- stray: exactly the GIVEs that are not sound
+
+  not-both : (a b : Bool) → not (a && b) ≡ false → (a ≡ true) × (b ≡ true)
+  not-both a b h = both-true a b (not-false (a && b) h)
+
+  pub sound-if : (c s : ℕ) (h : Handle) → Place (copiesOf fits) c s → statement t s ≡ Give h → strayAt t k theSets (k .statementPlace c s) ≡ false
+      → Sound (families t k .flow) (families t k .held) c s (h .number)
+  unfolding strayAt strayBy isSingle
+  sound-if c s h v e f =
+      let F : ℕ = flowAt k (theSets .flow) c (h .number) in
+      let H : ℕ = getD (theSets .held) (k .statementPlace c s) 0 in
+      let b : (isSingle F ≡ true) × (subset F H ≡ true) =
+      not-both (isSingle F) (subset F H)
+      (from-placed t k fits (λ p d z τ. strayBy (flowAt k (theSets .flow) d) (getD (theSets .held) p 0) τ ≡ false) c s v (Give h) e f) in
+      let i = single-has F (flow-below (k .handlePlace c (h .number))) (b .0) in
+      record {
+        lock = i .0;
+        one = single-only F (flow-below (k .handlePlace c (h .number))) (b .0) (i .0) (i .1);
+        before = subset-has F H (b .1) (i .0) (i .1);
+      }
+
+  pub sound-is : (c s : ℕ) (h : Handle) → Place (copiesOf fits) c s → statement t s ≡ Give h → Sound (families t k .flow) (families t k .held) c s (h .number)
+      → strayAt t k theSets (k .statementPlace c s) ≡ false
+  unfolding strayAt strayBy
+  sound-is c s h v e o =
+      at-placed t k fits (λ p d z τ. strayBy (flowAt k (theSets .flow) d) (getD (theSets .held) p 0) τ ≡ false) c s v (Give h) e
+      (rw (
+        only-single (flowAt k (theSets .flow) c (h .number)) (o .lock) (flow-below (k .handlePlace c (h .number))) (o .one),
+        has-subset (flowAt k (theSets .flow) c (h .number)) (getD (theSets .held) (k .statementPlace c s) 0)
+            (λ y g. ap (has (getD (theSets .held) (k .statementPlace c s) 0)) (o .one .alone y g) ∙ o .before),
+      ))
+
+  -- a statement is a stray GIVE if it is one at some place
+
+  pub stray-has : (s p : ℕ) → List·Memᴰ p (k .placesOf s) → strayAt t k theSets p ≡ true → isStray t k theSets s ≡ true
+  unfolding isStray
+  stray-has s p m h = unionAt-has (k .placesOf s) (λ q. cond (strayAt t k theSets q) 1 0) p 0 m (mark (strayAt t k theSets p) ∙ h)
+
+  pub stray-from : (s : ℕ) → isStray t k theSets s ≡ true → (p : ℕ) × List·Memᴰ p (k .placesOf s) × (strayAt t k theSets p ≡ true)
+  unfolding isStray
+  stray-from s h =
+      let r = unionAt-from (k .placesOf s) (λ q. cond (strayAt t k theSets q) 1 0) 0 h in
+      (r .0, r .1, sym (mark (strayAt t k theSets (r .0))) ∙ r .2)

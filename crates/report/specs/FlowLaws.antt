@@ -1,0 +1,203 @@
+-- The flow sets satisfy their rules, and are inside any that do. Assumes nothing.
+use Prim.Native.Nat.{ℕ, _+_, _^_, _≤_, _<_}
+use mathlib.Core.Path.{_≡_, refl, sym, ap, _∙_, subst}
+use mathlib.Core.Bool.{Bool, true, false, cond}
+use mathlib.Core.Logic.{_⊎_, inl, inr}
+use mathlib.Core.List.{List, [], _∷_, List·Memᴰ, List·Memᴰ·head, List·Memᴰ·eq-of-singleton}
+use native.Mathlib.Omega.{arith}
+use lib.Dec.{eqb}
+use lib.ListN.{length, getD}
+use borrow.Author.Tests.{eqb-true, eq-eqb}
+use Rattle.sets.specs.Set.{has, one}
+use Rattle.sets.specs.SetLaws.{has-one, one-below}
+use Rattle.sets.specs.Least.{SetList}
+use Rattle.table.specs.Table.{Table, declaration, routine, statement, passed, OwnHandle}
+use Rattle.table.specs.Accepted.{Accepted, Operands, Passes, Names, HandleFacts}
+use Rattle.table.specs.declared.Arguments.{Arguments}
+use Rattle.table.specs.declared.Statement.{Statement}
+use Rattle.table.specs.declared.Statement.the-variants.{Read, Write, Set, Add, Take, Give, Point, Call, Start, Jump, JumpZero, Return}
+use Rattle.report.specs.Over.{Edge}
+use Rattle.report.specs.OverLaws.{Within, none-in, joined-has, joined-from, below-within, within-below, tabulate-sets, tabulate-has, tabulate-from, along-sets, along-start, along-edge, along-induction}
+use Rattle.report.specs.Layout.{Layout}
+use Rattle.report.specs.Fits.{Fits, HandlePlaced, HandleThere, copiesOf}
+use Rattle.report.specs.Flow.{flowAt, startOf, passing, flowEdges, allFlowEdges, flowStarts, flowSets}
+use Rattle.report.specs.PlaceLaws.{place-at, among-all, of-some, parameter-own}
+use Rattle.report.specs.Rules.{Place, Passing, FlowStep, FlowRules}
+
+-- thing x is in the flow set of handle h of copy c
+abbrev pub FlowHas : Layout → List ℕ → ℕ → ℕ → ℕ → Type 0
+FlowHas k flow c h x = has (flowAt k flow c h) x ≡ true
+
+-- ---- where a local starts
+
+start-below : (t : Table) → Accepted t → (h : ℕ) → h < length (t .handles) → declaration t h .origin ≡ 1 → declaration t h .start < 64
+start-below t acc h l o = go (f .kind-known)
+  where
+    f : HandleFacts t h
+    f = acc .handle h l
+
+    go : (declaration t h .kind ≡ 1) ⊎ (declaration t h .kind ≡ 2) → declaration t h .start < 64
+    go (inl e) = let a : declaration t h .start < t .cells = f .cell-there o e in let b : t .cells ≤ 64 = acc .cells-most in omega arith
+    go (inr e) = let a : declaration t h .start < t .locks = f .lock-there o e in let b : t .locks ≤ 16 = acc .locks-most in omega arith
+
+start-has : (t : Table) (h : ℕ) → declaration t h .start < 64 → declaration t h .origin ≡ 1 → has (startOf t h) (declaration t h .start) ≡ true
+unfolding startOf
+start-has t h l o = rw (o, has-one) (eq-eqb (declaration t h .start) (declaration t h .start) refl)
+
+start-from : (t : Table) → Accepted t → (h x : ℕ) → h < length (t .handles) → has (startOf t h) x ≡ true
+    → (declaration t h .origin ≡ 1) × (x ≡ declaration t h .start)
+unfolding startOf
+start-from t acc h x l e = go (eqb (declaration t h .origin) 1) refl e
+  where
+    go : (b : Bool) → eqb (declaration t h .origin) 1 ≡ b → has (cond b (one (declaration t h .start)) 0) x ≡ true
+        → (declaration t h .origin ≡ 1) × (x ≡ declaration t h .start)
+    go true q e =
+        let o : declaration t h .origin ≡ 1 = eqb-true _ _ q in
+        (o, eqb-true _ _ (sym (has-one (declaration t h .start) x (start-below t acc h l o)) ∙ e))
+    go false q e = none-in x e
+
+startOf-below : (t : Table) (h : ℕ) → startOf t h < 2 ^ 64
+unfolding startOf
+startOf-below t h = go (eqb (declaration t h .origin) 1)
+  where
+    go : (b : Bool) → cond b (one (declaration t h .start)) 0 < 2 ^ 64
+    go true = one-below (declaration t h .start)
+    go false = omega arith
+
+module _ (t : Table) (k : Layout) (acc : Accepted t) (fits : Fits t k) where
+  starts-sets : SetList (k .handles) (flowStarts t k)
+  unfolding flowStarts
+  starts-sets = tabulate-sets (k .handles) (λ p. startOf t (k .handleAt p)) (λ p. startOf-below t (k .handleAt p))
+
+  pub flow-sets : SetList (k .handles) (flowSets t k)
+  unfolding flowSets
+  flow-sets = along-sets (k .handles) (allFlowEdges t k) (flowStarts t k) starts-sets
+
+  -- ---- the rules
+
+  module _ (c s : ℕ) (w : Place (copiesOf fits) c s) where
+    carries : (σ : Statement) → statement t s ≡ σ → (e : Edge) → List·Memᴰ e (flowEdges t k c s σ) → e .to < k .handles → (x : ℕ)
+        → has (getD (flowSets t k) (e .from) 0) x ≡ true → has (getD (flowSets t k) (e .to) 0) x ≡ true
+    unfolding flowSets allFlowEdges
+    carries σ q e m l x h =
+        along-edge (k .handles) (allFlowEdges t k) (flowStarts t k) starts-sets e
+        (among-all t k fits (λ p d z τ. flowEdges t k d z τ) e c s w σ q m) l x h
+
+    parameter-placed : (q j : ℕ) → Names (statement t s) q → j < routine t q .parameters → HandlePlaced k (k .leads c s) (routine t q .handle + j)
+    parameter-placed q j n l =
+        let e : k .routineOf (k .leads c s) ≡ q = fits .leads-of c s q (w .there) (w .inside) n in
+        let d : k .leads c s < k .copies = fits .leads-there c s q (w .there) (w .inside) n in
+        fits .handle-placed (k .leads c s) (routine t q .handle + j) d
+        (subst (λ (r : ℕ). OwnHandle t r (routine t q .handle + j)) (sym e)
+        (parameter-own t k fits acc q j (subst (λ (r : ℕ). r < length (t .routines)) e (fits .of-there (k .leads c s) d)) l))
+
+    passes : (q : ℕ) (a : Arguments) → Names (statement t s) q
+        → ((e : Edge) → List·Memᴰ e (passing t k c (k .leads c s) q a) → e .to < k .handles → (x : ℕ)
+        → has (getD (flowSets t k) (e .from) 0) x ≡ true → has (getD (flowSets t k) (e .to) 0) x ≡ true)
+        → Passing (copiesOf fits) (FlowHas k (flowSets t k)) c s q a
+    unfolding passing
+    passes q a n f j x l h =
+        f (record { from = k .handlePlace c (getD (passed a) j 0); to = k .handlePlace (k .leads c s) (routine t q .handle + j) })
+        (joined-has 0 (routine t q .parameters) _ j _ (below-within l) (List·Memᴰ·head refl)) (parameter-placed q j n l .there) x h
+
+    flow-step : (σ : Statement) → statement t s ≡ σ → Operands t (k .routineOf c) σ → FlowStep (copiesOf fits) (FlowHas k (flowSets t k)) c s σ
+    unfolding flowEdges
+    flow-step (Read h) q o = tt
+    flow-step (Write h) q o = tt
+    flow-step (Set n) q o = tt
+    flow-step (Add n) q o = tt
+    flow-step (Take h) q o = tt
+    flow-step (Give h) q o = tt
+    flow-step (Point h g) q o = λ x. carries (Point h g) q
+        (record { from = k .handlePlace c (g .number); to = k .handlePlace c (h .number) })
+        (List·Memᴰ·head refl) (fits .handle-placed c (h .number) (w .there) (o .0) .there) x
+    flow-step (Call r a) q o = passes r a (subst (λ (τ : Statement). Names τ r) (sym q) refl) (carries (Call r a) q)
+    flow-step (Start r a) q o = passes r a (subst (λ (τ : Statement). Names τ r) (sym q) refl) (carries (Start r a) q)
+    flow-step (Jump z) q o = tt
+    flow-step (JumpZero z) q o = tt
+    flow-step Return q o = tt
+
+  starts : (p : ℕ) → p < k .handles → (x : ℕ) → has (startOf t (k .handleAt p)) x ≡ true → has (getD (flowSets t k) p 0) x ≡ true
+  unfolding flowSets flowStarts
+  starts p l x h =
+      along-start (k .handles) (allFlowEdges t k) (flowStarts t k) starts-sets p x (tabulate-has (k .handles) (λ p. startOf t (k .handleAt p)) p x l h)
+
+  pub flow-rules : FlowRules (copiesOf fits) (FlowHas k (flowSets t k))
+  flow-rules = record {
+    local = λ c h l o e.
+        let v : HandlePlaced k c h = fits .handle-placed c h l o in
+        starts (k .handlePlace c h) (v .there) (declaration t h .start)
+        (ap (λ (z : ℕ). has (startOf t z) (declaration t h .start)) (v .same) ∙ start-has t h (start-below t acc h (o .there) e) e);
+    statement-rule = λ c s w σ q. flow-step c s w σ q (subst (Operands t (k .routineOf c)) q (acc .operands (k .routineOf c) s (fits .of-there c (w .there)) (w .inside)));
+  }
+
+  -- ---- the least
+
+  module _ (other : ℕ → ℕ → ℕ → Type 0) (rules : FlowRules (copiesOf fits) other) where
+    abbrev At : ℕ → ℕ → Type 0
+    At p x = other (k .handleCopy p) (k .handleAt p) x
+
+    to-pair : (c h x : ℕ) → HandlePlaced k c h → At (k .handlePlace c h) x → other c h x
+    to-pair c h x v a = subst (λ (z : ℕ). other c z x) (v .same) (subst (λ (d : ℕ). other d (k .handleAt (k .handlePlace c h)) x) (v .copy) a)
+
+    of-pair : (c h x : ℕ) → HandlePlaced k c h → other c h x → At (k .handlePlace c h) x
+    of-pair c h x v a =
+        subst (λ (d : ℕ). other d (k .handleAt (k .handlePlace c h)) x) (sym (v .copy)) (subst (λ (z : ℕ). other c z x) (sym (v .same)) a)
+
+    module _ (c s : ℕ) (w : Place (copiesOf fits) c s) where
+      passes-on : (q : ℕ) (a : Arguments) → Names (statement t s) q → Passes t (k .routineOf c) q a → Passing (copiesOf fits) other c s q a
+          → (e : Edge) → List·Memᴰ e (passing t k c (k .leads c s) q a) → (x : ℕ) → At (e .from) x → At (e .to) x
+      unfolding passing
+      passes-on q a n ok f e m x h =
+          let r : (j : ℕ) × Within 0 (routine t q .parameters) j
+          × List·Memᴰ e (record { from = k .handlePlace c (getD (passed a) j 0); to = k .handlePlace (k .leads c s) (routine t q .handle + j) } ∷ []) =
+          joined-from 0 (routine t q .parameters) _ e m in
+          let j : ℕ = r .0 in
+          let l : j < routine t q .parameters = within-below (r .1) in
+          let q1 : e ≡ record { from = k .handlePlace c (getD (passed a) j 0); to = k .handlePlace (k .leads c s) (routine t q .handle + j) } =
+          List·Memᴰ·eq-of-singleton (r .2) in
+          subst (λ (d : Edge). At (d .to) x) (sym q1)
+          (of-pair (k .leads c s) (routine t q .handle + j) x (parameter-placed c s w q j n l)
+          (f j x l (to-pair c (getD (passed a) j 0) x (fits .handle-placed c (getD (passed a) j 0) (w .there) (ok .argument j l .own))
+          (subst (λ (d : Edge). At (d .from) x) q1 h))))
+
+      goes-along : (σ : Statement) → statement t s ≡ σ → Operands t (k .routineOf c) σ → FlowStep (copiesOf fits) other c s σ
+          → (e : Edge) → List·Memᴰ e (flowEdges t k c s σ) → (x : ℕ) → At (e .from) x → At (e .to) x
+      unfolding flowEdges
+      goes-along (Read h) q o f e m x a = elim m [ ]
+      goes-along (Write h) q o f e m x a = elim m [ ]
+      goes-along (Set n) q o f e m x a = elim m [ ]
+      goes-along (Add n) q o f e m x a = elim m [ ]
+      goes-along (Take h) q o f e m x a = elim m [ ]
+      goes-along (Give h) q o f e m x a = elim m [ ]
+      goes-along (Point h g) q o f e m x a =
+          let q1 : e ≡ record { from = k .handlePlace c (g .number); to = k .handlePlace c (h .number) } = List·Memᴰ·eq-of-singleton m in
+          subst (λ (d : Edge). At (d .to) x) (sym q1)
+          (of-pair c (h .number) x (fits .handle-placed c (h .number) (w .there) (o .0))
+          (f x (to-pair c (g .number) x (fits .handle-placed c (g .number) (w .there) (o .1)) (subst (λ (d : Edge). At (d .from) x) q1 a))))
+      goes-along (Call r b) q o f e m x a = passes-on r b (subst (λ (τ : Statement). Names τ r) (sym q) refl) o f e m x a
+      goes-along (Start r b) q o f e m x a = passes-on r b (subst (λ (τ : Statement). Names τ r) (sym q) refl) o f e m x a
+      goes-along (Jump z) q o f e m x a = elim m [ ]
+      goes-along (JumpZero z) q o f e m x a = elim m [ ]
+      goes-along Return q o f e m x a = elim m [ ]
+
+    everywhere : (p x : ℕ) → has (getD (flowSets t k) p 0) x ≡ true → At p x
+    unfolding flowSets allFlowEdges flowStarts
+    everywhere =
+        along-induction (k .handles) (allFlowEdges t k) (flowStarts t k) starts-sets At
+        (λ e m l x a.
+        let r : (p : ℕ) × (p < k .statements) × List·Memᴰ e (flowEdges t k (k .statementCopy p) (k .statementAt p) (statement t (k .statementAt p))) =
+        of-some t k fits (λ p d z τ. flowEdges t k d z τ) e m in
+        let w : Place (copiesOf fits) (k .statementCopy (r .0)) (k .statementAt (r .0)) = place-at t k fits (r .0) (r .1) in
+        goes-along _ _ w (statement t (k .statementAt (r .0))) refl
+        (acc .operands (k .routineOf (k .statementCopy (r .0))) (k .statementAt (r .0)) (fits .of-there (k .statementCopy (r .0)) (w .there)) (w .inside))
+        (rules .statement-rule _ _ w (statement t (k .statementAt (r .0))) refl) e (r .2) x a)
+        (λ p x h.
+        let r : (p < k .handles) × (has (startOf t (k .handleAt p)) x ≡ true) = tabulate-from (k .handles) (λ p. startOf t (k .handleAt p)) p x h in
+        let v : HandleThere t k p = fits .handle-there p (r .0) in
+        let d : (declaration t (k .handleAt p) .origin ≡ 1) × (x ≡ declaration t (k .handleAt p) .start) = start-from t acc (k .handleAt p) x (v .own .there) (r .1) in
+        subst (λ (y : ℕ). At p y) (sym (d .1)) (rules .local (k .handleCopy p) (k .handleAt p) (v .copy) (v .own) (d .0)))
+
+    -- inside any sets that satisfy the rules
+    pub flow-least : (c h x : ℕ) → c < k .copies → OwnHandle t (k .routineOf c) h → FlowHas k (flowSets t k) c h x → other c h x
+    flow-least c h x l o a = to-pair c h x (fits .handle-placed c h l o) (everywhere (k .handlePlace c h) x a)
