@@ -61,6 +61,7 @@ argumentsIn f line = record { first = field f line 3; second = field f line 4; t
 
 -- the statement that the operation `op` of a line and its operands say; what is no operation is read as RETURN
 unfoldable pub statementIn : List ℤ → ℕ → ℕ → Statement
+unfolding argumentsIn
 statementIn f line op =
     let a = field f line 2 in
     let arguments = argumentsIn f line in
@@ -79,6 +80,7 @@ statementIn f line op =
 
 -- statement s
 unfoldable pub statementOf : List ℤ → ℕ → Statement
+unfolding statementIn
 statementOf f s = statementIn f (statementLine f s) (operation f s)
 
 unfoldable pub declarationOf : List ℤ → ℕ → Declaration
