@@ -4,6 +4,7 @@ pub mod Entry
 pub mod Until
 pub mod UntilLaws
 pub mod Fields
+pub mod FieldLaws
 pub mod Header
 pub mod HeaderLaws
 pub mod Handles

@@ -1,24 +1,23 @@
 -- The table that the numbers of an accepted text say: what the machine and the report are defined on. Assumes nothing.
-use Prim.Native.Nat.{ℕ, zero, suc, _+_, _-_, _≤_, _<_}
+use Prim.Native.Nat.{ℕ, _+_, _-_, _≤_, _<_}
 use mathlib.Core.Path.{_≡_}
-use mathlib.Core.Bool.{Bool, true, false, cond}
+use mathlib.Core.Bool.{cond}
 use mathlib.Core.List.{List, [], _∷_}
 use lib.ListN.{getD, length}
 use lib.Dec.{eqb}
 use lib.IntN.{ℤ}
 use Rattle.table.specs.Tabulate.{tabulate}
-use Rattle.table.specs.Fields.{number}
+use Rattle.table.specs.Fields.{number, field}
 use Rattle.table.specs.Header.{cells, locks, handles, routines, statements, statementLine}
 use Rattle.table.specs.Handles.{routineOf, kindOf, originOf, startOf, handlesFrom, parameters}
 use Rattle.table.specs.Routines.{countOf, firstOf}
-use Rattle.table.specs.Statements.{operation, operand}
-use Rattle.table.specs.declared.Handle.{Handle}
-use Rattle.table.specs.declared.Target.{Target}
+use Rattle.table.specs.Statements.{operation}
 use Rattle.table.specs.declared.Arguments.{Arguments}
 use Rattle.table.specs.declared.Statement.{Statement}
 use Rattle.table.specs.declared.Statement.the-variants.{Read, Write, Set, Add, Take, Give, Point, Call, Start, Jump, JumpZero, Return}
 use Rattle.table.specs.declared.Declaration.{Declaration}
 use Rattle.table.specs.declared.Routine.{Routine}
+use Rattle.table.specs.declared.Counts.{Counts}
 
 -- "All things, handles and statements too, are numbered from 0 through the whole table": a table is how many cells and locks it has, and its handles,
 -- routines and statements, each by its number
@@ -56,31 +55,31 @@ pub record OwnHandle (t : Table) (r h : ℕ) : Type 0 where
 
 -- ---- the table of an accepted text's numbers
 
-handle : ℕ → Handle
-handle h = record { number = h }
+-- the handles that the CALL or START in a line passes
+unfoldable pub argumentsIn : List ℤ → ℕ → Arguments
+argumentsIn f line = record { first = field f line 3; second = field f line 4; third = field f line 5; fourth = field f line 6 }
 
-target : ℕ → Target
-target s = record { statement = s }
-
--- the statement that an operation and its operands say; what is no operation is read as RETURN
-unfoldable pub statementOf : List ℤ → ℕ → Statement
-unfolding handle target
-statementOf f s =
-    let a = operand f s 0 in
-    let arguments : Arguments = record { first = operand f s 1; second = operand f s 2; third = operand f s 3; fourth = operand f s 4 } in
-    let is : ℕ → Bool = λ n. eqb (operation f s) n in
-    cond (is 1) (Read (handle a))
-    (cond (is 2) (Write (handle a))
-    (cond (is 3) (Set (number f (statementLine f s) 2))
-    (cond (is 4) (Add (number f (statementLine f s) 2))
-    (cond (is 5) (Take (handle a))
-    (cond (is 6) (Give (handle a))
-    (cond (is 7) (Point (handle a) (handle (operand f s 1)))
-    (cond (is 8) (Call a arguments)
-    (cond (is 9) (Start a arguments)
-    (cond (is 10) (Jump (target a))
-    (cond (is 11) (JumpZero (target a))
+-- the statement that the operation `op` of a line and its operands say; what is no operation is read as RETURN
+unfoldable pub statementIn : List ℤ → ℕ → ℕ → Statement
+statementIn f line op =
+    let a = field f line 2 in
+    let arguments = argumentsIn f line in
+    cond (eqb op 1) (Read (record { number = a }))
+    (cond (eqb op 2) (Write (record { number = a }))
+    (cond (eqb op 3) (Set (number f line 2))
+    (cond (eqb op 4) (Add (number f line 2))
+    (cond (eqb op 5) (Take (record { number = a }))
+    (cond (eqb op 6) (Give (record { number = a }))
+    (cond (eqb op 7) (Point (record { number = a }) (record { number = field f line 3 }))
+    (cond (eqb op 8) (Call a arguments)
+    (cond (eqb op 9) (Start a arguments)
+    (cond (eqb op 10) (Jump (record { statement = a }))
+    (cond (eqb op 11) (JumpZero (record { statement = a }))
     Return))))))))))
+
+-- statement s
+unfoldable pub statementOf : List ℤ → ℕ → Statement
+statementOf f s = statementIn f (statementLine f s) (operation f s)
 
 unfoldable pub declarationOf : List ℤ → ℕ → Declaration
 declarationOf f h = record { routine = routineOf f h; kind = kindOf f h; origin = originOf f h; start = startOf f h }
@@ -94,6 +93,10 @@ routineAt f r =
       handles = handlesFrom f (r + 1) - handlesFrom f r;
       parameters = parameters f r;
     }
+
+-- the five counts of the header
+unfoldable pub countsOf : List ℤ → Counts
+countsOf f = record { cells = cells f; locks = locks f; handles = handles f; routines = routines f; statements = statements f }
 
 unfoldable pub tableOf : List ℤ → Table
 tableOf f =

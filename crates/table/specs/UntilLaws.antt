@@ -18,7 +18,7 @@ until-step good from n = go (good from) refl
     past = omega arith
 
     go : (b : Bool) → good from ≡ b → orElse (lowest good from (suc n)) (from + suc n) ≡ cond (good from) (orElse (lowest good (from + 1) n) (from + 1 + n)) from
-    go true e = rw (e, lowest-good good from n e, ← add-one, past)
+    go true e = rw (e, lowest-good good from n e, ← add-one from, past)
     go false e = rw (e, lowest-bad good from n e)
 
 pub until-none : (good : ℕ → Bool) (from : ℕ) → until good from 0 ≡ from

@@ -8,7 +8,11 @@ mod routines;
 mod statements;
 
 ghost use mathlib.Core.Path.{_≡_};
+ghost use Rattle.table.specs.Tabulate.{tabulate};
+ghost use Rattle.table.specs.Handles.{handlesFrom, parameters};
+ghost use Rattle.table.specs.Routines.{firstOf};
 ghost use Rattle.table.specs.Verdict.{readingOf, turnedDown};
+ghost use Rattle.table.specs.Table.{countsOf, declarationOf, argumentsIn, statementIn, statementOf};
 use lines::FirstBad;
 
 // What is said of a text: a table, or the number of the first refusal that applies and the line that goes with it.
@@ -21,6 +25,15 @@ pub enum Verdict {
 pub struct Reading {
     pub verdict: Verdict,
     pub numbers: [i32; 5384],
+}
+
+// What the header says: how many there are of each.
+pub struct Counts {
+    pub cells: usize,
+    pub locks: usize,
+    pub handles: usize,
+    pub routines: usize,
+    pub statements: usize,
 }
 
 // A handle that a statement names, by its number through the whole table.
@@ -116,4 +129,115 @@ pub fn read(text: &[u8]) -> Reading
             }
         }
     }
+}
+
+// What the header of a table's numbers says.
+pub fn counts_of(numbers: &[i32]) -> Counts
+    ensures { λ r. ⌜ r ≡ countsOf (now (numbers .entry)) ⌝ }
+{
+    Counts {
+        cells: fields::field_at(numbers, 0, 1),
+        locks: fields::field_at(numbers, 0, 2),
+        handles: fields::field_at(numbers, 0, 3),
+        routines: fields::field_at(numbers, 0, 4),
+        statements: fields::field_at(numbers, 0, 5),
+    }
+}
+
+// What handle line `h` of a table's numbers says; zeros past the end.
+pub fn declaration_of(numbers: &[i32], h: usize) -> Declaration
+    ensures { λ r. ⌜ r ≡ declarationOf (now (numbers .entry)) h ⌝ }
+{
+    if numbers.len() <= h {
+        return Declaration {
+            routine: 0,
+            kind: 0,
+            origin: 0,
+            start: 0,
+        };
+    }
+    let line = 1 + h;
+    Declaration {
+        routine: fields::field_at(numbers, line, 1),
+        kind: fields::field_at(numbers, line, 2),
+        origin: fields::field_at(numbers, line, 3),
+        start: fields::field_at(numbers, line, 4),
+    }
+}
+
+// The handles that the CALL or START in `line` passes.
+fn arguments_in(numbers: &[i32], line: usize) -> Arguments
+    ensures { λ r. ⌜ r ≡ argumentsIn (now (numbers .entry)) line ⌝ }
+{
+    Arguments {
+        first: fields::field_at(numbers, line, 3),
+        second: fields::field_at(numbers, line, 4),
+        third: fields::field_at(numbers, line, 5),
+        fourth: fields::field_at(numbers, line, 6),
+    }
+}
+
+// The statement of `line`, whose operation is `op`.
+fn statement_in(numbers: &[i32], line: usize, op: usize) -> Statement
+    ensures { λ r. ⌜ r ≡ statementIn (now (numbers .entry)) line op ⌝ }
+{
+    let number = fields::field_at(numbers, line, 2);
+    match op {
+        1 => Statement::Read(Handle { number }),
+        2 => Statement::Write(Handle { number }),
+        3 => Statement::Set(fields::number_at(numbers, line, 2)),
+        4 => Statement::Add(fields::number_at(numbers, line, 2)),
+        5 => Statement::Take(Handle { number }),
+        6 => Statement::Give(Handle { number }),
+        7 => Statement::Point {
+            handle: Handle { number },
+            from: Handle {
+                number: fields::field_at(numbers, line, 3),
+            },
+        },
+        8 => Statement::Call {
+            routine: number,
+            arguments: arguments_in(numbers, line),
+        },
+        9 => Statement::Start {
+            routine: number,
+            arguments: arguments_in(numbers, line),
+        },
+        10 => Statement::Jump(Target { statement: number }),
+        11 => Statement::JumpZero(Target { statement: number }),
+        _ => Statement::Return,
+    }
+}
+
+// Statement `s` of a table's numbers; a RETURN past the end.
+pub fn statement_of(numbers: &[i32], s: usize) -> Statement
+    ensures { λ r. ⌜ r ≡ statementOf (now (numbers .entry)) s ⌝ }
+{
+    if numbers.len() <= s {
+        return Statement::Return;
+    }
+    let line = 1 + fields::field_at(numbers, 0, 3) + fields::field_at(numbers, 0, 4) + s;
+    statement_in(numbers, line, fields::field_at(numbers, line, 1))
+}
+
+// The first statement of each routine of a table's numbers, and behind the last routine's the number of statements.
+pub fn first_statements(numbers: &[i32]) -> [usize; 33]
+    ensures { λ a. ⌜ a ≡ tabulate 33 (firstOf (now (numbers .entry))) ⌝ }
+{
+    routines::first_statements(numbers)
+}
+
+// The first handle of each routine of a table's numbers, and behind the last routine's the number of handles.
+pub fn first_handles(numbers: &[i32]) -> [usize; 33]
+    ensures { λ a. ⌜ a ≡ tabulate 33 (handlesFrom (now (numbers .entry))) ⌝ }
+{
+    routines::first_handles(numbers)
+}
+
+// How many parameters each routine of a table's numbers has.
+pub fn parameter_counts(numbers: &[i32]) -> [usize; 32]
+    ensures { λ a. ⌜ a ≡ tabulate 32 (parameters (now (numbers .entry))) ⌝ }
+{
+    let handle = routines::first_handles(numbers);
+    routines::parameter_counts(numbers, &handle[..])
 }
