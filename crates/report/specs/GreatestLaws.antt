@@ -179,3 +179,35 @@ module _ (all : ℕ) (small : all < 2 ^ 64) where
         closed =
             all-carries (λ i x. has (getD r i 0) x ≡ true) n ws (λ w m q f x l b. c w m l x (out-more w (mono w m) q r (record { at = f }) x b)) r (h .places)
             (λ i x e. e)
+
+    -- what is left out is left out by some way
+    left-out-by : (p x : ℕ) → has (getD (leftOut all n ws) p 0) x ≡ true
+        → (w : Way) × List·Memᴰ w ws × (w .to ≡ p) × (has (minus all (w .brings (leaving all (leftOut all n ws)))) x ≡ true)
+    unfolding leftOut narrow
+    left-out-by p x h =
+        settled-induction n (narrowAll all ws) steady By (λ r s q. all-carries By n ws step r (s .places) q) (replicate n 0) empty-sets
+        (λ i e g. none-in e (ap (λ (y : ℕ). has y e) (sym (zeros n i)) ∙ g)) p x h .1
+      where
+        By : ℕ → ℕ → Type 0
+        By i e = (has (getD (leftOut all n ws) i 0) e ≡ true)
+            × ((w : Way) × List·Memᴰ w ws × (w .to ≡ i) × (has (minus all (w .brings (leaving all (leftOut all n ws)))) e ≡ true))
+
+        step : (w : Way) → List·Memᴰ w ws → (r : List ℕ) → ((i e : ℕ) → has (getD r i 0) e ≡ true → By i e) → (e : ℕ) → w .to < n
+            → has (minus all (w .brings (leaving all r))) e ≡ true → By (w .to) e
+        step w m r f e l g =
+            let more : has (minus all (w .brings (leaving all (leftOut all n ws)))) e ≡ true =
+            out-more w (mono w m) r (leftOut all n ws) (record { at = λ i y b. f i y b .0 }) e g in (
+              still-put (w .to) (out w (leftOut all n ws)) (leftOut all n ws) (out-still w m) (subst (λ (k : ℕ). w .to < k) (sym (out-sets .places)) l) e more,
+              (w, m, refl, more),
+            )
+
+    -- "where ways meet, intersect": what every way in brings is there
+    pub greatest-meets : (p x : ℕ) → p < n → has all x ≡ true
+        → ((w : Way) → List·Memᴰ w ws → w .to ≡ p → has (w .brings (leaving all (leftOut all n ws))) x ≡ true) → has (getD (greatest all n ws) p 0) x ≡ true
+    unfolding leaving
+    greatest-meets p x l a f =
+        ap (λ (y : ℕ). has y x) (greatest-is p l)
+        ∙ minus-has all (getD (leftOut all n ws) p 0) x a
+        (λ h.
+        let r = left-out-by p x h in
+        minus-from all (r .0 .brings (leaving all (leftOut all n ws))) x (r .3) .1 (f (r .0) (r .1) (r .2)))

@@ -13,11 +13,12 @@ use Rattle.sets.specs.Set.{has, one, count, isSingle}
 use Rattle.sets.specs.SetLaws.{has-union-left, has-union-right, union-cases, has-firsts, firsts-below, has-one, has-beyond, single-is-one, count-one, inside-both}
 use Rattle.table.specs.Table.{Table, routine, statement}
 use Rattle.table.specs.Accepted.{Accepted, Names}
+use Rattle.table.specs.declared.Arguments.{Arguments}
 use Rattle.table.specs.declared.Statement.{Statement}
 use Rattle.table.specs.declared.Statement.the-variants.{Read, Write, Set, Add, Take, Give, Point, Call, Start, Jump, JumpZero, Return}
 use Rattle.report.specs.OverLaws.{never, none-in, inter-at, inter-inside, inter-has}
 use Rattle.report.specs.Greatest.{Way, leaving, leftOut}
-use Rattle.report.specs.GreatestLaws.{Monotone, minus-has, minus-from, greatest-is, greatest-inside, greatest-kept, greatest-contains}
+use Rattle.report.specs.GreatestLaws.{Monotone, minus-has, minus-from, greatest-is, greatest-inside, greatest-kept, greatest-contains, greatest-meets}
 use Rattle.report.specs.Layout.{Layout}
 use Rattle.report.specs.Fits.{Fits, StatementPlaced, copiesOf}
 use Rattle.report.specs.Operations.{nexts, byNaming, isReturn}
@@ -407,3 +408,77 @@ module _ (t : Table) (k : Layout) (acc : Accepted t) (fits : Fits t k) (flow : L
         (λ p y b. is-lock (k .statementCopy p) (k .statementAt p) y (place-at t k fits p (b .there)) (b .held))
         (λ w m H sub y l b. brings-has H sub w m y b)
         (k .statementPlace c s) x (placed t k fits c s v .there) (of-pair c s x v a)
+
+  -- ---- where ways meet, they intersect: a lock that every way in brings is held
+
+  -- lock x comes by every way into statement s of copy c
+  pub record EveryWay (c s x : ℕ) : Type 0 where
+    pub before : (z : ℕ) → Place (copiesOf fits) c z → Goes z (statement t z) s → After (copiesOf fits) (FlowHas k flow) (GivesHas given) Held c z x (statement t z)
+    pub by-main : s ≡ routine t (k .routineOf c) .first → c ≡ k .first → ⊥
+    pub by-call : s ≡ routine t (k .routineOf c) .first → (d z q : ℕ) (a : Arguments) → Place (copiesOf fits) d z → statement t z ≡ Call q a → k .leads d z ≡ c → Held d z x
+    pub by-start : s ≡ routine t (k .routineOf c) .first → (d z q : ℕ) (a : Arguments) → Place (copiesOf fits) d z → statement t z ≡ Start q a → k .leads d z ≡ c → ⊥
+
+  -- two places are the same only where copy and statement are
+  same-place : (c s d z : ℕ) → Place (copiesOf fits) c s → Place (copiesOf fits) d z → k .statementPlace d z ≡ k .statementPlace c s → (d ≡ c) × (z ≡ s)
+  same-place c s d z v u e =
+      let a : StatementPlaced k c s = placed t k fits c s v in
+      let b : StatementPlaced k d z = placed t k fits d z u in
+      (sym (b .copy) ∙ ap (k .statementCopy) e ∙ a .copy, sym (b .same) ∙ ap (k .statementAt) e ∙ a .same)
+
+  module _ (c s x : ℕ) (v : Place (copiesOf fits) c s) (lock : has (allLocks t) x ≡ true) (ways : EveryWay c s x) where
+    at-left : (p y : ℕ) → At Held held-rules p y → has (left p) y ≡ true
+    unfolding heldSets
+    at-left p y a =
+        ap (λ (z : ℕ). has z y) (sym (greatest-is (allLocks t) small (k .statements) (allWays t k flow given) monotone p (a .there)))
+        ∙ subst (λ (q : ℕ). has (getD (heldSets t k flow given) q 0) y ≡ true) (fits .statement-there p (a .there) .back) (a .held)
+
+    -- the first statement of a copy stands at the place: it is this one
+    entered : (d : ℕ) → d < k .copies → entry t k d ≡ k .statementPlace c s → (d ≡ c) × (s ≡ routine t (k .routineOf c) .first)
+    unfolding entry
+    entered d l e =
+        let r = same-place c s d (routine t (k .routineOf d) .first) v (first-place Held held-rules d l) e in
+        (r .0, sym (r .1) ∙ ap (λ (b : ℕ). routine t (k .routineOf b) .first) (r .0))
+
+    inward-brings : (d z : ℕ) → Place (copiesOf fits) d z → (σ : Statement) → statement t z ≡ σ → (w : Way) → List·Memᴰ w (inward d z σ)
+        → w .to ≡ k .statementPlace c s → has (w .brings left) x ≡ true
+    unfolding byNaming
+    inward-brings d z u (Read h) e w m i = elim m [ ]
+    inward-brings d z u (Write h) e w m i = elim m [ ]
+    inward-brings d z u (Set n) e w m i = elim m [ ]
+    inward-brings d z u (Add n) e w m i = elim m [ ]
+    inward-brings d z u (Take h) e w m i = elim m [ ]
+    inward-brings d z u (Give h) e w m i = elim m [ ]
+    inward-brings d z u (Point h g) e w m i = elim m [ ]
+    inward-brings d z u (Call q a) e w m i =
+        let j = List·Memᴰ·eq-of-singleton m in
+        let n : Names (statement t z) q = subst (λ (τ : Statement). Names τ q) (sym e) refl in
+        let r = entered (k .leads d z) (fits .leads-there d z q (u .there) (u .inside) n) (ap (λ (y : Way). y .to) (sym j) ∙ i) in
+        subst (λ (y : Way). has (y .brings left) x ≡ true) (sym j)
+        (at-left (k .statementPlace d z) x (of-pair Held held-rules d z x u (ways .by-call (r .1) d z q a u e (r .0))))
+    inward-brings d z u (Start q a) e w m i =
+        let j = List·Memᴰ·eq-of-singleton m in
+        let n : Names (statement t z) q = subst (λ (τ : Statement). Names τ q) (sym e) refl in
+        let r = entered (k .leads d z) (fits .leads-there d z q (u .there) (u .inside) n) (ap (λ (y : Way). y .to) (sym j) ∙ i) in
+        absurd (ways .by-start (r .1) d z q a u e (r .0))
+    inward-brings d z u (Jump y) e w m i = elim m [ ]
+    inward-brings d z u (JumpZero y) e w m i = elim m [ ]
+    inward-brings d z u Return e w m i = elim m [ ]
+
+    brings : (w : Way) → List·Memᴰ w (allWays t k flow given) → w .to ≡ k .statementPlace c s → has (w .brings left) x ≡ true
+    brings =
+        ways-cases (λ w. w .to ≡ k .statementPlace c s → has (w .brings left) x ≡ true)
+        (λ e. let r = entered (k .first) (fits .first-there) e in absurd (ways .by-main (r .1) (sym (r .0))))
+        (λ d z n u g e.
+        let r : (d ≡ c) × (n ≡ s) = same-place c s d n v (goes-placed t k acc fits d z n u g) e in
+        after-has Held held-rules left at-left d z u (statement t z) refl x lock
+        (subst (λ (b : ℕ). After (copiesOf fits) (FlowHas k flow) (GivesHas given) Held b z x (statement t z)) (sym (r .0))
+        (ways .before z (subst (λ (b : ℕ). Place (copiesOf fits) b z) (r .0) u) (subst (Goes z (statement t z)) (r .1) g))))
+        (λ d z u w m e. inward-brings d z u (statement t z) refl w m e)
+
+  -- so held sets are exactly the intersections
+  pub held-meets : (c s x : ℕ) → Place (copiesOf fits) c s → x < t .locks → EveryWay c s x → HeldHas k (heldSets t k flow given) c s x
+  unfolding heldSets
+  held-meets c s x v l ways =
+      let lock : has (allLocks t) x ≡ true = has-firsts (t .locks) x locks-64 ∙ lt-ltb x (t .locks) l in
+      greatest-meets (allLocks t) small (k .statements) (allWays t k flow given) monotone (k .statementPlace c s) x (placed t k fits c s v .there) lock
+      (brings c s x v lock ways)

@@ -23,6 +23,7 @@ pub mod FlowLaws
 pub mod EffectLaws
 pub mod HeldLaws
 pub mod FutureLaws
+pub mod Unique
 pub mod ReportRules
 pub mod FindingsLaws
 pub mod OneCopy
