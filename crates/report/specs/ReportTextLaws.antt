@@ -193,7 +193,7 @@ last-49 t acc =
     let above = map (map pos) (findingLines t k) in
     let last = map pos (totalLine (findingLines t k)) in
     let whole : textOf (map (map pos) (linesFor t k)) ≡ textOf above ++ lineText last =
-      ap textOf (map-append (map pos) (findingLines t k) (totalLine (findingLines t k) ∷ [])) ∙ text-behind above last in
+    ap textOf (map-append (map pos) (findingLines t k) (totalLine (findingLines t k) ∷ [])) ∙ text-behind above last in
     let line : Line8 (totalLine (findingLines t k)) = total-line-8 t k acc in
     let eight-long : length last ≡ 8 = length-map (totalLine (findingLines t k)) pos ∙ line .long in
     let long : length (lineText last) ≡ 49 = line-text-length last (line .range) ∙ ap (λ (n : ℕ). 6 * n + 1) eight-long in
