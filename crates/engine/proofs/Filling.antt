@@ -11,7 +11,7 @@ use lib.Dec.{ltb}
 use lib.IntN.{ℤ, pos}
 use lib.ListN.{length, getD, set, length-set, replicate, length-replicate, getD-replicate}
 use lib.Seq.{getD-set-same, getD-set-other, ext-getD}
-use Rattle.table.specs.Table.{Table}
+use Rattle.table.specs.Table.{Table, passed}
 use Rattle.table.specs.declared.Arguments.{Arguments}
 use Rattle.engine.specs.Shown.{valuePlace, startValue, Entered, Entering}
 
@@ -63,6 +63,22 @@ setting-next t values new slot caller from end h v arguments s few low l e =
         ∙ ap (λ (i : ℕ). startValue t values caller from arguments i) (sym p)
     at k a b (no q) =
         getD-set-other new (valuePlace slot h) (valuePlace slot k) v 0 (λ same. omega (arith, q, same)) ∙ s .entered .set-here k a (omega (arith, q))
+
+pub setting-all : (t : Table) (values new : List ℕ) (slot caller from end h : ℕ) (arguments : Arguments) → Setting t values new slot caller from end h arguments
+    → end ≤ h → Entered t values new slot caller from end arguments
+setting-all t values new slot caller from end h arguments s l =
+    record {
+      long = s .entered .long;
+      set-here = λ k a b. s .entered .set-here k a (omega arith);
+      kept-below = s .entered .kept-below;
+      kept-above = s .entered .kept-above;
+    }
+
+-- what `entry_value` gives in a turn is what the values at entry give
+pub value-kept : (t : Table) (values new : List ℕ) (slot caller from end h : ℕ) (arguments : Arguments) → Setting t values new slot caller from end h arguments
+    → (caller ≡ slot → ⊥) → startValue t new caller from arguments h ≡ startValue t values caller from arguments h
+unfolding startValue
+value-kept t values new slot caller from end h arguments s apart = rw (caller-kept t values new slot caller from end h arguments (getD (passed arguments) (h - from) 0) s apart)
 
 -- ---- the first i cells are 0
 

@@ -54,3 +54,6 @@ below (negsuc n) h e = go (ltb 4294967296 (suc n)) refl
 pub between : (z : ℤ) → ltZ (pos 2147483647) z ≡ false → ltZ z (negsuc 2147483647) ≡ false → SFits w32 z
 between (pos n) e q = record { sfits = omega (arith, ltb-false 2147483647 n e) }
 between (negsuc n) e q = record { sfits = omega (arith, ltb-false 2147483647 n q) }
+
+pub narrow-wide : (z : ℤ) → SFits w32 z → SFits w64 z
+narrow-wide z f = record { sfits = omega (arith, f .sfits) }

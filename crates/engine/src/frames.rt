@@ -83,7 +83,7 @@ fn entry_value(numbers: &[i32], from: usize, h: usize, arguments: Arguments, val
 // Sets the handles `from` to `end`, those of one routine, in the new frame in `slot`: parameters to what the arguments refer to in the frame in slot
 // `caller`, locals to their starts.
 pub fn enter(numbers: &[i32], from: usize, end: usize, arguments: Arguments, values: &mut [u8; 4096], slot: usize, caller: usize)
-    requires { ⌜ Entering (tableOf (now numbers)) from end slot caller ⌝ }
+    requires { ⌜ Entering (tableOf (now numbers)) from end slot caller × (length (now values) ≡ 4096) ⌝ }
     ensures { λ _. ⌜ Entered (tableOf (now (numbers .entry))) (now (values .entry)) (now (values .exit)) slot caller from end arguments ⌝ }
 {
     let mut h = from;

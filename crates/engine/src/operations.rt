@@ -5,7 +5,7 @@ ghost use mathlib.Core.Bool.{cond};
 ghost use mathlib.Core.Logic.{_⊎_};
 ghost use Prim.Native.Nat.{_+_, _*_, _<_, _≤_};
 ghost use lib.IntN.{pos, _+ℤ_};
-ghost use lib.ListN.{getD, set};
+ghost use lib.ListN.{getD, set, length};
 ghost use Rattle.table.specs.Table.{tableOf};
 ghost use Rattle.machine.specs.Step.{wrap, isZero};
 ghost use Rattle.engine.specs.Shown.{valuePlace, Placed, Naming, Locked, Called, Started};
@@ -13,7 +13,9 @@ use crate::frames::enter;
 use crate::frames::go_to;
 use crate::frames::put_value;
 use crate::frames::value_of;
+use crate::places::accumulator_of;
 use crate::places::cell_at;
+use crate::places::is_zero;
 use crate::places::owner_at;
 use crate::places::put_cell;
 use crate::places::put_owner;
@@ -34,7 +36,7 @@ pub fn write(h: usize, n: usize, slot: usize, next: usize, nexts: &mut [u16; 512
     requires { ⌜ Placed n slot next ⌝ }
     ensures { λ _. ⌜ (now (nexts .exit) ≡ set (now (nexts .entry)) slot (next + 1)) × (now (cells .exit) ≡ set (now (cells .entry)) (getD (now (values .entry)) (valuePlace slot h) 0) (getD (now (accumulators .entry)) n (pos 0))) ⌝ }
 {
-    put_cell(cells, value_of(values, slot, h), accumulators[n]);
+    put_cell(cells, value_of(values, slot, h), accumulator_of(accumulators, n));
     go_to(nexts, slot, next + 1);
 }
 
@@ -52,7 +54,7 @@ pub fn add(number: i32, n: usize, slot: usize, next: usize, nexts: &mut [u16; 51
     requires { ⌜ Placed n slot next ⌝ }
     ensures { λ _. ⌜ (now (nexts .exit) ≡ set (now (nexts .entry)) slot (next + 1)) × (now (accumulators .exit) ≡ set (now (accumulators .entry)) n (wrap (getD (now (accumulators .entry)) n (pos 0) +ℤ number))) ⌝ }
 {
-    accumulators[n] = wrapped_sum(accumulators[n], number);
+    accumulators[n] = wrapped_sum(accumulator_of(accumulators, n), number);
     go_to(nexts, slot, next + 1);
 }
 
@@ -108,7 +110,7 @@ pub fn call(
     values: &mut [u8; 4096],
     counts: &mut [usize; 16],
 ) -> u32
-    requires { ⌜ Naming (now numbers) (now first) (now handle) routine × Placed n slot next × (slot + 1 ≡ n * 32 + getD (now counts) n 0) ⌝ }
+    requires { ⌜ Naming (now numbers) (now first) (now handle) routine × Placed n slot next × (slot + 1 ≡ n * 32 + getD (now counts) n 0) × (length (now values) ≡ 4096) ⌝ }
     ensures { λ r. ⌜ Called (tableOf (now (numbers .entry))) (getD (now (first .entry)) routine 0) (getD (now (handle .entry)) routine 0) (getD (now (handle .entry)) (routine + 1) 0) arguments n slot next r (now (nexts .entry)) (now (nexts .exit)) (now (values .entry)) (now (values .exit)) (now (counts .entry)) (now (counts .exit)) ⌝ }
 {
     let count = counts[n];
@@ -137,7 +139,7 @@ pub fn start(
     counts: &mut [usize; 16],
     accumulators: &mut [i32; 16],
 ) -> u32
-    requires { ⌜ Naming (now numbers) (now first) (now handle) routine × (slot < now started * 32) × (slot < 512) × (next < 512) ⌝ }
+    requires { ⌜ Naming (now numbers) (now first) (now handle) routine × (slot < now started * 32) × (slot < 512) × (next < 512) × (length (now values) ≡ 4096) ⌝ }
     ensures { λ r. ⌜ Started (tableOf (now (numbers .entry))) (getD (now (first .entry)) routine 0) (getD (now (handle .entry)) routine 0) (getD (now (handle .entry)) (routine + 1) 0) arguments slot next r (now (started .entry)) (now (started .exit)) (now (nexts .entry)) (now (nexts .exit)) (now (values .entry)) (now (values .exit)) (now (counts .entry)) (now (counts .exit)) (now (accumulators .entry)) (now (accumulators .exit)) ⌝ }
 {
     let n = *started;
@@ -158,7 +160,7 @@ pub fn jump_zero(s: usize, n: usize, slot: usize, next: usize, nexts: &mut [u16;
     requires { ⌜ Placed n slot next × (s < 512) ⌝ }
     ensures { λ _. ⌜ now (nexts .exit) ≡ set (now (nexts .entry)) slot (cond (isZero (getD (now (accumulators .entry)) n (pos 0))) s (next + 1)) ⌝ }
 {
-    if accumulators[n] == 0 {
+    if is_zero(accumulator_of(accumulators, n)) {
         go_to(nexts, slot, s);
     } else {
         go_to(nexts, slot, next + 1);

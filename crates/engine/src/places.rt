@@ -1,8 +1,9 @@
 // Cells and lock owners by their numbers: a place past the end reads as 0, and a store there changes nothing.
 ghost use mathlib.Core.Path.{_≡_};
+ghost use Prim.Native.Nat.{_<_};
 ghost use lib.IntN.{pos, _+ℤ_};
 ghost use lib.ListN.{getD, set, length, replicate};
-ghost use Rattle.machine.specs.Step.{wrap};
+ghost use Rattle.machine.specs.Step.{wrap, isZero};
 
 // The value of cell `x`.
 pub fn cell_at(cells: &[i32], x: usize) -> i32
@@ -45,6 +46,21 @@ pub fn put_owner(owners: &mut [usize], k: usize, owner: usize)
     if k < owners.len() {
         owners[k] = owner;
     }
+}
+
+// The accumulator of thread `n`.
+pub fn accumulator_of(accumulators: &[i32; 16], n: usize) -> i32
+    requires { ⌜ n < 16 ⌝ }
+    ensures { λ r. ⌜ r ≡ getD (now (accumulators .entry)) n (pos 0) ⌝ }
+{
+    accumulators[n]
+}
+
+// Whether a number is 0.
+pub fn is_zero(x: i32) -> bool
+    ensures { λ r. ⌜ r ≡ isZero x ⌝ }
+{
+    x == 0
 }
 
 // The sum of two numbers, wrapped as 32-bit two's complement.

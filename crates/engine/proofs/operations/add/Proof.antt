@@ -4,37 +4,34 @@ use Rattle.engine.proofs.operations.add.Tie as tie
 use Rattle.engine.proofs.operations.add.Reads as reads
 use Rattle.engine.proofs.operations.add.Lts as lts
 use Rattle.engine.proofs.frames.go_to.Reads as go-to-reads
+use Rattle.engine.proofs.places.accumulator_of.Reads as accumulator-of-reads
 use Rattle.engine.proofs.places.wrapped_sum.Reads as wrapped-sum-reads
 
--- src/operations.rt:55:35
-mul-wrapped-sum : tie.Need-mul-wrapped-sum
-mul-wrapped-sum c = search needs
+-- src/operations.rt:57:35
+accumulator-of-requires : tie.Need-accumulator-of-requires
+accumulator-of-requires c κs = search needs
 
--- src/operations.rt:55:35
-element-copy-out-wrapped-sum : tie.Need-element-copy-out-wrapped-sum
-element-copy-out-wrapped-sum c = search needs
-
--- src/operations.rt:55:23
+-- src/operations.rt:57:23
 wrapped-sum-requires : tie.Need-wrapped-sum-requires
 wrapped-sum-requires c κs = search needs
 
--- src/operations.rt:55:5
-mul-t12 : tie.Need-mul-t12
-mul-t12 c = search needs
+-- src/operations.rt:57:5
+mul-t10 : tie.Need-mul-t10
+mul-t10 c = search needs
 
--- src/operations.rt:55:5
+-- src/operations.rt:57:5
 element-set-from-accumulators : tie.Need-element-set-from-accumulators
 element-set-from-accumulators c = search needs
 
--- src/operations.rt:56:24
+-- src/operations.rt:58:24
 add-go-to : tie.Need-add-go-to
 add-go-to c = search needs
 
--- src/operations.rt:56:5
+-- src/operations.rt:58:5
 go-to-requires : tie.Need-go-to-requires
 go-to-requires c κs = search needs
 
--- src/operations.rt:51:1
+-- src/operations.rt:53:1
 returns : tie.Need-returns
 returns c = ?
 
@@ -42,10 +39,9 @@ pub add-spec : {M : Type 1} → statement M
 add-spec =
     tie.close
     (tie.spec
-    mul-wrapped-sum
-    element-copy-out-wrapped-sum
+    accumulator-of-requires
     wrapped-sum-requires
-    mul-t12
+    mul-t10
     element-set-from-accumulators
     add-go-to
     go-to-requires

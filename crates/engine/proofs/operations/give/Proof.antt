@@ -1,3 +1,8 @@
+use mathlib.Core.Path.{sym, ap, _∙_, refl}
+use Prim.Native.Nat.{ℕ, _+_}
+use lib.ListN.{getD, set}
+use denote.Ref.{now}
+use mathlib.Core.Logic.{inl, inr}
 use borrow.Author.Needs.{needs}
 use Rattle.engine.proofs.operations.give.Statement.{statement}
 use Rattle.engine.proofs.operations.give.Tie as tie
@@ -26,7 +31,7 @@ same-length c = search needs
 
 -- src/operations.rt:80:9
 returns : tie.Need-returns
-returns c = ?
+returns c = let o = now (c .before .before .before .before .before .args .owners) in inl (record { blocked = λ q. c .if1 .taken (c .before .owner-at .ensures ∙ ap (λ (i : ℕ). getD o i 0) (c .before .before .before .value-of .ensures .0) ∙ q); number-is = refl; nexts-are = refl; owners-are = refl })
 
 -- src/operations.rt:82:5
 put-owner-requires : tie.Need-put-owner-requires
@@ -46,7 +51,7 @@ same-length-2 c = search needs
 
 -- src/operations.rt:74:1
 returns-2 : tie.Need-returns-2
-returns-2 c = ?
+returns-2 c = let o = now (c .before .before .before .before .before .before .before .before .before .before .before .args .owners) in inr (record { free = sym (c .before .before .before .before .before .before .before .owner-at .ensures ∙ ap (λ (i : ℕ). getD o i 0) (c .before .before .before .before .before .before .before .before .before .value-of .ensures .0)) ∙ c .before .before .before .before .before .before .if1 .left; number-is = refl; nexts-are = c .go-to .ensures; owners-are = c .before .before .before .before .put-owner .ensures ∙ ap (λ (i : ℕ). set o i 0) (c .before .before .before .before .before .before .before .before .before .value-of .ensures .0) })
 
 pub give-spec : {M : Type 1} → statement M
 give-spec =

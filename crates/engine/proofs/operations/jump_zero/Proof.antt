@@ -4,32 +4,34 @@ use Rattle.engine.proofs.operations.jump_zero.Tie as tie
 use Rattle.engine.proofs.operations.jump_zero.Reads as reads
 use Rattle.engine.proofs.operations.jump_zero.Lts as lts
 use Rattle.engine.proofs.frames.go_to.Reads as go-to-reads
+use Rattle.engine.proofs.places.accumulator_of.Reads as accumulator-of-reads
+use Rattle.engine.proofs.places.is_zero.Reads as is-zero-reads
 
--- src/operations.rt:161:8
-mul-if1 : tie.Need-mul-if1
-mul-if1 c = search needs
+-- src/operations.rt:163:16
+accumulator-of-requires : tie.Need-accumulator-of-requires
+accumulator-of-requires c κs = search needs
 
--- src/operations.rt:161:8
-element-copy-out-if1 : tie.Need-element-copy-out-if1
-element-copy-out-if1 c = search needs
+-- src/operations.rt:163:8
+is-zero-requires : tie.Need-is-zero-requires
+is-zero-requires c κs = search needs
 
--- src/operations.rt:162:9
+-- src/operations.rt:164:9
 go-to-requires : tie.Need-go-to-requires
 go-to-requires c κs = search needs
 
--- src/operations.rt:164:28
+-- src/operations.rt:166:28
 add-go-to : tie.Need-add-go-to
 add-go-to c = search needs
 
--- src/operations.rt:164:9
+-- src/operations.rt:166:9
 go-to-requires-2 : tie.Need-go-to-requires-2
 go-to-requires-2 c κs = search needs
 
--- src/operations.rt:157:1
+-- src/operations.rt:159:1
 returns : tie.Need-returns
 returns c = ?
 
--- src/operations.rt:157:1
+-- src/operations.rt:159:1
 returns-2 : tie.Need-returns-2
 returns-2 c = ?
 
@@ -37,8 +39,8 @@ pub jump-zero-spec : {M : Type 1} → statement M
 jump-zero-spec =
     tie.close
     (tie.spec
-    mul-if1
-    element-copy-out-if1
+    accumulator-of-requires
+    is-zero-requires
     go-to-requires
     add-go-to
     go-to-requires-2

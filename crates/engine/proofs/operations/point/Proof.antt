@@ -25,7 +25,7 @@ go-to-requires c κs = search needs
 
 -- src/operations.rt:88:1
 returns : tie.Need-returns
-returns c = ?
+returns c = (c .go-to .ensures, rw (c .before .before .put-value .ensures, c .before .before .before .before .value-of .ensures .0))
 
 pub point-spec : {M : Type 1} → statement M
 point-spec =

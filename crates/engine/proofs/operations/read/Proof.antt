@@ -1,3 +1,6 @@
+use mir.Val.{SFits}
+use mir.Syntax.{w32}
+use mir.Facts.{toZ-ofZ}
 use borrow.Author.Needs.{needs}
 use Rattle.engine.proofs.operations.read.Statement.{statement}
 use Rattle.engine.proofs.operations.read.Tie as tie
@@ -33,7 +36,7 @@ go-to-requires c κs = search needs
 
 -- src/operations.rt:24:1
 returns : tie.Need-returns
-returns c = ?
+returns c = let f : SFits w32 (c .before .before .cell-at .result) = record { sfits = c .before .before .cell-at .ok } in (c .go-to .ensures, rw (toZ-ofZ f, c .before .before .cell-at .ensures, c .before .before .before .value-of .ensures .0))
 
 pub read-spec : {M : Type 1} → statement M
 read-spec =

@@ -5,37 +5,34 @@ use Rattle.engine.proofs.operations.write.Reads as reads
 use Rattle.engine.proofs.operations.write.Lts as lts
 use Rattle.engine.proofs.frames.go_to.Reads as go-to-reads
 use Rattle.engine.proofs.frames.value_of.Reads as value-of-reads
+use Rattle.engine.proofs.places.accumulator_of.Reads as accumulator-of-reads
 use Rattle.engine.proofs.places.put_cell.Reads as put-cell-reads
 
--- src/operations.rt:37:21
+-- src/operations.rt:39:21
 value-of-requires : tie.Need-value-of-requires
 value-of-requires c κs = search needs
 
--- src/operations.rt:37:48
-mul-put-cell : tie.Need-mul-put-cell
-mul-put-cell c = search needs
+-- src/operations.rt:39:48
+accumulator-of-requires : tie.Need-accumulator-of-requires
+accumulator-of-requires c κs = search needs
 
--- src/operations.rt:37:48
-element-copy-out-put-cell : tie.Need-element-copy-out-put-cell
-element-copy-out-put-cell c = search needs
-
--- src/operations.rt:37:5
+-- src/operations.rt:39:5
 put-cell-requires : tie.Need-put-cell-requires
 put-cell-requires c κs = search needs
 
--- src/operations.rt:38:24
+-- src/operations.rt:40:24
 add-go-to : tie.Need-add-go-to
 add-go-to c = search needs
 
--- src/operations.rt:38:5
+-- src/operations.rt:40:5
 go-to-requires : tie.Need-go-to-requires
 go-to-requires c κs = search needs
 
--- src/operations.rt:33:1
+-- src/operations.rt:35:1
 same-length : tie.Need-same-length
 same-length c = search needs
 
--- src/operations.rt:33:1
+-- src/operations.rt:35:1
 returns : tie.Need-returns
 returns c = ?
 
@@ -44,8 +41,7 @@ write-spec =
     tie.close
     (tie.spec
     value-of-requires
-    mul-put-cell
-    element-copy-out-put-cell
+    accumulator-of-requires
     put-cell-requires
     add-go-to
     go-to-requires

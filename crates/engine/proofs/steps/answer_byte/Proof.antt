@@ -1,3 +1,4 @@
+use native.Mathlib.Nat.{mod-eq-of-lt}
 use borrow.Author.Needs.{needs}
 use Rattle.engine.proofs.steps.answer_byte.Statement.{statement}
 use Rattle.engine.proofs.steps.answer_byte.Tie as tie
@@ -30,11 +31,11 @@ returns c = search needs
 
 -- src/steps.rt:17:1
 returns-2 : tie.Need-returns-2
-returns-2 c = ?
+returns-2 c = let e = c .before .step .given .1 in rw e (mod-eq-of-lt (rw e at (c .before .before .before .pre)))
 
 -- src/steps.rt:17:1
 returns-3 : tie.Need-returns-3
-returns-3 c = ?
+returns-3 c = let e = c .before .step2 .given .1 in rw e (mod-eq-of-lt (rw e at (c .before .before .before .pre)))
 
 pub answer-byte-spec : {M : Type 1} → statement M
 answer-byte-spec =

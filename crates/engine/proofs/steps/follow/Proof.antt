@@ -1,0 +1,87 @@
+use Rattle.engine.proofs.steps.follow.Statement.{statement}
+use Rattle.engine.proofs.steps.follow.Tie as tie
+use Rattle.engine.proofs.steps.follow.Reads as reads
+use Rattle.engine.proofs.steps.follow.Lts as lts
+use Rattle.engine.proofs.steps.answer_byte.Reads as answer-byte-reads
+use Rattle.engine.proofs.steps.step.Reads as step-reads
+use Rattle.engine.proofs.steps.wide.Reads as wide-reads
+
+abbrev Inv-loop : tie.InvT-loop
+Inv-loop numbers first handle schedule answers₀ started₀ nexts₀ values₀ counts₀ accumulators₀ owners₀ cells₀ i₀ answers started nexts values counts accumulators owners cells i =
+    ?
+
+abbrev μ-loop : tie.MeasureT-loop
+μ-loop numbers first handle schedule answers₀ started₀ nexts₀ values₀ counts₀ accumulators₀ owners₀ cells₀ i₀ answers started nexts values counts accumulators owners cells i =
+    ?
+
+-- src/steps.rt:172:5
+loop-holds : tie.Need-loop-holds Inv-loop μ-loop
+loop-holds c = ?
+
+-- src/steps.rt:177:18
+shared-slice-read-wide : tie.Need-shared-slice-read-wide Inv-loop μ-loop
+shared-slice-read-wide c = ?
+
+-- src/steps.rt:177:13
+wide-requires : tie.Need-wide-requires Inv-loop μ-loop
+wide-requires c κs = ?
+
+-- src/steps.rt:173:13
+step-requires : tie.Need-step-requires Inv-loop μ-loop
+step-requires c κs = ?
+
+-- src/steps.rt:186:22
+answer-byte-requires : tie.Need-answer-byte-requires Inv-loop μ-loop
+answer-byte-requires c κs = ?
+
+-- src/steps.rt:186:9
+slice-write-answers : tie.Need-slice-write-answers Inv-loop μ-loop
+slice-write-answers c = ?
+
+-- src/steps.rt:187:9
+add-i : tie.Need-add-i Inv-loop μ-loop
+add-i c = ?
+
+-- src/steps.rt:172:5
+loop-less : tie.Need-loop-less Inv-loop μ-loop
+loop-less c = ?
+
+-- src/steps.rt:172:5
+loop-again : tie.Need-loop-again Inv-loop μ-loop
+loop-again c = ?
+
+-- src/steps.rt:153:1
+same-length : tie.Need-same-length Inv-loop μ-loop
+same-length c = ?
+
+-- src/steps.rt:153:1
+same-length-2 : tie.Need-same-length-2 Inv-loop μ-loop
+same-length-2 c = ?
+
+-- src/steps.rt:153:1
+same-length-3 : tie.Need-same-length-3 Inv-loop μ-loop
+same-length-3 c = ?
+
+-- src/steps.rt:153:1
+returns : tie.Need-returns Inv-loop μ-loop
+returns c = ?
+
+pub follow-spec : {M : Type 1} → statement M
+follow-spec =
+    tie.close
+    (tie.spec
+    Inv-loop
+    μ-loop
+    loop-holds
+    shared-slice-read-wide
+    wide-requires
+    step-requires
+    answer-byte-requires
+    slice-write-answers
+    add-i
+    loop-less
+    loop-again
+    same-length
+    same-length-2
+    same-length-3
+    returns)
