@@ -3,8 +3,9 @@ use mathlib.Core.Path.{_≡_, refl, _∙_, ap₂}
 use mathlib.Core.Bool.{Bool, true, false, cond}
 use Prim.Native.Nat.{ℕ, suc, _+_, _-_, _<_, _≤_, _^_}
 use native.Mathlib.Omega.{arith}
-use borrow.Author.Tests.{ltb-true, ltb-false, lt-ltb}
-use lib.Dec.{ltb}
+use borrow.Author.Tests.{ltb-true, ltb-false, lt-ltb, ne-eqb}
+use lib.Dec.{ltb, eqb}
+use Rattle.machine.specs.Step.{isZero}
 use lib.IntN.{ℤ, pos, negsuc, subℕ, _+ℤ_}
 use lib.Signed.{ltZ, mag}
 use mir.Syntax.{w32, w64}
@@ -57,3 +58,8 @@ between (negsuc n) e q = record { sfits = omega (arith, ltb-false 2147483647 n q
 
 pub narrow-wide : (z : ℤ) → SFits w32 z → SFits w64 z
 narrow-wide z f = record { sfits = omega (arith, f .sfits) }
+
+-- a number's bits are 0 where it is 0
+pub bits-zero : (z : ℤ) → SFits w32 z → eqb (ofZ w32 z) 0 ≡ isZero z
+bits-zero (pos n) f = refl
+bits-zero (negsuc n) f = ne-eqb (2 ^ 32 - suc n) 0 (λ e. omega (arith, f .sfits))

@@ -4,3 +4,4 @@ pub mod Shown
 pub mod ShownLaws
 pub mod TableLaws
 pub mod StepLaws
+pub mod RunLaws

@@ -17,7 +17,7 @@ use Rattle.machine.specs.State.{State, Frame, Thread, Holder, free, held, threa
 use Rattle.machine.specs.Step.{after}
 use Rattle.machine.specs.Engine.{engineStep}
 use Rattle.engine.specs.declared.Step.{Step}
-use Rattle.engine.specs.Step.{stepOf}
+use Rattle.engine.specs.Step.{numberOf, stepOf}
 
 -- the engine's arrays: how many threads are started; each slot's next statement and its values, eight a slot; each thread's frame count and
 -- accumulator; each lock's owner; the cells
@@ -95,6 +95,7 @@ pub record Beginning (numbers : List ℤ) (first handle : List ℕ) (a : Arrays)
 -- a step of thread n: the answer and the state after it are the engine's
 pub record Stepped (t : Table) (new : Arrays) (state : State) (n : ℕ) (step : Step) : Type 0 where
   pub answered : step ≡ stepOf t state n
+  pub small : numberOf step < 256
   pub shows : Shows t new (after state (engineStep t state n))
 
 -- what handle h refers to in a new frame, with arguments from the frame in slot `caller`

@@ -10,7 +10,7 @@ use native.Mathlib.Numerals.{add-one}
 use borrow.Author.Tests.{lt-ltb, le-ltb, le-leb, lt-leb, eq-eqb, ne-eqb}
 use lib.Dec.{eqb}
 use lib.IntN.{ℤ, pos, _+ℤ_}
-use lib.ListN.{length, getD, set, length-set, List·getD-map}
+use lib.ListN.{length, getD, set, length-set, List·getD-map, List·getD-eq-default}
 use lib.Seq.{getD-set-same, getD-set-other}
 use Rattle.table.specs.Table.{Table, declaration, routine, statement, passed, InRoutine, OwnHandle}
 use Rattle.table.specs.Accepted.{Accepted, GoesOn, Operands, Passes}
@@ -82,6 +82,26 @@ top t a state n slot s low some e = go (thread state n .frames) refl
           accumulator-is = th .accumulator-is;
         }
 
+-- ---- 14 and 15
+
+pub not-started : (t : Table) (a : Arrays) (state : State) (n : ℕ) → Shows t a state → a .started ≤ n → Stepped t a state n (Nothing 14)
+unfolding stepOf engineStep step
+not-started t a state n s l =
+    let none : thread state n ≡ ended = List·getD-eq-default (state .threads) ended {n = n} (omega (arith, s .started-is)) in
+    let past = le-ltb n (length (state .threads)) (omega (arith, s .started-is)) in
+    record { answered = rw (none, past); small = omega arith; shows = rw (none, past) s }
+
+pub has-ended : (t : Table) (a : Arrays) (state : State) (n : ℕ) → Shows t a state → n < a .started → getD (a .counts) n 0 ≡ 0 → Stepped t a state n (Nothing 15)
+unfolding stepOf engineStep step stepped
+has-ended t a state n s l c =
+    let none : thread state n .frames ≡ [] = empty (thread state n .frames) (sym (s .thread-is n l .count-is) ∙ c) in
+    let there = lt-ltb n (length (state .threads)) (omega (arith, s .started-is)) in
+    record { answered = rw (none, there); small = omega arith; shows = rw (none, there) s }
+  where
+    empty : (fs : List Frame) → length fs ≡ 0 → fs ≡ []
+    empty [] e = refl
+    empty (f ∷ fs) e = absurd (omega arith)
+
 -- a thread's accumulator is b afterwards, and the others' are as they were
 pub record Accumulated (old new : List ℤ) (n : ℕ) (b : ℤ) : Type 0 where
   pub long : length new ≡ length old
@@ -110,12 +130,12 @@ module _ (t : Table) (accepted : Accepted t) (a : Arrays) (state : State) (n slo
   unfolding stepOf
   ran new σ new-state e l m shown =
       let w : engineStep t state n ≡ moved new-state = by-operation σ e l ∙ m in
-      record { answered = rw (w, p .is, e); shows = rw w shown }
+      record { answered = rw (w, p .is, e); small = omega arith; shows = rw w shown }
 
-  turned-down : (σ : Statement) (number : ℕ) → statement t (p .f .next) ≡ σ → engineStep t state n ≡ refused number → eqb number 0 ≡ false
+  turned-down : (σ : Statement) (number : ℕ) → statement t (p .f .next) ≡ σ → engineStep t state n ≡ refused number → eqb number 0 ≡ false → number < 256
       → Stepped t a state n (Refused number σ)
   unfolding stepOf
-  turned-down σ number e w some = record { answered = rw (w, p .is, e, some); shows = rw w s }
+  turned-down σ number e w some small = record { answered = rw (w, p .is, e, some); small = small; shows = rw w s }
 
   -- ---- the thread goes to statement x
 
@@ -320,7 +340,7 @@ module _ (t : Table) (accepted : Accepted t) (a : Arrays) (state : State) (n slo
     unfolding operate
     take-step h number nexts owners e (inl w) =
         rw (w .number-is, w .nexts-are, w .owners-are)
-        (turned-down (Take h) 16 e (by-operation (Take h) e refl ∙ blocked (getD (a .owners) (getD (a .values) (valuePlace slot (h .number)) 0) 0) refl) refl)
+        (turned-down (Take h) 16 e (by-operation (Take h) e refl ∙ blocked (getD (a .owners) (getD (a .values) (valuePlace slot (h .number)) 0) 0) refl) refl (omega arith))
       where
         blocked : (o : ℕ) → getD (a .owners) (getD (a .values) (valuePlace slot (h .number)) 0) 0 ≡ o
             → operate t state n (thread state n .accumulator) (p .f) (p .older) (Take h) ≡ refused 16
@@ -339,7 +359,7 @@ module _ (t : Table) (accepted : Accepted t) (a : Arrays) (state : State) (n slo
     unfolding operate
     give-step h number nexts owners e (inl w) =
         rw (w .number-is, w .nexts-are, w .owners-are)
-        (turned-down (Give h) 17 e (by-operation (Give h) e refl ∙ blocked (getD (a .owners) (getD (a .values) (valuePlace slot (h .number)) 0) 0) refl) refl)
+        (turned-down (Give h) 17 e (by-operation (Give h) e refl ∙ blocked (getD (a .owners) (getD (a .values) (valuePlace slot (h .number)) 0) 0) refl) refl (omega arith))
       where
         blocked : (o : ℕ) → getD (a .owners) (getD (a .values) (valuePlace slot (h .number)) 0) 0 ≡ o
             → operate t state n (thread state n .accumulator) (p .f) (p .older) (Give h) ≡ refused 17
@@ -437,7 +457,7 @@ module _ (t : Table) (accepted : Accepted t) (a : Arrays) (state : State) (n slo
       unfolding operate
       call-step number nexts values counts e (inl w) =
           rw (w .number-is, w .nexts-are, w .values-are, w .counts-are)
-          (turned-down (Call q arguments) 19 e (limited (Call q arguments) 19 e (rw (le-leb 32 (suc (length (p .older))) (omega (arith, w .full, p .count-is)))) refl) refl)
+          (turned-down (Call q arguments) 19 e (limited (Call q arguments) 19 e (rw (le-leb 32 (suc (length (p .older))) (omega (arith, w .full, p .count-is)))) refl) refl (omega arith))
       call-step number nexts values counts e (inr w) =
           rw (w .number-is, w .nexts-are ∙ moved-on, w .counts-are)
           (ran _ (Call q arguments) _ e (rw (lt-leb 32 (suc (length (p .older))) (omega (arith, w .free, p .count-is)))) refl
@@ -507,7 +527,7 @@ module _ (t : Table) (accepted : Accepted t) (a : Arrays) (state : State) (n slo
       unfolding operate
       start-step number started nexts values counts accumulators e (inl w) =
           rw (w .number-is, w .started-is, w .nexts-are, w .values-are, w .counts-are, w .accumulators-are)
-          (turned-down (Start q arguments) 18 e (limited (Start q arguments) 18 e (rw (le-leb 16 (length (state .threads)) (omega (arith, w .full, s .started-is)))) refl) refl)
+          (turned-down (Start q arguments) 18 e (limited (Start q arguments) 18 e (rw (le-leb 16 (length (state .threads)) (omega (arith, w .full, s .started-is)))) refl) refl (omega arith))
       start-step number started nexts values counts accumulators e (inr w) =
           rw (w .number-is, w .started-is, w .nexts-are ∙ moved-on, w .counts-are, w .accumulators-are)
           (ran _ (Start q arguments) _ e (rw (lt-leb 16 (length (state .threads)) (omega (arith, w .free, s .started-is)))) refl

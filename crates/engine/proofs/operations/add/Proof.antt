@@ -1,3 +1,6 @@
+use mir.Val.{SFits}
+use mir.Syntax.{w32}
+use mir.Facts.{toZ-ofZ}
 use borrow.Author.Needs.{needs}
 use Rattle.engine.proofs.operations.add.Statement.{statement}
 use Rattle.engine.proofs.operations.add.Tie as tie
@@ -33,7 +36,7 @@ go-to-requires c κs = search needs
 
 -- src/operations.rt:53:1
 returns : tie.Need-returns
-returns c = ?
+returns c = let f : SFits w32 (c .before .before .wrapped-sum .result) = record { sfits = c .before .before .wrapped-sum .ok } in let g : SFits w32 (c .before .before .before .accumulator-of .result) = record { sfits = c .before .before .before .accumulator-of .ok } in (c .go-to .ensures, rw (toZ-ofZ f, c .before .before .wrapped-sum .ensures, toZ-ofZ g, toZ-ofZ (c .before .before .before .before .before .fits .number), c .before .before .before .accumulator-of .ensures))
 
 pub add-spec : {M : Type 1} → statement M
 add-spec =

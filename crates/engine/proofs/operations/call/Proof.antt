@@ -1,3 +1,6 @@
+use mathlib.Core.Path.{sym, ap, _∙_, refl}
+use mathlib.Core.Logic.{inl, inr}
+use native.Mathlib.Omega.{arith}
 use borrow.Author.Needs.{needs}
 use Rattle.engine.proofs.operations.call.Statement.{statement}
 use Rattle.engine.proofs.operations.call.Tie as tie
@@ -16,7 +19,7 @@ element-copy-out-count c = search needs
 
 -- src/operations.rt:118:9
 returns : tie.Need-returns
-returns c = ?
+returns c = inl (record { full = c .if1 .taken; number-is = refl; nexts-are = refl; values-are = refl; counts-are = refl })
 
 -- src/operations.rt:120:20
 mul-enter : tie.Need-mul-enter
@@ -44,7 +47,7 @@ add-enter-2 c = search needs
 
 -- src/operations.rt:120:5
 enter-requires : tie.Need-enter-requires
-enter-requires c κs = ?
+enter-requires c κs = let q = c .before .before .before .before .before .pre in (record { accepted = q .0 .accepted; few = q .0 .few; there = q .0 .there; slot-low = omega arith; caller-low = q .1 .slot-low; apart = λ e. omega arith }, q .3)
 
 -- src/operations.rt:121:24
 add-go-to : tie.Need-add-go-to
@@ -84,7 +87,7 @@ element-write-counts c = search needs
 
 -- src/operations.rt:100:1
 returns-2 : tie.Need-returns-2
-returns-2 c = ?
+returns-2 c = inr (record { free = c .before .before .before .before .before .before .before .before .before .if1 .left; number-is = refl; nexts-are = rw (c .go-to2 .ensures, c .before .before .before .go-to .ensures); entered = c .before .before .before .before .before .enter .ensures; counts-are = refl })
 
 pub call-spec : {M : Type 1} → statement M
 call-spec =

@@ -1,3 +1,7 @@
+use mathlib.Core.Path.{sym, _∙_}
+use mir.Val.{SFits}
+use mir.Syntax.{w32}
+use mir.Facts.{toZ-ofZ}
 use borrow.Author.Needs.{needs}
 use Rattle.engine.proofs.operations.jump_zero.Statement.{statement}
 use Rattle.engine.proofs.operations.jump_zero.Tie as tie
@@ -29,11 +33,11 @@ go-to-requires-2 c κs = search needs
 
 -- src/operations.rt:159:1
 returns : tie.Need-returns
-returns c = ?
+returns c = let g : SFits w32 (c .before .before .before .before .accumulator-of .result) = record { sfits = c .before .before .before .before .accumulator-of .ok } in let z = sym (rw (toZ-ofZ g, c .before .before .before .before .accumulator-of .ensures) at (c .before .before .before .is-zero .ensures)) ∙ c .before .before .if1 .taken in rw z (c .go-to .ensures)
 
 -- src/operations.rt:159:1
 returns-2 : tie.Need-returns-2
-returns-2 c = ?
+returns-2 c = let g : SFits w32 (c .before .before .before .before .accumulator-of .result) = record { sfits = c .before .before .before .before .accumulator-of .ok } in let z = sym (rw (toZ-ofZ g, c .before .before .before .before .accumulator-of .ensures) at (c .before .before .before .is-zero .ensures)) ∙ c .before .before .if1 .left in rw z (c .go-to2 .ensures)
 
 pub jump-zero-spec : {M : Type 1} → statement M
 jump-zero-spec =

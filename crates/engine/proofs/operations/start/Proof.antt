@@ -1,3 +1,6 @@
+use mathlib.Core.Path.{sym, ap, _∙_, refl}
+use mathlib.Core.Logic.{inl, inr}
+use native.Mathlib.Omega.{arith}
 use borrow.Author.Needs.{needs}
 use Rattle.engine.proofs.operations.start.Statement.{statement}
 use Rattle.engine.proofs.operations.start.Tie as tie
@@ -8,7 +11,7 @@ use Rattle.engine.proofs.frames.go_to.Reads as go-to-reads
 
 -- src/operations.rt:147:9
 returns : tie.Need-returns
-returns c = ?
+returns c = inl (record { full = c .if1 .taken; number-is = refl; started-is = refl; nexts-are = refl; values-are = refl; counts-are = refl; accumulators-are = refl })
 
 -- src/operations.rt:149:20
 mul-enter : tie.Need-mul-enter
@@ -36,7 +39,7 @@ mul-enter-3 c = search needs
 
 -- src/operations.rt:149:5
 enter-requires : tie.Need-enter-requires
-enter-requires c κs = ?
+enter-requires c κs = let q = c .before .before .before .before .before .pre in (record { accepted = q .0 .accepted; few = q .0 .few; there = q .0 .there; slot-low = omega arith; caller-low = q .2; apart = λ e. omega arith }, q .4)
 
 -- src/operations.rt:150:24
 add-go-to : tie.Need-add-go-to
@@ -84,7 +87,7 @@ add-started c = search needs
 
 -- src/operations.rt:128:1
 returns-2 : tie.Need-returns-2
-returns-2 c = ?
+returns-2 c = inr (record { free = c .before .before .before .before .before .before .before .before .before .if1 .left; number-is = refl; started-is = refl; nexts-are = rw (c .go-to2 .ensures, c .before .before .before .go-to .ensures); entered = c .before .before .before .before .before .enter .ensures; counts-are = refl; accumulators-are = refl })
 
 pub start-spec : {M : Type 1} → statement M
 start-spec =

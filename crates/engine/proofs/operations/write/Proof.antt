@@ -1,3 +1,6 @@
+use mir.Val.{SFits}
+use mir.Syntax.{w32}
+use mir.Facts.{toZ-ofZ}
 use borrow.Author.Needs.{needs}
 use Rattle.engine.proofs.operations.write.Statement.{statement}
 use Rattle.engine.proofs.operations.write.Tie as tie
@@ -34,7 +37,7 @@ same-length c = search needs
 
 -- src/operations.rt:35:1
 returns : tie.Need-returns
-returns c = ?
+returns c = let f : SFits w32 (c .before .before .before .before .accumulator-of .result) = record { sfits = c .before .before .before .before .accumulator-of .ok } in (c .go-to .ensures, rw (c .before .before .before .put-cell .ensures, c .before .before .before .before .before .value-of .ensures .0, toZ-ofZ f, c .before .before .before .before .accumulator-of .ensures))
 
 pub write-spec : {M : Type 1} → statement M
 write-spec =

@@ -1,3 +1,5 @@
+use native.Mathlib.Omega.{arith}
+use Rattle.engine.specs.StepLaws.{not-started, has-ended}
 use borrow.Author.Needs.{needs}
 use Rattle.engine.proofs.steps.step.Statement.{statement}
 use Rattle.engine.proofs.steps.step.Tie as tie
@@ -7,7 +9,7 @@ use Rattle.engine.proofs.steps.operate.Reads as operate-reads
 
 -- src/steps.rt:124:9
 returns : tie.Need-returns
-returns c = ?
+returns c = λ state shown. not-started _ _ state _ shown (c .if1 .taken)
 
 -- src/steps.rt:126:17
 mul-count : tie.Need-mul-count
@@ -19,7 +21,7 @@ element-copy-out-count c = search needs
 
 -- src/steps.rt:128:9
 returns-2 : tie.Need-returns-2
-returns-2 c = ?
+returns-2 c = λ state shown. has-ended _ _ state _ shown (c .before .before .if1 .left) (c .if2 .taken)
 
 -- src/steps.rt:135:9
 mul-operate : tie.Need-mul-operate
@@ -27,7 +29,7 @@ mul-operate c = search needs
 
 -- src/steps.rt:135:9
 add-operate : tie.Need-add-operate
-add-operate c = ?
+add-operate c = record { fits = omega (arith, c .before .before .before .before .before .pre .shows .most, c .before .before .before .before .before .pre .shows .thread-is (c .before .before .before .before .before .args .n) (c .before .before .if1 .left) .few) }
 
 -- src/steps.rt:135:9
 sub-operate : tie.Need-sub-operate
@@ -35,7 +37,7 @@ sub-operate c = search needs
 
 -- src/steps.rt:130:5
 operate-requires : tie.Need-operate-requires
-operate-requires c κs = ?
+operate-requires c κs = (c .before .before .before .before .before .before .before .before .before .before .before .before .pre, (c .before .before .before .before .before .before .before .before .before .if1 .left, omega (arith, c .before .before .before .before .before .before .before .if2 .left), omega (arith, c .before .before .before .before .before .before .before .if2 .left)))
 
 -- src/steps.rt:107:1
 same-length : tie.Need-same-length
