@@ -19,3 +19,11 @@ pub mod Verdict
 pub mod VerdictLaws
 pub mod Table
 pub mod Accepted
+pub mod CheckLaws
+pub mod ReachLaws
+pub mod HandleLaws
+pub mod RoutineLaws
+pub mod LookupLaws
+pub mod StatementLaws
+pub mod NamingLaws
+pub mod AcceptedLaws

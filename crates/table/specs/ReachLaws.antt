@@ -1,0 +1,202 @@
+-- What the walk down the named routines reaches: a set that is closed under naming, and the least such. So where no routine reaches itself, the number of
+-- routines reached falls along naming. Assumes nothing.
+use mathlib.Core.Path.{_≡_, refl, sym, _∙_, subst}
+use mathlib.Core.List.{List}
+use mathlib.Core.Bool.{Bool, true, false, not, _||_}
+use Prim.Native.Nat.{ℕ, zero, suc, _+_, _^_, _≤_, _<_}
+use native.Mathlib.Omega.{arith}
+use lib.Dec.{eqb, ltb}
+use borrow.Author.Tests.{ltb-true, ltb-false, eqb-true, eq-eqb, not-true}
+use Rattle.sets.specs.Set.{has, union, minus, with, lowest, count}
+use Rattle.sets.specs.SetLaws.{has-union-left, has-union-right, union-cases, has-minus, has-with, has-empty, has-beyond, below-of-has, union-below, minus-below, count-with, count-below, count-inside-less, lowest-is, lowest-nothing}
+use Rattle.sets.specs.declared.Which.{Which}
+use Rattle.sets.specs.declared.Which.the-variants.{Element, Nothing}
+use Rattle.table.specs.Entry.{entry}
+use Rattle.table.specs.Naming.{walk, reached, isAcyclic, onWhich}
+use Rattle.table.specs.HeaderLaws.{both}
+
+-- i is in the set s
+abbrev pub In : ℕ → ℕ → Type 0
+In s i = has s i ≡ true
+
+-- all of a is in b
+abbrev pub Inside : ℕ → ℕ → Type 0
+Inside a b = (i : ℕ) → In a i → In b i
+
+-- a set of the first 32 has no other element
+in-below : (s i : ℕ) → s < 2 ^ 32 → In s i → i < 32
+in-below s i b h = go (ltb i 32) refl
+  where
+    go : (t : Bool) → ltb i 32 ≡ t → i < 32
+    go true e = ltb-true i 32 e
+    go false e =
+        let z : true ≡ false = sym h ∙ has-beyond 32 i b (ltb-false i 32 e) in
+        let w : _≡_ {A = ℕ} 0 1 = cc in
+        absurd (omega arith)
+
+pub in-empty : {C : Type 0} (i : ℕ) → In 0 i → C
+in-empty i h = let z : true ≡ false = sym h ∙ has-empty i in let w : _≡_ {A = ℕ} 0 1 = cc in absurd (omega arith)
+
+-- ---- a set with one element more
+
+with-old : (s i j : ℕ) → i < 32 → In s j → In (with s i) j
+with-old s i j b h = has-with s i j (omega arith) ∙ rw h
+
+with-new : (s i : ℕ) → i < 32 → In (with s i) i
+with-new s i b = has-with s i i (omega arith) ∙ go (has s i)
+  where
+    go : (t : Bool) → (t || eqb i i) ≡ true
+    go true = refl
+    go false = eq-eqb i i refl
+
+with-cases : {C : Type 0} (s i j : ℕ) → i < 32 → In (with s i) j → (In s j → C) → (j ≡ i → C) → C
+with-cases {C} s i j b h old new = go (has s j) refl (sym (has-with s i j (omega arith)) ∙ h)
+  where
+    go : (t : Bool) → has s j ≡ t → (t || eqb j i) ≡ true → C
+    go true e k = old e
+    go false e k = new (eqb-true j i k)
+
+with-bound : (s i : ℕ) → s < 2 ^ 32 → i < 32 → with s i < 2 ^ 32
+with-bound s i b l = below-of-has 32 (with s i) (λ j k. go j k (has (with s i) j) refl)
+  where
+    go : (j : ℕ) → 32 ≤ j → (t : Bool) → has (with s i) j ≡ t → has (with s i) j ≡ false
+    go j k true e = with-cases s i j l e (λ o. absurd (let q = in-below s j b o in omega arith)) (λ n. absurd (omega arith))
+    go j k false e = e
+
+-- ---- one call of the walk: `seen` gets one more, and what is left to do is what was, with what the one names, and not what is seen
+
+minus-in : (a b i : ℕ) → In a i → has b i ≡ false → In (minus a b) i
+minus-in a b i h k = has-minus a b i ∙ rw (h, k)
+
+minus-out : (a b i : ℕ) → In (minus a b) i → (In a i) × (has b i ≡ false)
+minus-out a b i h = let p = both (has a i) (not (has b i)) (sym (has-minus a b i) ∙ h) in (p .0, not-true (has b i) (p .1))
+
+-- what is in a is in b or in what is left of a without b
+parted : (a b i : ℕ) → In a i → In (union b (minus a b)) i
+parted a b i h = go (has b i) refl
+  where
+    go : (t : Bool) → has b i ≡ t → In (union b (minus a b)) i
+    go true e = has-union-left b (minus a b) i e
+    go false e = has-union-right b (minus a b) i (minus-in a b i h e)
+
+module _ (names : List ℕ) (small : (i : ℕ) → entry names i < 2 ^ 32) where
+  -- the state of a walk: what is seen and what is to do are apart, and what a seen one names is one of both
+  record Walking (todo seen : ℕ) : Type 0 where
+    todo-small : todo < 2 ^ 32
+    seen-small : seen < 2 ^ 32
+    apart : (i : ℕ) → In todo i → has seen i ≡ false
+    named : (i j : ℕ) → In seen i → In (entry names i) j → In (union seen todo) j
+
+  -- a set that holds both and is closed under naming
+  record Covers (todo seen all : ℕ) : Type 0 where
+    holds : Inside (union seen todo) all
+    closed : (i : ℕ) → In all i → Inside (entry names i) all
+
+  after : ℕ → ℕ → ℕ → ℕ
+  after todo seen i = minus (union todo (entry names i)) (with seen i)
+
+  -- nothing that is seen or to do is lost
+  kept : (todo seen i j : ℕ) → i < 32 → In (union seen todo) j → In (union (with seen i) (after todo seen i)) j
+  unfolding after
+  kept todo seen i j b h =
+      union-cases seen todo j
+      (λ o. has-union-left (with seen i) (after todo seen i) j (with-old seen i j b o))
+      (λ o. parted (union todo (entry names i)) (with seen i) j (has-union-left todo (entry names i) j o))
+      h
+
+  walking-next : (todo seen i : ℕ) → Walking todo seen → In todo i → i < 32 → Walking (after todo seen i) (with seen i)
+  unfolding after
+  walking-next todo seen i w h b =
+      record {
+        todo-small = minus-below 32 (with seen i) (union-below 32 (w .todo-small) (small i));
+        seen-small = with-bound seen i (w .seen-small) b;
+        apart = λ j k. minus-out (union todo (entry names i)) (with seen i) j k .1;
+        named = λ k j p q. with-cases seen i k b p
+            (λ o. kept todo seen i j b (w .named k j o q))
+            (λ e. parted (union todo (entry names i)) (with seen i) j
+            (has-union-right todo (entry names i) j (subst (λ (x : ℕ). In (entry names x) j) e q)));
+      }
+
+  -- with all 32 seen there is nothing to do
+  full : (todo seen i : ℕ) → Walking todo seen → 32 ≤ count seen → In todo i → ⊥
+  full todo seen i w c h =
+      let l = in-below todo i (w .todo-small) h in
+      let more = count-with seen i (omega arith) (w .apart i h) in
+      let most = count-below 32 (with seen i) (with-bound seen i (w .seen-small) l) in
+      omega arith
+
+  -- the walk ends with nothing to do
+  done : (todo seen : ℕ) → Walking todo seen → ((i : ℕ) → In todo i → ⊥) → Covers todo seen seen
+  done todo seen w none =
+      record {
+        holds = λ i h. union-cases seen todo i (λ o. o) (λ o. absurd (none i o)) h;
+        closed = λ i h j k. union-cases seen todo j (λ o. o) (λ o. absurd (none j o)) (w .named i j h k);
+      }
+
+  walk-covers : (left todo seen : ℕ) → Walking todo seen → 32 ≤ count seen + left → Covers todo seen (walk names todo seen left)
+  unfolding walk after
+  walk-covers zero todo seen w c = done todo seen w (λ i h. full todo seen i w (omega arith) h)
+  walk-covers (suc left) todo seen w c = go (lowest todo) refl (walk-covers left)
+    where
+      next : ℕ → ℕ
+      next i = walk names (after todo seen i) (with seen i) left
+
+      go : (o : Which) → lowest todo ≡ o → ((a b : ℕ) → Walking a b → 32 ≤ count b + left → Covers a b (walk names a b left)) → Covers todo seen (onWhich o seen next)
+      go Nothing e ih = done todo seen w (λ i h. in-empty i (subst (λ (x : ℕ). In x i) (lowest-nothing todo e) h))
+      go (Element i) e ih =
+          let small-todo : todo < 2 ^ 32 = w .todo-small in
+          let h : In todo i = lowest-is todo i (omega arith) e .0 in
+          let l : i < 32 = in-below todo i small-todo h in
+          let more = count-with seen i (omega arith) (w .apart i h) in
+          let r = ih (after todo seen i) (with seen i) (walking-next todo seen i w h l) (omega arith) in
+          record { holds = λ j k. r .holds j (kept todo seen i j l k); closed = r .closed }
+
+  -- ---- the walk reaches nothing but what a closed set that holds its start holds
+
+  walk-least : (all : ℕ) → ((i : ℕ) → In all i → Inside (entry names i) all) → (left todo seen : ℕ) → todo < 2 ^ 32 → Inside todo all → Inside seen all
+      → Inside (walk names todo seen left) all
+  unfolding walk after
+  walk-least all closed zero todo seen b t s = s
+  walk-least all closed (suc left) todo seen b t s = go (lowest todo) refl (walk-least all closed left)
+    where
+      next : ℕ → ℕ
+      next i = walk names (after todo seen i) (with seen i) left
+
+      go : (o : Which) → lowest todo ≡ o → ((a b : ℕ) → a < 2 ^ 32 → Inside a all → Inside b all → Inside (walk names a b left) all)
+          → Inside (onWhich o seen next) all
+      go Nothing e ih = s
+      go (Element i) e ih =
+          let h : In todo i = lowest-is todo i (omega arith) e .0 in
+          let l : i < 32 = in-below todo i b h in
+          ih (after todo seen i) (with seen i) (minus-below 32 (with seen i) (union-below 32 b (small i)))
+          (λ j k. union-cases todo (entry names i) j (t j) (closed i (t i h) j) (minus-out (union todo (entry names i)) (with seen i) j k .0))
+          (λ j k. with-cases seen i j l k (s j) (λ e′. subst (In all) (sym e′) (t i h)))
+
+  -- ---- what a routine reaches
+
+  reached-covers : (r : ℕ) → Covers (entry names r) 0 (reached names r)
+  unfolding reached
+  reached-covers r =
+      let start : Walking (entry names r) 0 =
+      record { todo-small = small r; seen-small = omega arith; apart = λ i h. has-empty i; named = λ i j h k. in-empty i h } in
+      walk-covers 32 (entry names r) 0 start (omega arith)
+
+  pub reached-named : (r : ℕ) → Inside (entry names r) (reached names r)
+  reached-named r q h = reached-covers r .holds q (has-union-right 0 (entry names r) q h)
+
+  pub reached-closed : (r i : ℕ) → In (reached names r) i → Inside (entry names i) (reached names r)
+  reached-closed r = reached-covers r .closed
+
+  -- what a named routine reaches, the naming one reaches
+  pub reached-inside : (r q : ℕ) → In (entry names r) q → Inside (reached names q) (reached names r)
+  unfolding reached
+  reached-inside r q h =
+      walk-least (reached names r) (reached-closed r) 32 (entry names q) 0 (small q) (reached-closed r q (reached-named r q h)) (λ j k. in-empty j k)
+
+  -- the number of routines reached falls along naming, to a routine that does not reach itself
+  pub reached-falls : (r q : ℕ) → In (entry names r) q → isAcyclic names q ≡ true → count (reached names q) < count (reached names r)
+  unfolding isAcyclic
+  reached-falls r q h a =
+      let l = in-below (entry names r) q (small r) h in
+      let out = not-true (has (reached names q) q) a in
+      count-inside-less (reached names q) (reached names r) q (reached-inside r q h) (omega arith) out (reached-named r q h)
