@@ -5,3 +5,4 @@ pub mod ShownLaws
 pub mod TableLaws
 pub mod StepLaws
 pub mod RunLaws
+pub mod BeginLaws
