@@ -91,10 +91,48 @@ fn show_vector(i: usize) {
     }
 }
 
+// The table sum.table adds up to 2,147,483,647 in thread 0, and then 1 in thread 1: the cell alone is written.
+fn show_sum(text: &[u8]) {
+    let mut schedule = [0u8; 6446];
+    let mut answers = [99u8; 6446];
+    let mut cells = [99i32; 2];
+    show_last(engine::run(text, &schedule[..6443], &mut answers, &mut cells), &cells);
+    schedule[6443] = 1;
+    schedule[6444] = 1;
+    schedule[6445] = 1;
+    show_last(engine::run(text, &schedule, &mut answers, &mut cells), &cells);
+}
+
+// The number of a call and the cells that it left.
+fn show_last(outcome: Outcome, cells: &[i32]) {
+    io::print_decimal(STDOUT_FILENO, outcome.number as u64);
+    say(b", cells");
+    say_cells(cells);
+    say(b"\n");
+}
+
+// An empty schedule; buffers that just fit; one answer and one cell too few.
+fn show_edges() {
+    let mut text = [0u8; 32978];
+    let n = load(b"sum.table", &mut text);
+    if n <= 32978 {
+        show_sum(&text[..n]);
+        let mut answers = [99u8; 3];
+        let mut cells = [99i32; 1];
+        show(&text[..n], b"", &mut answers, &mut cells);
+        cells[0] = 98;
+        show(&text[..n], b"\x00\x01\x02", &mut answers, &mut cells);
+        cells[0] = 98;
+        show(&text[..n], b"\x00\x00\x00\x00", &mut answers, &mut cells);
+        show(&text[..n], b"\x00\x00\x00", &mut answers, &mut cells[..0]);
+    }
+}
+
 fn main() {
     let mut i = 0;
     while i < 41 {
         show_vector(i);
         i += 1;
     }
+    show_edges();
 }
