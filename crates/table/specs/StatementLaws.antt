@@ -20,7 +20,7 @@ use Rattle.table.specs.Statements.{operation, operand, ownHandle, ownOfK
 use Rattle.table.specs.Naming.{namedBy}
 use Rattle.table.specs.ReachLaws.{In, in-empty}
 use Rattle.table.specs.LookupLaws.{handles-length, routines-length, declaration-says, routine-says, in-routine}
-use Rattle.table.specs.Table.{tableOf, declaration, routine, passed, statementOf, InRoutine, OwnHandle}
+use Rattle.table.specs.Table.{tableOf, declaration, routine, passed, argumentsIn, statementIn, statementOf, InRoutine, OwnHandle}
 use Rattle.table.specs.Accepted.{OwnOfKind, Passes, Operands, GoesOn, Names}
 use Rattle.table.specs.declared.Arguments.{Arguments}
 use Rattle.table.specs.declared.Statement.{Statement}
@@ -49,7 +49,7 @@ said f s op =
     Return))))))))))
 
 statement-said : (f : List ℤ) (s : ℕ) → statementOf f s ≡ said f s (operation f s)
-unfolding statementOf
+unfolding statementOf statementIn argumentsIn
 statement-said f s = refl
 
 -- what holds of the twelve operations holds of every number that is one

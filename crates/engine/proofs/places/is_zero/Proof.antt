@@ -1,0 +1,12 @@
+use Rattle.engine.proofs.Sums.{bits-zero}
+use Rattle.engine.proofs.places.is_zero.Statement.{statement}
+use Rattle.engine.proofs.places.is_zero.Tie as tie
+use Rattle.engine.proofs.places.is_zero.Reads as reads
+use Rattle.engine.proofs.places.is_zero.Lts as lts
+
+-- src/places.rt:60:1
+returns : tie.Need-returns
+returns c = bits-zero (c .args .x) (c .fits .x)
+
+pub is-zero-spec : {M : Type 1} → statement M
+is-zero-spec = tie.close (tie.spec returns)

@@ -1,0 +1,75 @@
+use borrow.Author.Needs.{needs}
+use Rattle.engine.proofs.play.Statement.{statement}
+use Rattle.engine.proofs.play.Tie as tie
+use Rattle.engine.proofs.play.Reads as reads
+use Rattle.engine.proofs.play.Lts as lts
+use Rattle.engine.proofs.frames.enter.Reads as enter-reads
+use Rattle.engine.proofs.places.clear.Reads as clear-reads
+use Rattle.engine.proofs.steps.follow.Reads as follow-reads
+use Rattle.table.proofs.first_handles.Reads as first-handles-reads
+use Rattle.table.proofs.first_statements.Reads as first-statements-reads
+
+-- src/lib.rt:40:17
+first-statements-requires : tie.Need-first-statements-requires
+first-statements-requires c κs = search needs
+
+-- src/lib.rt:41:18
+first-handles-requires : tie.Need-first-handles-requires
+first-handles-requires c κs = search needs
+
+-- src/lib.rt:47:5
+clear-requires : tie.Need-clear-requires
+clear-requires c κs = search needs
+
+-- src/lib.rt:48:5
+array-write-counts : tie.Need-array-write-counts
+array-write-counts c = search needs
+
+-- src/lib.rt:51:9
+array-read-enter : tie.Need-array-read-enter
+array-read-enter c = search needs
+
+-- src/lib.rt:52:9
+array-read-enter-2 : tie.Need-array-read-enter-2
+array-read-enter-2 c = search needs
+
+-- src/lib.rt:49:5
+enter-requires : tie.Need-enter-requires
+enter-requires c κs = ?
+
+-- src/lib.rt:63:5
+follow-requires : tie.Need-follow-requires
+follow-requires c κs = ?
+
+-- src/lib.rt:35:1
+same-length : tie.Need-same-length
+same-length c = search needs
+
+-- src/lib.rt:35:1
+same-length-2 : tie.Need-same-length-2
+same-length-2 c = search needs
+
+-- src/lib.rt:35:1
+same-length-3 : tie.Need-same-length-3
+same-length-3 c = search needs
+
+-- src/lib.rt:35:1
+returns : tie.Need-returns
+returns c = search needs
+
+pub play-spec : {M : Type 1} → statement M
+play-spec =
+    tie.close
+    (tie.spec
+    first-statements-requires
+    first-handles-requires
+    clear-requires
+    array-write-counts
+    array-read-enter
+    array-read-enter-2
+    enter-requires
+    follow-requires
+    same-length
+    same-length-2
+    same-length-3
+    returns)

@@ -1,0 +1,98 @@
+use borrow.Author.Needs.{needs}
+use Rattle.engine.proofs.run.Statement.{statement}
+use Rattle.engine.proofs.run.Tie as tie
+use Rattle.engine.proofs.run.Reads as reads
+use Rattle.engine.proofs.run.Lts as lts
+use Rattle.engine.proofs.play.Reads as play-reads
+use Rattle.table.proofs.counts_of.Reads as counts-of-reads
+use Rattle.table.proofs.read.Reads as read-reads
+
+-- src/lib.rt:86:9
+read-requires : tie.Need-read-requires
+read-requires c κs = search needs
+
+-- src/lib.rt:89:28
+enum-known-verdict : tie.Need-enum-known-verdict
+enum-known-verdict c = search needs
+
+-- src/lib.rt:91:17
+enum-told : tie.Need-enum-told
+enum-told c = search needs
+
+-- src/lib.rt:92:43
+slice-aggregate-counts-of : tie.Need-slice-aggregate-counts-of
+slice-aggregate-counts-of c = search needs
+
+-- src/lib.rt:92:17
+counts-of-requires : tie.Need-counts-of-requires
+counts-of-requires c κs = search needs
+
+-- src/lib.rt:96:17
+returns : tie.Need-returns
+returns c = ?
+
+-- src/lib.rt:99:17
+returns-2 : tie.Need-returns-2
+returns-2 c = ?
+
+-- src/lib.rt:102:18
+slice-aggregate-play : tie.Need-slice-aggregate-play
+slice-aggregate-play c = search needs
+
+-- src/lib.rt:102:51
+slice-relend-prefix-play : tie.Need-slice-relend-prefix-play
+slice-relend-prefix-play c = search needs
+
+-- src/lib.rt:102:51
+slice-aggregate-play-2 : tie.Need-slice-aggregate-play-2
+slice-aggregate-play-2 c = ?
+
+-- src/lib.rt:102:72
+array-borrow-prefix-owners : tie.Need-array-borrow-prefix-owners
+array-borrow-prefix-owners c = ?
+
+-- src/lib.rt:102:72
+slice-aggregate-play-3 : tie.Need-slice-aggregate-play-3
+slice-aggregate-play-3 c = ?
+
+-- src/lib.rt:102:13
+play-requires : tie.Need-play-requires
+play-requires c κs = ?
+
+-- src/lib.rt:81:1
+returns-3 : tie.Need-returns-3
+returns-3 c = ?
+
+-- src/lib.rt:81:1
+same-length : tie.Need-same-length
+same-length c = search needs
+
+-- src/lib.rt:81:1
+same-length-2 : tie.Need-same-length-2
+same-length-2 c = search needs
+
+-- src/lib.rt:81:1
+returns-4 : tie.Need-returns-4
+returns-4 c = ?
+
+pub run-spec : {M : Type 1} → statement M
+run-spec =
+    tie.close
+    (tie.spec
+    read-requires
+    enum-known-verdict
+    enum-told
+    slice-aggregate-counts-of
+    counts-of-requires
+    returns
+    returns-2
+    slice-aggregate-play
+    slice-relend-prefix-play
+    slice-aggregate-play-2
+    array-borrow-prefix-owners
+    slice-aggregate-play-3
+    play-requires
+    returns-3
+    same-length
+    same-length-2
+    returns-4)

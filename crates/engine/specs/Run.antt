@@ -1,0 +1,46 @@
+-- What `run` answers and leaves: refusals 1 to 12 of the text, then 13, else the machine's answers and cells. Assumes nothing.
+use Prim.Native.Nat.{ℕ}
+use mathlib.Core.Bool.{Bool, true, false, cond, _&&_}
+use mathlib.Core.List.{List, _++_}
+use lib.Dec.{eqb, leb}
+use lib.IntN.{ℤ}
+use lib.ListN.{length, drop}
+use Rattle.lines.specs.Line.{numbersOf}
+use Rattle.table.specs.Table.{Table, tableOf}
+use Rattle.table.specs.Verdict.{verdict}
+use Rattle.table.specs.declared.Verdict.{Verdict}
+use Rattle.table.specs.declared.Verdict.the-variants.{Accepted, Refused}
+use Rattle.machine.specs.State.{start}
+use Rattle.machine.specs.Engine.{engineRun, answers}
+use Rattle.engine.specs.declared.Outcome.{Outcome}
+
+-- the table of a text
+abbrev pub tableIn : List ℕ → Table
+tableIn text = tableOf (numbersOf text)
+
+-- 13: "A lent buffer is shorter than .. the schedule or the cells need", of an accepted text; "An accepted call returns 0 and line 0"
+abbrev pub outcomeBy : Verdict → Bool → Outcome
+outcomeBy Accepted fit = record { number = cond fit 0 13; line = 0 }
+outcomeBy (Refused number line) fit = record { number = number; line = line }
+
+-- what is returned, for lists of these lengths
+unfoldable pub outcomeOf : List ℕ → List ℕ → List ℕ → List ℤ → Outcome
+outcomeOf text schedule given cells =
+    let fit = leb (length schedule) (length given) && leb (tableIn text .cells) (length cells) in
+    outcomeBy (verdict text) fit
+
+-- whether the call is accepted
+abbrev pub runs : List ℕ → List ℕ → List ℕ → List ℤ → Bool
+runs text schedule given cells = eqb (outcomeOf text schedule given cells .number) 0
+
+-- "fills one answer byte for each"; "Places past those written keep their contents"; a refused call changes nothing
+unfoldable pub answersLeft : List ℕ → List ℕ → List ℕ → List ℤ → List ℕ
+answersLeft text schedule given cells =
+    let written = answers (tableIn text) (start (tableIn text)) schedule ++ drop (length schedule) given in
+    cond (runs text schedule given cells) written given
+
+-- "leaves the final cell values in a lent list"
+unfoldable pub cellsLeft : List ℕ → List ℕ → List ℕ → List ℤ → List ℤ
+cellsLeft text schedule given cells =
+    let written = engineRun (tableIn text) (start (tableIn text)) schedule .cells ++ drop (tableIn text .cells) cells in
+    cond (runs text schedule given cells) written cells

@@ -1,0 +1,95 @@
+// Frames. Frame d of thread n, the oldest 0, stands in slot n * 32 + d: its next statement in `nexts`, and the value of its routine's handle h in
+// `values` at slot * 8 + h % 8 (a routine has at most eight handles, in a row).
+ghost use mathlib.Core.Path.{_≡_};
+ghost use mathlib.Core.Bool.{cond};
+ghost use Prim.Native.Nat.{_+_, _-_, _<_, _≤_};
+ghost use lib.Dec.{eqb};
+ghost use lib.ListN.{getD, set, length};
+ghost use Rattle.table.specs.Table.{tableOf, declaration, passed};
+ghost use Rattle.table.specs.Accepted.{Accepted};
+ghost use Rattle.engine.specs.Shown.{valuePlace, Entering, Entered, startValue};
+use table::Arguments;
+
+fn wide(x: u16) -> usize
+    ensures { λ r. ⌜ r ≡ x ⌝ }
+{
+    x as usize
+}
+
+fn wide_byte(x: u8) -> usize
+    ensures { λ r. ⌜ (r ≡ x) × (r < 256) ⌝ }
+{
+    x as usize
+}
+
+// The next statement of the frame in `slot`.
+pub fn next_of(nexts: &[u16; 512], slot: usize) -> usize
+    requires { ⌜ slot < 512 ⌝ }
+    ensures { λ r. ⌜ r ≡ getD (now (nexts .entry)) slot 0 ⌝ }
+{
+    wide(nexts[slot])
+}
+
+// Makes `s` the next statement of the frame in `slot`.
+pub fn go_to(nexts: &mut [u16; 512], slot: usize, s: usize)
+    requires { ⌜ (slot < 512) × (s < 65536) ⌝ }
+    ensures { λ _. ⌜ now (nexts .exit) ≡ set (now (nexts .entry)) slot s ⌝ }
+{
+    nexts[slot] = (s % 65536) as u16;
+}
+
+// What handle `h` refers to in the frame in `slot`.
+pub fn value_of(values: &[u8; 4096], slot: usize, h: usize) -> usize
+    requires { ⌜ slot < 512 ⌝ }
+    ensures { λ r. ⌜ (r ≡ getD (now (values .entry)) (valuePlace slot h) 0) × (r < 256) ⌝ }
+{
+    wide_byte(values[slot * 8 + h % 8])
+}
+
+// Lets handle `h` refer to `v` in the frame in `slot`.
+pub fn put_value(values: &mut [u8; 4096], slot: usize, h: usize, v: usize)
+    requires { ⌜ (slot < 512) × (v < 256) ⌝ }
+    ensures { λ _. ⌜ now (values .exit) ≡ set (now (values .entry)) (valuePlace slot h) v ⌝ }
+{
+    values[slot * 8 + h % 8] = (v % 256) as u8;
+}
+
+// The handle that is passed for parameter `k`; 0 where there is none.
+fn argument_of(arguments: Arguments, k: usize) -> usize
+    ensures { λ r. ⌜ r ≡ getD (passed arguments) k 0 ⌝ }
+{
+    match k {
+        0 => arguments.first,
+        1 => arguments.second,
+        2 => arguments.third,
+        3 => arguments.fourth,
+        _ => 0,
+    }
+}
+
+// What handle `h` of a routine whose handles begin at `from` refers to in a new frame, with arguments from the frame in slot `caller`.
+fn entry_value(numbers: &[i32], from: usize, h: usize, arguments: Arguments, values: &[u8; 4096], caller: usize) -> usize
+    requires { ⌜ (caller < 512) × (from ≤ h) × (h < length (tableOf (now numbers) .handles)) × Accepted (tableOf (now numbers)) ⌝ }
+    ensures { λ r. ⌜ (r ≡ startValue (tableOf (now (numbers .entry))) (now (values .entry)) caller from arguments h) × (r < 256) ⌝ }
+{
+    let declaration = table::declaration_of(numbers, h);
+    if declaration.origin == 0 {
+        value_of(values, caller, argument_of(arguments, h - from))
+    } else {
+        declaration.start
+    }
+}
+
+// Sets the handles `from` to `end`, those of one routine, in the new frame in `slot`: parameters to what the arguments refer to in the frame in slot
+// `caller`, locals to their starts.
+pub fn enter(numbers: &[i32], from: usize, end: usize, arguments: Arguments, values: &mut [u8; 4096], slot: usize, caller: usize)
+    requires { ⌜ Entering (tableOf (now numbers)) from end slot caller × (length (now values) ≡ 4096) ⌝ }
+    ensures { λ _. ⌜ Entered (tableOf (now (numbers .entry))) (now (values .entry)) (now (values .exit)) slot caller from end arguments ⌝ }
+{
+    let mut h = from;
+    while h < end {
+        let v = entry_value(numbers, from, h, arguments, values, caller);
+        put_value(values, slot, h, v);
+        h += 1;
+    }
+}

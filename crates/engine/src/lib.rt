@@ -1,0 +1,106 @@
+// The stepping engine: runs a schedule over a table text and leaves the answers and the cells.
+mod frames;
+mod operations;
+mod places;
+mod steps;
+
+ghost use mathlib.Core.Path.{_≡_};
+ghost use mathlib.Core.List.{_++_};
+ghost use Prim.Native.Nat.{_≤_};
+ghost use lib.ListN.{length, drop, replicate};
+ghost use Rattle.table.specs.Table.{tableOf};
+ghost use Rattle.table.specs.Accepted.{Accepted};
+ghost use Rattle.machine.specs.State.{start};
+ghost use Rattle.machine.specs.Engine.{engineRun, answers as answersOf};
+ghost use Rattle.engine.specs.Run.{outcomeOf, answersLeft, cellsLeft};
+
+use table::Statement;
+use table::Verdict;
+
+// What a call is answered with: 0 and line 0, or the number of a refusal 1 to 13 and its line.
+pub struct Outcome {
+    pub number: u32,
+    pub line: usize,
+}
+
+// What a step is answered with: the statement that ran, the statement that was refused and the number 16 to 19 of its refusal, or that the thread
+// has no next statement: 14, it is not started, or 15, it has ended.
+pub enum Step {
+    Ran(Statement),
+    Refused { number: u32, statement: Statement },
+    Nothing { number: u32 },
+}
+
+// The steps of a schedule from the start of an accepted table's run, with as many locks as `owners` is long.
+fn play(numbers: &[i32], schedule: &[u8], answers: &mut [u8], cells: &mut [i32], owners: &mut [usize])
+    requires { ⌜ Accepted (tableOf (now numbers)) × (length (now cells) ≡ tableOf (now numbers) .cells) × (now owners ≡ replicate (tableOf (now numbers) .locks) 0) × (length (now schedule) ≤ length (now answers)) ⌝ }
+    ensures { λ _. ⌜ now (answers .exit) ≡ answersOf (tableOf (now (numbers .entry))) (start (tableOf (now (numbers .entry)))) (now (schedule .entry)) ++ drop (length (now (schedule .entry))) (now (answers .entry)) ⌝ }
+    ensures { λ _. ⌜ now (cells .exit) ≡ engineRun (tableOf (now (numbers .entry))) (start (tableOf (now (numbers .entry)))) (now (schedule .entry)) .cells ⌝ }
+{
+    let first = table::first_statements(numbers);
+    let handle = table::first_handles(numbers);
+    let mut nexts = [0u16; 512];
+    let mut values = [0u8; 4096];
+    let mut counts = [0usize; 16];
+    let mut accumulators = [0i32; 16];
+    let mut started = 1;
+    places::clear(cells);
+    counts[0] = 1;
+    frames::enter(
+        numbers,
+        handle[0],
+        handle[1],
+        table::Arguments {
+            first: 0,
+            second: 0,
+            third: 0,
+            fourth: 0,
+        },
+        &mut values,
+        0,
+        1,
+    );
+    steps::follow(
+        numbers,
+        &first,
+        &handle,
+        schedule,
+        answers,
+        &mut started,
+        &mut nexts,
+        &mut values,
+        &mut counts,
+        &mut accumulators,
+        owners,
+        cells,
+    );
+}
+
+// Runs a schedule, each byte a thread number, over a table text. Accepted: one answer for each byte stands in the first places of `answers`, and the
+// final cell values in the first places of `cells`. Refused: both are as they were. Places past those written keep their contents.
+pub fn run(text: &[u8], schedule: &[u8], answers: &mut [u8], cells: &mut [i32]) -> Outcome
+    ensures outcome { λ r. ⌜ r ≡ outcomeOf (now (text .entry)) (now (schedule .entry)) (now (answers .entry)) (now (cells .entry)) ⌝ }
+    ensures answered { λ _. ⌜ now (answers .exit) ≡ answersLeft (now (text .entry)) (now (schedule .entry)) (now (answers .entry)) (now (cells .entry)) ⌝ }
+    ensures left { λ _. ⌜ now (cells .exit) ≡ cellsLeft (now (text .entry)) (now (schedule .entry)) (now (answers .entry)) (now (cells .entry)) ⌝ }
+{
+    let reading = table::read(text);
+    let verdict = reading.verdict;
+    match verdict {
+        Verdict::Refused { number, line } => Outcome { number, line },
+        Verdict::Accepted => {
+            let numbers = reading.numbers;
+            let counts = table::counts_of(&numbers[..]);
+            let count = counts.cells;
+            let locks = counts.locks;
+            if answers.len() < schedule.len() {
+                return Outcome { number: 13, line: 0 };
+            }
+            if cells.len() < count {
+                return Outcome { number: 13, line: 0 };
+            }
+            let mut owners = [0usize; 16];
+            play(&numbers[..], schedule, answers, &mut cells[..count], &mut owners[..locks]);
+            Outcome { number: 0, line: 0 }
+        }
+    }
+}
