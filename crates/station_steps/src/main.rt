@@ -1,0 +1,69 @@
+// Steps a table by a schedule and prints a line a step: 55, thread, answer, five zeros; or line 50 on refusal. The first argument names a file with the
+// table text, the second a file with the schedule, each byte a thread number.
+ghost use Prim.Native.Nat.{_≤_};
+use libc::STDOUT_FILENO;
+
+// Prints the line that begins with these three numbers.
+fn print_three(first: i32, second: i32, third: i32) {
+    let mut out = [0u8; 49];
+    lines::print_line(&mut out[..], 0, [first, second, third, 0, 0, 0, 0, 0]);
+    io::write_all(STDOUT_FILENO, &out[..]);
+}
+
+// One step: its thread and its answer.
+fn print_step(thread: u8, answer: u8) {
+    print_three(55, thread as i32, answer as i32);
+}
+
+fn print_steps(schedule: &[u8], answers: &[u8]) {
+    let mut i = 0;
+    while i < schedule.len() {
+        if i < answers.len() {
+            print_step(schedule[i], answers[i]);
+        }
+        i += 1;
+    }
+}
+
+fn print_refusal(number: u32, line: usize) {
+    if number < 100 {
+        if line < 1000 {
+            print_three(50, number as i32, line as i32);
+        }
+    }
+}
+
+fn step_through(text: &[u8], schedule: &[u8]) {
+    let mut answers = io::large_buffer();
+    let mut cells = [0i32; 64];
+    let outcome = engine::run(text, schedule, &mut answers[..], &mut cells[..]);
+    if outcome.number == 0 {
+        print_steps(schedule, &answers[..]);
+    } else {
+        print_refusal(outcome.number, outcome.line);
+    }
+}
+
+// Fills the buffer from the file that argument `i` names: how many bytes it has.
+fn load(i: usize, buffer: &mut [u8; 65536]) -> usize
+    ensures { λ r. ⌜ r ≤ 65536 ⌝ }
+{
+    let mut path = io::buffer();
+    let n = os::arg(i, &mut path);
+    let file = os::open_read(&path[..n]);
+    if file < 0 {
+        os::fail(&path[..n]);
+        return 0;
+    }
+    let count = io::read_full(file, &mut buffer[..]);
+    libc::close(file);
+    if count <= 65536 { count } else { 65536 }
+}
+
+fn main() {
+    let mut text = io::large_buffer();
+    let mut schedule = io::large_buffer();
+    let n = load(1, &mut text);
+    let k = load(2, &mut schedule);
+    step_through(&text[..n], &schedule[..k]);
+}
