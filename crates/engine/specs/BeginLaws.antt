@@ -44,7 +44,7 @@ module _ (numbers : List ℤ) (first handle : List ℕ) (accepted : Accepted (ta
         handle-is = handle-is;
         shows =
           record {
-            sizes = record { nexts = length-replicate 512 0; values = e .long ∙ length-replicate 4096 0; counts = refl; accumulators = refl };
+            sizes = record { nexts = length-replicate {A = ℕ} 512 0; values = e .long ∙ length-replicate {A = ℕ} 4096 0; counts = refl; accumulators = refl };
             started-is = refl;
             most = omega arith;
             cells-are = sym c;

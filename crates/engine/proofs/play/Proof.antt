@@ -1,3 +1,8 @@
+use mathlib.Core.Path.{sym, ap, _∙_, refl}
+use Prim.Native.Nat.{ℕ, _+_}
+use lib.IntN.{pos}
+use lib.ListN.{replicate}
+use Rattle.engine.specs.BeginLaws.{entering, beginning}
 use borrow.Author.Needs.{needs}
 use Rattle.engine.proofs.play.Statement.{statement}
 use Rattle.engine.proofs.play.Tie as tie
@@ -35,11 +40,11 @@ array-read-enter-2 c = search needs
 
 -- src/lib.rt:49:5
 enter-requires : tie.Need-enter-requires
-enter-requires c κs = ?
+enter-requires c κs = let p = c .before .before .before .before .before .before .before .before .before .pre in (entering _ _ _ (p .0) (c .before .before .before .before .before .first-statements .ensures) (c .before .before .before .before .first-handles .ensures), refl)
 
 -- src/lib.rt:63:5
 follow-requires : tie.Need-follow-requires
-follow-requires c κs = ?
+follow-requires c κs = let p = c .before .before .before .before .before .before .before .before .before .before .before .before .before .before .before .before .before .before .before .before .pre in (beginning _ _ _ (p .0) (c .before .before .before .before .before .before .before .before .before .before .before .before .before .before .before .before .first-statements .ensures) (c .before .before .before .before .before .before .before .before .before .before .before .before .before .before .before .first-handles .ensures) _ _ _ (c .before .before .before .before .before .before .before .before .before .before .enter .ensures) (p .2) (c .before .before .before .before .before .before .before .before .before .before .before .before .before .clear .ensures ∙ ap (λ (n : ℕ). replicate n (pos 0)) (p .1)), p .3)
 
 -- src/lib.rt:35:1
 same-length : tie.Need-same-length
