@@ -85,9 +85,12 @@ module _ (text schedule given : List ℕ) (cells : List ℤ) where
     left-run given′ part a b x y =
         let fit = le-leb (length schedule) (length given) a in
         let room = le-leb (tableIn text .cells) (length cells) (subst (λ (n : ℕ). n ≤ length cells) count-is b) in
-        let v = q .verdict-is in
-        (rw (v, fit, room),
-        (rw (v, fit, room) (x ∙ ap (λ (f : List ℤ). answers (tableOf f) (start (tableOf f)) schedule ++ drop (length schedule) given) (q .numbers-are)),
-        rw (v, fit, room)
-        (ap (λ (l : List ℤ). l ++ drop (k .cells) cells) (y ∙ ap (λ (f : List ℤ). engineRun (tableOf f) (start (tableOf f)) schedule .cells) (q .numbers-are))
-        ∙ ap (λ (n : ℕ). engineRun (tableIn text) (start (tableIn text)) schedule .cells ++ drop n cells) count-is)))
+        let v = q .verdict-is in (
+          rw (v, fit, room),
+          (
+            rw (v, fit, room) (x ∙ ap (λ (f : List ℤ). answers (tableOf f) (start (tableOf f)) schedule ++ drop (length schedule) given) (q .numbers-are)),
+            rw (v, fit, room)
+                (ap (λ (l : List ℤ). l ++ drop (k .cells) cells) (y ∙ ap (λ (f : List ℤ). engineRun (tableOf f) (start (tableOf f)) schedule .cells) (q .numbers-are))
+                ∙ ap (λ (n : ℕ). engineRun (tableIn text) (start (tableIn text)) schedule .cells ++ drop n cells) count-is),
+          ),
+        )
