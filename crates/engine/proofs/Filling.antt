@@ -48,12 +48,12 @@ setting-next t values new slot caller from end h v arguments s few low l e =
       low = omega (arith, s .low);
       size = s .size;
       entered =
-        record {
-          long = length-set new (valuePlace slot h) v ∙ s .entered .long;
-          set-here = λ k a b. at k a b (ℕ-discrete k h);
-          kept-below = λ i b. getD-set-other new (valuePlace slot h) i v 0 (λ q. omega arith) ∙ s .entered .kept-below i b;
-          kept-above = λ i b. getD-set-other new (valuePlace slot h) i v 0 (λ q. omega arith) ∙ s .entered .kept-above i b;
-        };
+          record {
+            long = length-set new (valuePlace slot h) v ∙ s .entered .long;
+            set-here = λ k a b. at k a b (ℕ-discrete k h);
+            kept-below = λ i b. getD-set-other new (valuePlace slot h) i v 0 (λ q. omega arith) ∙ s .entered .kept-below i b;
+            kept-above = λ i b. getD-set-other new (valuePlace slot h) i v 0 (λ q. omega arith) ∙ s .entered .kept-above i b;
+          };
     }
   where
     at : (k : ℕ) → from ≤ k → k < h + 1 → Dec (k ≡ h) → getD (set new (valuePlace slot h) v) (valuePlace slot k) 0 ≡ startValue t values caller from arguments k

@@ -177,5 +177,5 @@ module _ (numbers : List ℤ) (first handle : List ℕ) (a : Arrays) (n slot nex
     pub did-return : (counts : List ℕ) → σ ≡ Return → counts ≡ set (a .counts) n (getD (a .counts) n 0 - 1)
         → Stepped (tableOf numbers) (arrays (a .started) (a .nexts) (a .values) counts (a .accumulators) (a .owners) (a .cells)) state n (Ran σ)
     did-return counts e x =
-        subst (λ (ρ : Statement). Stepped (tableOf numbers) _ state n (Ran ρ)) (sym e)
+        subst (λ (ρ : Statement). Stepped (tableOf numbers) (arrays (a .started) (a .nexts) (a .values) counts (a .accumulators) (a .owners) (a .cells)) state n (Ran ρ)) (sym e)
         (return-step (tableOf numbers) accepted a state n slot s (here .low) (p state s) next (at state s) counts (is state s Return e) x)

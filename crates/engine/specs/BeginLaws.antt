@@ -22,7 +22,7 @@ all-free zero = refl
 all-free (suc n) = ap (λ (l : List Holder). free ∷ l) (all-free n)
 
 module _ (numbers : List ℤ) (first handle : List ℕ) (accepted : Accepted (tableOf numbers)) (first-is : first ≡ tabulate 33 (firstOf numbers))
-  (handle-is : handle ≡ tabulate 33 (handlesFrom numbers)) where
+    (handle-is : handle ≡ tabulate 33 (handlesFrom numbers)) where
   looked : LookedUp (tableOf numbers) first handle 0
   looked = looked-up numbers first handle 0 accepted first-is handle-is (omega (arith, accepted .routines-some))
 
@@ -43,14 +43,14 @@ module _ (numbers : List ℤ) (first handle : List ℕ) (accepted : Accepted (ta
         first-is = first-is;
         handle-is = handle-is;
         shows =
-          record {
-            sizes = record { nexts = length-replicate 512 0; values = e .long ∙ length-replicate 4096 0; counts = refl; accumulators = refl };
-            started-is = refl;
-            most = omega arith;
-            cells-are = sym c;
-            locks-are = all-free (tableOf numbers .locks) ∙ ap (map holderOf) (sym o);
-            thread-is = λ m l. only m l;
-          };
+            record {
+              sizes = record { nexts = length-replicate {A = ℕ} 512 0; values = e .long ∙ length-replicate {A = ℕ} 4096 0; counts = refl; accumulators = refl };
+              started-is = refl;
+              most = omega arith;
+              cells-are = sym c;
+              locks-are = all-free (tableOf numbers .locks) ∙ ap (map holderOf) (sym o);
+              thread-is = λ m l. only m l;
+            };
       }
     where
       frame-there : getD (replicate 512 0) 0 0 ≡ routine (tableOf numbers) 0 .first
@@ -62,12 +62,13 @@ module _ (numbers : List ℤ) (first handle : List ℕ) (accepted : Accepted (ta
             count-is = refl;
             few = omega arith;
             accumulator-is = refl;
-            frames =
-              (opened-shown (tableOf numbers) accepted (replicate 512 0) (replicate 4096 0) values [] 0 1 0 (record { first = 0; second = 0; third = 0; fourth = 0 })
-              (omega (arith, accepted .routines-some)) frame-there
-              (subst (λ (i : ℕ). Entered (tableOf numbers) (replicate 4096 0) values 0 1 (routine (tableOf numbers) 0 .handle) i (record { first = 0; second = 0; third = 0; fourth = 0 })) (looked .end-is)
-              (subst (λ (i : ℕ). Entered (tableOf numbers) (replicate 4096 0) values 0 1 i (getD handle 1 0) (record { first = 0; second = 0; third = 0; fourth = 0 })) (looked .from-is) e))
-              (λ k b. absurd (omega (arith, accepted .first-parameters))),
-              tt);
+            frames = (
+              opened-shown (tableOf numbers) accepted (replicate 512 0) (replicate 4096 0) values [] 0 1 0 (record { first = 0; second = 0; third = 0; fourth = 0 })
+                  (omega (arith, accepted .routines-some)) frame-there
+                  (subst (λ (i : ℕ). Entered (tableOf numbers) (replicate 4096 0) values 0 1 (routine (tableOf numbers) 0 .handle) i (record { first = 0; second = 0; third = 0; fourth = 0 })) (looked .end-is)
+                  (subst (λ (i : ℕ). Entered (tableOf numbers) (replicate 4096 0) values 0 1 i (getD handle 1 0) (record { first = 0; second = 0; third = 0; fourth = 0 })) (looked .from-is) e))
+                  (λ k b. absurd (omega (arith, accepted .first-parameters))),
+              tt,
+            );
           }
       only (suc m) l = absurd (omega arith)

@@ -6,3 +6,4 @@ pub mod TableLaws
 pub mod StepLaws
 pub mod RunLaws
 pub mod BeginLaws
+pub mod OutcomeLaws

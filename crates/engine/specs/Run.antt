@@ -2,7 +2,7 @@
 use Prim.Native.Nat.{ℕ}
 use mathlib.Core.Bool.{Bool, true, false, cond, _&&_}
 use mathlib.Core.List.{List, _++_}
-use lib.Dec.{eqb, leb}
+use lib.Dec.{leb}
 use lib.IntN.{ℤ}
 use lib.ListN.{length, drop}
 use Rattle.lines.specs.Line.{numbersOf}
@@ -23,24 +23,29 @@ abbrev pub outcomeBy : Verdict → Bool → Outcome
 outcomeBy Accepted fit = record { number = cond fit 0 13; line = 0 }
 outcomeBy (Refused number line) fit = record { number = number; line = line }
 
--- what is returned, for lists of these lengths
-unfoldable pub outcomeOf : List ℕ → List ℕ → List ℕ → List ℤ → Outcome
-outcomeOf text schedule given cells =
-    let fit = leb (length schedule) (length given) && leb (tableIn text .cells) (length cells) in
-    outcomeBy (verdict text) fit
-
 -- whether the call is accepted
-abbrev pub runs : List ℕ → List ℕ → List ℕ → List ℤ → Bool
-runs text schedule given cells = eqb (outcomeOf text schedule given cells .number) 0
+abbrev pub runsBy : Verdict → Bool → Bool
+runsBy Accepted fit = fit
+runsBy (Refused number line) fit = false
+
+-- the lent lists have the places that the schedule and the cells need
+abbrev pub fits : List ℕ → List ℕ → List ℕ → List ℤ → Bool
+fits text schedule given cells = leb (length schedule) (length given) && leb (tableIn text .cells) (length cells)
+
+-- what is returned
+unfoldable pub outcomeOf : List ℕ → List ℕ → List ℕ → List ℤ → Outcome
+outcomeOf text schedule given cells = let fit = fits text schedule given cells in outcomeBy (verdict text) fit
 
 -- "fills one answer byte for each"; "Places past those written keep their contents"; a refused call changes nothing
 unfoldable pub answersLeft : List ℕ → List ℕ → List ℕ → List ℤ → List ℕ
 answersLeft text schedule given cells =
+    let fit = fits text schedule given cells in
     let written = answers (tableIn text) (start (tableIn text)) schedule ++ drop (length schedule) given in
-    cond (runs text schedule given cells) written given
+    cond (runsBy (verdict text) fit) written given
 
 -- "leaves the final cell values in a lent list"
 unfoldable pub cellsLeft : List ℕ → List ℕ → List ℕ → List ℤ → List ℤ
 cellsLeft text schedule given cells =
+    let fit = fits text schedule given cells in
     let written = engineRun (tableIn text) (start (tableIn text)) schedule .cells ++ drop (tableIn text .cells) cells in
-    cond (runs text schedule given cells) written cells
+    cond (runsBy (verdict text) fit) written cells

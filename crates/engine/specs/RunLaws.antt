@@ -49,7 +49,7 @@ module _ (numbers : List ℤ) (first handle schedule answers₀ : List ℕ) wher
   following-start a b l =
       record {
         standing =
-          record { accepted = b .accepted; first-is = b .first-is; handle-is = b .handle-is; state = start (tableOf numbers); shows = b .shows };
+            record { accepted = b .accepted; first-is = b .first-is; handle-is = b .handle-is; state = start (tableOf numbers); shows = b .shows };
         low = omega arith;
         room = l;
         long = refl;
@@ -71,25 +71,25 @@ module _ (numbers : List ℤ) (first handle schedule answers₀ : List ℕ) wher
       let inside : i < length given = omega (arith, f .long, f .room) in
       record {
         standing =
-          record {
-            accepted = f .standing .accepted;
-            first-is = f .standing .first-is;
-            handle-is = f .standing .handle-is;
-            state = after state (engineStep t state n);
-            shows = q .shows;
-          };
+            record {
+              accepted = f .standing .accepted;
+              first-is = f .standing .first-is;
+              handle-is = f .standing .handle-is;
+              state = after state (engineStep t state n);
+              shows = q .shows;
+            };
         low = omega arith;
         room = f .room;
         long = length-set given i v ∙ f .long;
         rest = ap (λ (ns : List ℕ). engineRun t state ns) (sym here) ∙ f .rest;
         written =
-          ap (λ (l : List ℕ). l ++ answers t (after state (engineStep t state n)) (drop (i + 1) schedule))
-          (ap (λ (j : ℕ). take j (set given i v)) (add-one i) ∙ take-suc-set given i v inside)
-          ∙ append-assoc (take i given) (v ∷ []) (answers t (after state (engineStep t state n)) (drop (i + 1) schedule))
-          ∙ ap (λ (x : ℕ). take i given ++ x ∷ answers t (after state (engineStep t state n)) (drop (i + 1) schedule)) value
-          ∙ ap (λ (ns : List ℕ). take i given ++ answers t state ns) (sym here) ∙ f .written;
+            ap (λ (l : List ℕ). l ++ answers t (after state (engineStep t state n)) (drop (i + 1) schedule))
+            (ap (λ (j : ℕ). take j (set given i v)) (add-one i) ∙ take-suc-set given i v inside)
+            ∙ append-assoc (take i given) (v ∷ []) (answers t (after state (engineStep t state n)) (drop (i + 1) schedule))
+            ∙ ap (λ (x : ℕ). take i given ++ x ∷ answers t (after state (engineStep t state n)) (drop (i + 1) schedule)) value
+            ∙ ap (λ (ns : List ℕ). take i given ++ answers t state ns) (sym here) ∙ f .written;
         behind =
-          drop-set-lt (i + 1) given i v (omega arith) ∙ sym (drop-drop 1 i given) ∙ ap (drop 1) (f .behind) ∙ drop-drop 1 i answers₀;
+            drop-set-lt (i + 1) given i v (omega arith) ∙ sym (drop-drop 1 i given) ∙ ap (drop 1) (f .behind) ∙ drop-drop 1 i answers₀;
       }
 
   pub following-done : (a : Arrays) (given : List ℕ) (i : ℕ) → Following numbers first handle schedule answers₀ a given i → length schedule ≤ i
@@ -102,6 +102,7 @@ module _ (numbers : List ℤ) (first handle schedule answers₀ : List ℕ) wher
       let none : drop i schedule ≡ [] = drop-of-length-le schedule l in
       let end : i ≡ length schedule = omega (arith, f .low) in
       let all : take i given ≡ answers t (start t) schedule =
-      sym (append-nil (take i given)) ∙ ap (λ (ns : List ℕ). take i given ++ answers t state ns) (sym none) ∙ f .written in
-      (sym (take-append-drop i given) ∙ ap₂ (λ (x y : List ℕ). x ++ y) all (f .behind) ∙ ap (λ (j : ℕ). answers t (start t) schedule ++ drop j answers₀) end,
-      sym (f .standing .shows .cells-are) ∙ ap (λ (ns : List ℕ). engineRun t state ns .cells) (sym none) ∙ ap (λ (x : State). x .cells) (f .rest))
+      sym (append-nil (take i given)) ∙ ap (λ (ns : List ℕ). take i given ++ answers t state ns) (sym none) ∙ f .written in (
+        sym (take-append-drop i given) ∙ ap₂ (λ (x y : List ℕ). x ++ y) all (f .behind) ∙ ap (λ (j : ℕ). answers t (start t) schedule ++ drop j answers₀) end,
+        sym (f .standing .shows .cells-are) ∙ ap (λ (ns : List ℕ). engineRun t state ns .cells) (sym none) ∙ ap (λ (x : State). x .cells) (f .rest),
+      )

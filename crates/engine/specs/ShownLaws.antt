@@ -72,10 +72,11 @@ module _ (t : Table) where
   pub frames-kept : (nexts nexts′ values values′ : List ℕ) (base high : ℕ) (fs : List Frame) → ShowsFrames t nexts values base fs
       → Kept nexts nexts′ values values′ base high → base + length fs ≤ high → ShowsFrames t nexts′ values′ base fs
   frames-kept nexts nexts′ values values′ base high [] s k l = tt
-  frames-kept nexts nexts′ values values′ base high (f ∷ fs) s k l =
-      (frame-kept nexts nexts′ values values′ (base + length fs) f (s .0)
-        (record { nexts-kept = λ i a b. k .nexts-kept i (omega arith) (omega arith); values-kept = λ i j a b c. k .values-kept i j (omega arith) (omega arith) c })
-      , frames-kept nexts nexts′ values values′ base high fs (s .1) k (omega arith))
+  frames-kept nexts nexts′ values values′ base high (f ∷ fs) s k l = (
+    frame-kept nexts nexts′ values values′ (base + length fs) f (s .0)
+        (record { nexts-kept = λ i a b. k .nexts-kept i (omega arith) (omega arith); values-kept = λ i j a b c. k .values-kept i j (omega arith) (omega arith) c }),
+    frames-kept nexts nexts′ values values′ base high fs (s .1) k (omega arith),
+  )
 
   pub thread-kept : (nexts nexts′ values values′ : List ℕ) (base count : ℕ) (a : ℤ) (th : Thread) → ShowsThread t nexts values base count a th
       → Kept nexts nexts′ values values′ base (base + 32) → ShowsThread t nexts′ values′ base count a th

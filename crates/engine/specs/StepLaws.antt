@@ -183,9 +183,10 @@ module _ (t : Table) (accepted : Accepted t) (a : Arrays) (state : State) (n slo
         count-is = p .count-is;
         few = omega (arith, p .count-is, p .few);
         accumulator-is = k .own;
-        frames =
-          (subst (λ (i : ℕ). ShowsFrame t (set (a .nexts) slot x) (a .values) i (going (p .f) x)) (p .slot-is) (going-shown x inside),
-          rest-kept (set (a .nexts) slot x) (a .values) (kept-next (a .nexts) (a .values) slot x (n * 32) slot (λ i v w e. omega arith)));
+        frames = (
+          subst (λ (i : ℕ). ShowsFrame t (set (a .nexts) slot x) (a .values) i (going (p .f) x)) (p .slot-is) (going-shown x inside),
+          rest-kept (set (a .nexts) slot x) (a .values) (kept-next (a .nexts) (a .values) slot x (n * 32) slot (λ i v w e. omega arith)),
+        );
       })
       c l
 
@@ -302,12 +303,12 @@ module _ (t : Table) (accepted : Accepted t) (a : Arrays) (state : State) (n slo
         (one-thread t a (arrays (a .started) (a .nexts) (a .values) (set (a .counts) n (getD (a .counts) n 0 - 1)) (a .accumulators) (a .owners) (a .cells)) n
         (record {
           sizes =
-            record {
-              nexts = s .sizes .nexts;
-              values = s .sizes .values;
-              counts = length-set (a .counts) n (getD (a .counts) n 0 - 1) ∙ s .sizes .counts;
-              accumulators = s .sizes .accumulators;
-            };
+              record {
+                nexts = s .sizes .nexts;
+                values = s .sizes .values;
+                counts = length-set (a .counts) n (getD (a .counts) n 0 - 1) ∙ s .sizes .counts;
+                accumulators = s .sizes .accumulators;
+              };
           slots = λ m apart. record { nexts-kept = λ i v w. refl; values-kept = λ i j v w k. refl };
           counts = λ m apart. getD-set-other (a .counts) n m (getD (a .counts) n 0 - 1) 0 apart;
           accumulators = λ m apart. refl;
@@ -441,7 +442,7 @@ module _ (t : Table) (accepted : Accepted t) (a : Arrays) (state : State) (n slo
     -- ---- CALL
 
     module _ (q : ℕ) (arguments : Arguments) (first from end : ℕ) (first-is : first ≡ routine t q .first) (from-is : from ≡ routine t q .handle)
-      (end-is : end ≡ routine t q .handle + routine t q .handles) where
+        (end-is : end ≡ routine t q .handle + routine t q .handles) where
       -- a new frame of the named routine in another slot
       new-frame : (nexts values : List ℕ) (there : ℕ) → Passes t (p .f .routine) q arguments → getD nexts there 0 ≡ first
           → Entered t (a .values) values there slot from end arguments → ShowsFrame t nexts values there (opened t q (p .f .values) arguments)
@@ -464,12 +465,12 @@ module _ (t : Table) (accepted : Accepted t) (a : Arrays) (state : State) (n slo
           (one-thread t a (arrays (a .started) nexts′ values counts′ (a .accumulators) (a .owners) (a .cells)) n
           (record {
             sizes =
-              record {
-                nexts = length-set going-on (slot + 1) first ∙ length-set (a .nexts) slot (p .f .next + 1) ∙ s .sizes .nexts;
-                values = w .entered .long ∙ s .sizes .values;
-                counts = length-set (a .counts) n (getD (a .counts) n 0 + 1) ∙ s .sizes .counts;
-                accumulators = s .sizes .accumulators;
-              };
+                record {
+                  nexts = length-set going-on (slot + 1) first ∙ length-set (a .nexts) slot (p .f .next + 1) ∙ s .sizes .nexts;
+                  values = w .entered .long ∙ s .sizes .values;
+                  counts = length-set (a .counts) n (getD (a .counts) n 0 + 1) ∙ s .sizes .counts;
+                  accumulators = s .sizes .accumulators;
+                };
             slots = λ m apart. kept (m * 32) (m * 32 + 32) (λ i v u. own-slot m i apart v u) (λ i v u z. omega (arith, p .slot-is, p .count-is, w .free, apart));
             counts = λ m apart. getD-set-other (a .counts) n m (getD (a .counts) n 0 + 1) 0 apart;
             accumulators = λ m apart. refl;
@@ -482,15 +483,18 @@ module _ (t : Table) (accepted : Accepted t) (a : Arrays) (state : State) (n slo
             count-is = c;
             few = omega (arith, c, p .count-is, w .free);
             accumulator-is = p .accumulator-is;
-            frames =
-              (subst (λ (i : ℕ). ShowsFrame t nexts′ values i (opened t q (p .f .values) arguments)) above
-              (new-frame nexts′ values (slot + 1) (operands-of (Call q arguments) e)
-              (getD-set-same going-on (slot + 1) first 0 (omega (arith, length-set (a .nexts) slot (p .f .next + 1), s .sizes .nexts, s .most, p .slot-is, p .count-is, w .free)))
-              (w .entered)),
-              (subst (λ (i : ℕ). ShowsFrame t nexts′ values i (going (p .f) (p .f .next + 1))) (p .slot-is)
-              (frame-kept t going-on nexts′ (a .values) values slot (going (p .f) (p .f .next + 1)) (going-shown (p .f .next + 1) (after-it (Call q arguments) e))
-              (opening slot (slot + 1) (λ i v u z. omega arith))),
-              rest-kept nexts′ values (kept (n * 32) slot (λ i v u z. omega arith) (λ i v u z. omega arith))));
+            frames = (
+              subst (λ (i : ℕ). ShowsFrame t nexts′ values i (opened t q (p .f .values) arguments)) above
+                  (new-frame nexts′ values (slot + 1) (operands-of (Call q arguments) e)
+                  (getD-set-same going-on (slot + 1) first 0 (omega (arith, length-set (a .nexts) slot (p .f .next + 1), s .sizes .nexts, s .most, p .slot-is, p .count-is, w .free)))
+                  (w .entered)),
+              (
+                subst (λ (i : ℕ). ShowsFrame t nexts′ values i (going (p .f) (p .f .next + 1))) (p .slot-is)
+                    (frame-kept t going-on nexts′ (a .values) values slot (going (p .f) (p .f .next + 1)) (going-shown (p .f .next + 1) (after-it (Call q arguments) e))
+                    (opening slot (slot + 1) (λ i v u z. omega arith))),
+                rest-kept nexts′ values (kept (n * 32) slot (λ i v u z. omega arith) (λ i v u z. omega arith)),
+              ),
+            );
           })
           (s .cells-are) (s .locks-are)))
         where
@@ -534,12 +538,12 @@ module _ (t : Table) (accepted : Accepted t) (a : Arrays) (state : State) (n slo
           (added t mid new (a .started)
           (record {
             sizes =
-              record {
-                nexts = length-set going-on (a .started * 32) first ∙ length-set (a .nexts) slot (p .f .next + 1) ∙ s .sizes .nexts;
-                values = w .entered .long ∙ s .sizes .values;
-                counts = length-set (a .counts) (a .started) 1 ∙ s .sizes .counts;
-                accumulators = length-set (a .accumulators) (a .started) (pos 0) ∙ s .sizes .accumulators;
-              };
+                record {
+                  nexts = length-set going-on (a .started * 32) first ∙ length-set (a .nexts) slot (p .f .next + 1) ∙ s .sizes .nexts;
+                  values = w .entered .long ∙ s .sizes .values;
+                  counts = length-set (a .counts) (a .started) 1 ∙ s .sizes .counts;
+                  accumulators = length-set (a .accumulators) (a .started) (pos 0) ∙ s .sizes .accumulators;
+                };
             slots = λ m apart. opening (m * 32) (m * 32 + 32) (λ i v u z. omega (arith, apart));
             counts = λ m apart. getD-set-other (a .counts) (a .started) m 1 0 apart;
             accumulators = λ m apart. getD-set-other (a .accumulators) (a .started) m (pos 0) (pos 0) apart;
@@ -552,12 +556,13 @@ module _ (t : Table) (accepted : Accepted t) (a : Arrays) (state : State) (n slo
             count-is = getD-set-same (a .counts) (a .started) 1 0 (omega (arith, s .sizes .counts, w .free));
             few = omega (arith, getD-set-same (a .counts) (a .started) 1 0 (omega (arith, s .sizes .counts, w .free)));
             accumulator-is = getD-set-same (a .accumulators) (a .started) (pos 0) (pos 0) (omega (arith, s .sizes .accumulators, w .free));
-            frames =
-              (subst (λ (i : ℕ). ShowsFrame t nexts′ values i (opened t q (p .f .values) arguments)) above
-              (new-frame nexts′ values (a .started * 32) (operands-of (Start q arguments) e)
-              (getD-set-same going-on (a .started * 32) first 0 (omega (arith, length-set (a .nexts) slot (p .f .next + 1), s .sizes .nexts, w .free)))
-              (w .entered)),
-              tt);
+            frames = (
+              subst (λ (i : ℕ). ShowsFrame t nexts′ values i (opened t q (p .f .values) arguments)) above
+                  (new-frame nexts′ values (a .started * 32) (operands-of (Start q arguments) e)
+                  (getD-set-same going-on (a .started * 32) first 0 (omega (arith, length-set (a .nexts) slot (p .f .next + 1), s .sizes .nexts, w .free)))
+                  (w .entered)),
+              tt,
+            );
           })
           refl refl))
         where

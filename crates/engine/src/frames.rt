@@ -68,7 +68,14 @@ fn argument_of(arguments: Arguments, k: usize) -> usize
 }
 
 // What handle `h` of a routine whose handles begin at `from` refers to in a new frame, with arguments from the frame in slot `caller`.
-fn entry_value(numbers: &[i32], from: usize, h: usize, arguments: Arguments, values: &[u8; 4096], caller: usize) -> usize
+fn entry_value(
+    numbers: &[i32],
+    from: usize,
+    h: usize,
+    arguments: Arguments,
+    values: &[u8; 4096],
+    caller: usize,
+) -> usize
     requires { ⌜ (caller < 512) × (from ≤ h) × (h < length (tableOf (now numbers) .handles)) × Accepted (tableOf (now numbers)) ⌝ }
     ensures { λ r. ⌜ (r ≡ startValue (tableOf (now (numbers .entry))) (now (values .entry)) caller from arguments h) × (r < 256) ⌝ }
 {
@@ -82,7 +89,15 @@ fn entry_value(numbers: &[i32], from: usize, h: usize, arguments: Arguments, val
 
 // Sets the handles `from` to `end`, those of one routine, in the new frame in `slot`: parameters to what the arguments refer to in the frame in slot
 // `caller`, locals to their starts.
-pub fn enter(numbers: &[i32], from: usize, end: usize, arguments: Arguments, values: &mut [u8; 4096], slot: usize, caller: usize)
+pub fn enter(
+    numbers: &[i32],
+    from: usize,
+    end: usize,
+    arguments: Arguments,
+    values: &mut [u8; 4096],
+    slot: usize,
+    caller: usize,
+)
     requires { ⌜ Entering (tableOf (now numbers)) from end slot caller × (length (now values) ≡ 4096) ⌝ }
     ensures { λ _. ⌜ Entered (tableOf (now (numbers .entry))) (now (values .entry)) (now (values .exit)) slot caller from end arguments ⌝ }
 {

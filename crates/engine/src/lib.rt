@@ -13,7 +13,6 @@ ghost use Rattle.table.specs.Accepted.{Accepted};
 ghost use Rattle.machine.specs.State.{start};
 ghost use Rattle.machine.specs.Engine.{engineRun, answers as answersOf};
 ghost use Rattle.engine.specs.Run.{outcomeOf, answersLeft, cellsLeft};
-
 use table::Statement;
 use table::Verdict;
 
@@ -32,7 +31,13 @@ pub enum Step {
 }
 
 // The steps of a schedule from the start of an accepted table's run, with as many locks as `owners` is long.
-fn play(numbers: &[i32], schedule: &[u8], answers: &mut [u8], cells: &mut [i32], owners: &mut [usize])
+fn play(
+    numbers: &[i32],
+    schedule: &[u8],
+    answers: &mut [u8],
+    cells: &mut [i32],
+    owners: &mut [usize],
+)
     requires { ⌜ Accepted (tableOf (now numbers)) × (length (now cells) ≡ tableOf (now numbers) .cells) × (now owners ≡ replicate (tableOf (now numbers) .locks) 0) × (length (now schedule) ≤ length (now answers)) ⌝ }
     ensures { λ _. ⌜ now (answers .exit) ≡ answersOf (tableOf (now (numbers .entry))) (start (tableOf (now (numbers .entry)))) (now (schedule .entry)) ++ drop (length (now (schedule .entry))) (now (answers .entry)) ⌝ }
     ensures { λ _. ⌜ now (cells .exit) ≡ engineRun (tableOf (now (numbers .entry))) (start (tableOf (now (numbers .entry)))) (now (schedule .entry)) .cells ⌝ }
@@ -93,13 +98,25 @@ pub fn run(text: &[u8], schedule: &[u8], answers: &mut [u8], cells: &mut [i32]) 
             let count = counts.cells;
             let locks = counts.locks;
             if answers.len() < schedule.len() {
-                return Outcome { number: 13, line: 0 };
+                return Outcome {
+                    number: 13,
+                    line: 0,
+                };
             }
             if cells.len() < count {
-                return Outcome { number: 13, line: 0 };
+                return Outcome {
+                    number: 13,
+                    line: 0,
+                };
             }
             let mut owners = [0usize; 16];
-            play(&numbers[..], schedule, answers, &mut cells[..count], &mut owners[..locks]);
+            play(
+                &numbers[..],
+                schedule,
+                answers,
+                &mut cells[..count],
+                &mut owners[..locks],
+            );
             Outcome { number: 0, line: 0 }
         }
     }

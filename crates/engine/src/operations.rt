@@ -23,7 +23,16 @@ use crate::places::wrapped_sum;
 use table::Arguments;
 
 // READ: "accumulator becomes the cell's value".
-pub fn read(h: usize, n: usize, slot: usize, next: usize, nexts: &mut [u16; 512], values: &[u8; 4096], accumulators: &mut [i32; 16], cells: &[i32])
+pub fn read(
+    h: usize,
+    n: usize,
+    slot: usize,
+    next: usize,
+    nexts: &mut [u16; 512],
+    values: &[u8; 4096],
+    accumulators: &mut [i32; 16],
+    cells: &[i32],
+)
     requires { ⌜ Placed n slot next ⌝ }
     ensures { λ _. ⌜ (now (nexts .exit) ≡ set (now (nexts .entry)) slot (next + 1)) × (now (accumulators .exit) ≡ set (now (accumulators .entry)) n (getD (now (cells .entry)) (getD (now (values .entry)) (valuePlace slot h) 0) (pos 0))) ⌝ }
 {
@@ -32,16 +41,36 @@ pub fn read(h: usize, n: usize, slot: usize, next: usize, nexts: &mut [u16; 512]
 }
 
 // WRITE: "cell becomes the accumulator".
-pub fn write(h: usize, n: usize, slot: usize, next: usize, nexts: &mut [u16; 512], values: &[u8; 4096], accumulators: &[i32; 16], cells: &mut [i32])
+pub fn write(
+    h: usize,
+    n: usize,
+    slot: usize,
+    next: usize,
+    nexts: &mut [u16; 512],
+    values: &[u8; 4096],
+    accumulators: &[i32; 16],
+    cells: &mut [i32],
+)
     requires { ⌜ Placed n slot next ⌝ }
     ensures { λ _. ⌜ (now (nexts .exit) ≡ set (now (nexts .entry)) slot (next + 1)) × (now (cells .exit) ≡ set (now (cells .entry)) (getD (now (values .entry)) (valuePlace slot h) 0) (getD (now (accumulators .entry)) n (pos 0))) ⌝ }
 {
-    put_cell(cells, value_of(values, slot, h), accumulator_of(accumulators, n));
+    put_cell(
+        cells,
+        value_of(values, slot, h),
+        accumulator_of(accumulators, n),
+    );
     go_to(nexts, slot, next + 1);
 }
 
 // SET: "accumulator becomes it".
-pub fn set(number: i32, n: usize, slot: usize, next: usize, nexts: &mut [u16; 512], accumulators: &mut [i32; 16])
+pub fn set(
+    number: i32,
+    n: usize,
+    slot: usize,
+    next: usize,
+    nexts: &mut [u16; 512],
+    accumulators: &mut [i32; 16],
+)
     requires { ⌜ Placed n slot next ⌝ }
     ensures { λ _. ⌜ (now (nexts .exit) ≡ set (now (nexts .entry)) slot (next + 1)) × (now (accumulators .exit) ≡ set (now (accumulators .entry)) n number) ⌝ }
 {
@@ -50,7 +79,14 @@ pub fn set(number: i32, n: usize, slot: usize, next: usize, nexts: &mut [u16; 51
 }
 
 // ADD: "added, wrapping as 32-bit two's complement".
-pub fn add(number: i32, n: usize, slot: usize, next: usize, nexts: &mut [u16; 512], accumulators: &mut [i32; 16])
+pub fn add(
+    number: i32,
+    n: usize,
+    slot: usize,
+    next: usize,
+    nexts: &mut [u16; 512],
+    accumulators: &mut [i32; 16],
+)
     requires { ⌜ Placed n slot next ⌝ }
     ensures { λ _. ⌜ (now (nexts .exit) ≡ set (now (nexts .entry)) slot (next + 1)) × (now (accumulators .exit) ≡ set (now (accumulators .entry)) n (wrap (getD (now (accumulators .entry)) n (pos 0) +ℤ number))) ⌝ }
 {
@@ -59,7 +95,15 @@ pub fn add(number: i32, n: usize, slot: usize, next: usize, nexts: &mut [u16; 51
 }
 
 // TAKE: "the free lock becomes this thread's"; 16 where it is held.
-pub fn take(h: usize, n: usize, slot: usize, next: usize, nexts: &mut [u16; 512], values: &[u8; 4096], owners: &mut [usize]) -> u32
+pub fn take(
+    h: usize,
+    n: usize,
+    slot: usize,
+    next: usize,
+    nexts: &mut [u16; 512],
+    values: &[u8; 4096],
+    owners: &mut [usize],
+) -> u32
     requires { ⌜ Placed n slot next ⌝ }
     ensures { λ r. ⌜ Locked 16 0 (n + 1) r (now (nexts .entry)) (now (nexts .exit)) (now (owners .entry)) (now (owners .exit)) slot next (getD (now (values .entry)) (valuePlace slot h) 0) ⌝ }
 {
@@ -73,7 +117,15 @@ pub fn take(h: usize, n: usize, slot: usize, next: usize, nexts: &mut [u16; 512]
 }
 
 // GIVE: "this thread's lock becomes free"; 17 where it is not this thread's.
-pub fn give(h: usize, n: usize, slot: usize, next: usize, nexts: &mut [u16; 512], values: &[u8; 4096], owners: &mut [usize]) -> u32
+pub fn give(
+    h: usize,
+    n: usize,
+    slot: usize,
+    next: usize,
+    nexts: &mut [u16; 512],
+    values: &[u8; 4096],
+    owners: &mut [usize],
+) -> u32
     requires { ⌜ Placed n slot next ⌝ }
     ensures { λ r. ⌜ Locked 17 (n + 1) 0 r (now (nexts .entry)) (now (nexts .exit)) (now (owners .entry)) (now (owners .exit)) slot next (getD (now (values .entry)) (valuePlace slot h) 0) ⌝ }
 {
@@ -87,7 +139,14 @@ pub fn give(h: usize, n: usize, slot: usize, next: usize, nexts: &mut [u16; 512]
 }
 
 // POINT: "h refers to what g refers to".
-pub fn point(h: usize, g: usize, slot: usize, next: usize, nexts: &mut [u16; 512], values: &mut [u8; 4096])
+pub fn point(
+    h: usize,
+    g: usize,
+    slot: usize,
+    next: usize,
+    nexts: &mut [u16; 512],
+    values: &mut [u8; 4096],
+)
     requires { ⌜ (slot < 512) × (next < 512) ⌝ }
     ensures { λ _. ⌜ (now (nexts .exit) ≡ set (now (nexts .entry)) slot (next + 1)) × (now (values .exit) ≡ set (now (values .entry)) (valuePlace slot h) (getD (now (values .entry)) (valuePlace slot g) 0)) ⌝ }
 {
@@ -117,7 +176,15 @@ pub fn call(
     if 32 <= count {
         return 19;
     }
-    enter(numbers, handle[routine], handle[routine + 1], arguments, values, slot + 1, slot);
+    enter(
+        numbers,
+        handle[routine],
+        handle[routine + 1],
+        arguments,
+        values,
+        slot + 1,
+        slot,
+    );
     go_to(nexts, slot, next + 1);
     go_to(nexts, slot + 1, first[routine]);
     counts[n] = count + 1;
@@ -146,7 +213,15 @@ pub fn start(
     if 16 <= n {
         return 18;
     }
-    enter(numbers, handle[routine], handle[routine + 1], arguments, values, n * 32, slot);
+    enter(
+        numbers,
+        handle[routine],
+        handle[routine + 1],
+        arguments,
+        values,
+        n * 32,
+        slot,
+    );
     go_to(nexts, slot, next + 1);
     go_to(nexts, n * 32, first[routine]);
     counts[n] = 1;
@@ -156,7 +231,14 @@ pub fn start(
 }
 
 // JUMPZ: "goes there if the accumulator is zero, else on".
-pub fn jump_zero(s: usize, n: usize, slot: usize, next: usize, nexts: &mut [u16; 512], accumulators: &[i32; 16])
+pub fn jump_zero(
+    s: usize,
+    n: usize,
+    slot: usize,
+    next: usize,
+    nexts: &mut [u16; 512],
+    accumulators: &[i32; 16],
+)
     requires { ⌜ Placed n slot next × (s < 512) ⌝ }
     ensures { λ _. ⌜ now (nexts .exit) ≡ set (now (nexts .entry)) slot (cond (isZero (getD (now (accumulators .entry)) n (pos 0))) s (next + 1)) ⌝ }
 {

@@ -20,7 +20,10 @@ fn answer_byte(step: Step) -> u8
 {
     match step {
         Step::Ran(_) => 0,
-        Step::Refused { number, statement: _ } => (number % 256) as u8,
+        Step::Refused {
+            number,
+            statement: _,
+        } => (number % 256) as u8,
         Step::Nothing { number } => (number % 256) as u8,
     }
 }
@@ -74,18 +77,49 @@ fn operate(
             operations::add(number, n, slot, next, nexts, accumulators);
             Step::Ran(statement)
         }
-        Statement::Take(h) => answered(operations::take(h.number, n, slot, next, nexts, values, owners), statement),
-        Statement::Give(h) => answered(operations::give(h.number, n, slot, next, nexts, values, owners), statement),
+        Statement::Take(h) => answered(
+            operations::take(h.number, n, slot, next, nexts, values, owners),
+            statement,
+        ),
+        Statement::Give(h) => answered(
+            operations::give(h.number, n, slot, next, nexts, values, owners),
+            statement,
+        ),
         Statement::Point { handle: h, from: g } => {
             operations::point(h.number, g.number, slot, next, nexts, values);
             Step::Ran(statement)
         }
         Statement::Call { routine, arguments } => answered(
-            operations::call(numbers, first, handle, routine, arguments, n, slot, next, nexts, values, counts),
+            operations::call(
+                numbers,
+                first,
+                handle,
+                routine,
+                arguments,
+                n,
+                slot,
+                next,
+                nexts,
+                values,
+                counts,
+            ),
             statement,
         ),
         Statement::Start { routine, arguments } => answered(
-            operations::start(numbers, first, handle, routine, arguments, slot, next, started, nexts, values, counts, accumulators),
+            operations::start(
+                numbers,
+                first,
+                handle,
+                routine,
+                arguments,
+                slot,
+                next,
+                started,
+                nexts,
+                values,
+                counts,
+                accumulators,
+            ),
             statement,
         ),
         Statement::Jump(target) => {

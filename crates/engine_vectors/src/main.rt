@@ -77,7 +77,20 @@ fn show_vector(i: usize) {
     let tens = (48 + i / 10 % 10) as u8;
     let ones = (48 + i % 10) as u8;
     let table = [b'0', tens, ones, b'.', b't', b'a', b'b', b'l', b'e'];
-    let steps = [b'0', tens, ones, b'.', b's', b'c', b'h', b'e', b'd', b'u', b'l', b'e'];
+    let steps = [
+        b'0',
+        tens,
+        ones,
+        b'.',
+        b's',
+        b'c',
+        b'h',
+        b'e',
+        b'd',
+        b'u',
+        b'l',
+        b'e',
+    ];
     let mut text = [0u8; 32978];
     let mut schedule = [0u8; 302];
     let mut answers = [99u8; 302];
@@ -96,11 +109,17 @@ fn show_sum(text: &[u8]) {
     let mut schedule = [0u8; 6446];
     let mut answers = [99u8; 6446];
     let mut cells = [99i32; 2];
-    show_last(engine::run(text, &schedule[..6443], &mut answers, &mut cells), &cells);
+    show_last(
+        engine::run(text, &schedule[..6443], &mut answers, &mut cells),
+        &cells,
+    );
     schedule[6443] = 1;
     schedule[6444] = 1;
     schedule[6445] = 1;
-    show_last(engine::run(text, &schedule, &mut answers, &mut cells), &cells);
+    show_last(
+        engine::run(text, &schedule, &mut answers, &mut cells),
+        &cells,
+    );
 }
 
 // The number of a call and the cells that it left.

@@ -1,59 +1,46 @@
+-- `engine::play` meets its contract. Assumes nothing.
+use mathlib.Core.Path.{sym, ap, _∙_, refl}
+use Prim.Native.Nat.{ℕ, _+_}
+use lib.IntN.{pos}
+use lib.ListN.{replicate}
+use Rattle.engine.specs.BeginLaws.{entering, beginning}
 use borrow.Author.Needs.{needs}
 use Rattle.engine.proofs.play.Statement.{statement}
 use Rattle.engine.proofs.play.Tie as tie
-use Rattle.engine.proofs.play.Reads as reads
-use Rattle.engine.proofs.play.Lts as lts
-use Rattle.engine.proofs.frames.enter.Reads as enter-reads
-use Rattle.engine.proofs.places.clear.Reads as clear-reads
-use Rattle.engine.proofs.steps.follow.Reads as follow-reads
-use Rattle.table.proofs.first_handles.Reads as first-handles-reads
-use Rattle.table.proofs.first_statements.Reads as first-statements-reads
 
--- src/lib.rt:40:17
 first-statements-requires : tie.Need-first-statements-requires
 first-statements-requires c κs = search needs
 
--- src/lib.rt:41:18
 first-handles-requires : tie.Need-first-handles-requires
 first-handles-requires c κs = search needs
 
--- src/lib.rt:47:5
 clear-requires : tie.Need-clear-requires
 clear-requires c κs = search needs
 
--- src/lib.rt:48:5
 array-write-counts : tie.Need-array-write-counts
 array-write-counts c = search needs
 
--- src/lib.rt:51:9
 array-read-enter : tie.Need-array-read-enter
 array-read-enter c = search needs
 
--- src/lib.rt:52:9
 array-read-enter-2 : tie.Need-array-read-enter-2
 array-read-enter-2 c = search needs
 
--- src/lib.rt:49:5
 enter-requires : tie.Need-enter-requires
-enter-requires c κs = ?
+enter-requires c κs = let p = c .before .before .before .before .before .before .before .before .before .pre in (entering _ _ _ (p .0) (c .before .before .before .before .before .first-statements .ensures) (c .before .before .before .before .first-handles .ensures), refl)
 
--- src/lib.rt:63:5
 follow-requires : tie.Need-follow-requires
-follow-requires c κs = ?
+follow-requires c κs = let p = c .before .before .before .before .before .before .before .before .before .before .before .before .before .before .before .before .before .before .before .before .pre in (beginning _ _ _ (p .0) (c .before .before .before .before .before .before .before .before .before .before .before .before .before .before .before .before .first-statements .ensures) (c .before .before .before .before .before .before .before .before .before .before .before .before .before .before .before .first-handles .ensures) _ _ _ (c .before .before .before .before .before .before .before .before .before .before .enter .ensures) (p .2) (c .before .before .before .before .before .before .before .before .before .before .before .before .before .clear .ensures ∙ ap (λ (n : ℕ). replicate n (pos 0)) (p .1)), p .3)
 
--- src/lib.rt:35:1
 same-length : tie.Need-same-length
 same-length c = search needs
 
--- src/lib.rt:35:1
 same-length-2 : tie.Need-same-length-2
 same-length-2 c = search needs
 
--- src/lib.rt:35:1
 same-length-3 : tie.Need-same-length-3
 same-length-3 c = search needs
 
--- src/lib.rt:35:1
 returns : tie.Need-returns
 returns c = search needs
 

@@ -1,3 +1,4 @@
+-- `engine::frames::argument_of` meets its contract. Assumes nothing.
 use native.Mathlib.Omega.{arith}
 use lib.ListN.{List·getD-eq-default}
 use mathlib.Core.Path.{sym}
@@ -5,26 +6,19 @@ use Rattle.table.specs.Table.{passed}
 use borrow.Author.Needs.{needs}
 use Rattle.engine.proofs.frames.argument_of.Statement.{statement}
 use Rattle.engine.proofs.frames.argument_of.Tie as tie
-use Rattle.engine.proofs.frames.argument_of.Reads as reads
-use Rattle.engine.proofs.frames.argument_of.Lts as lts
 
--- src/frames.rt:58:1
 returns : tie.Need-returns
 returns c = search needs
 
--- src/frames.rt:58:1
 returns-2 : tie.Need-returns-2
 returns-2 c = search needs
 
--- src/frames.rt:58:1
 returns-3 : tie.Need-returns-3
 returns-3 c = search needs
 
--- src/frames.rt:58:1
 returns-4 : tie.Need-returns-4
 returns-4 c = search needs
 
--- src/frames.rt:58:1
 returns-5 : tie.Need-returns-5
 returns-5 c = sym (List·getD-eq-default (passed (c .before .args .arguments)) 0 {n = c .before .args .k} (omega (arith, c .match .rest .1, c .match .rest .0 .1, c .match .rest .0 .0 .1, c .match .rest .0 .0 .0 .1)))
 

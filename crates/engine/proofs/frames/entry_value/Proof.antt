@@ -1,35 +1,25 @@
+-- `engine::frames::entry_value` meets its contract. Assumes nothing.
 use denote.Ref.{now}
 use Rattle.engine.specs.TableLaws.{argument-value, local-value, local-small}
 use borrow.Author.Needs.{needs}
 use Rattle.engine.proofs.frames.entry_value.Statement.{statement}
 use Rattle.engine.proofs.frames.entry_value.Tie as tie
-use Rattle.engine.proofs.frames.entry_value.Reads as reads
-use Rattle.engine.proofs.frames.entry_value.Lts as lts
-use Rattle.engine.proofs.frames.argument_of.Reads as argument-of-reads
-use Rattle.engine.proofs.frames.value_of.Reads as value-of-reads
-use Rattle.table.proofs.declaration_of.Reads as declaration-of-reads
 
--- src/frames.rt:75:9
 declaration-of-requires : tie.Need-declaration-of-requires
 declaration-of-requires c κs = search needs
 
--- src/frames.rt:77:57
 sub-argument-of : tie.Need-sub-argument-of
 sub-argument-of c = search needs
 
--- src/frames.rt:77:34
 argument-of-requires : tie.Need-argument-of-requires
 argument-of-requires c κs = search needs
 
--- src/frames.rt:77:9
 value-of-requires : tie.Need-value-of-requires
 value-of-requires c κs = search needs
 
--- src/frames.rt:71:1
 returns : tie.Need-returns
 returns c = let a = c .before .before .before .before .before .args in (argument-value (now (a .numbers)) (now (a .values)) (a .caller) (a .from) (a .arguments) (a .h) (c .before .before .before .before .declaration-of .result) (c .before .before .before .before .before .pre .2) (c .before .before .before .before .declaration-of .ensures) _ _ (c .before .before .if1 .taken) (c .before .argument-of .ensures) (c .value-of .ensures .0), c .value-of .ensures .1)
 
--- src/frames.rt:71:1
 returns-2 : tie.Need-returns-2
 returns-2 c = let a = c .before .before .before .args in (local-value (now (a .numbers)) (now (a .values)) (a .caller) (a .from) (a .arguments) (a .h) (c .before .before .declaration-of .result) (c .before .before .before .pre .2) (c .before .before .declaration-of .ensures) (c .if1 .left), local-small (now (a .numbers)) (now (a .values)) (a .caller) (a .from) (a .arguments) (a .h) (c .before .before .declaration-of .result) (c .before .before .before .pre .2) (c .before .before .declaration-of .ensures) (c .before .before .before .pre .3) (c .if1 .left))
 

@@ -1,40 +1,29 @@
+-- `engine::operations::add` meets its contract. Assumes nothing.
 use mir.Val.{SFits}
 use mir.Syntax.{w32}
 use mir.Facts.{toZ-ofZ}
 use borrow.Author.Needs.{needs}
 use Rattle.engine.proofs.operations.add.Statement.{statement}
 use Rattle.engine.proofs.operations.add.Tie as tie
-use Rattle.engine.proofs.operations.add.Reads as reads
-use Rattle.engine.proofs.operations.add.Lts as lts
-use Rattle.engine.proofs.frames.go_to.Reads as go-to-reads
-use Rattle.engine.proofs.places.accumulator_of.Reads as accumulator-of-reads
-use Rattle.engine.proofs.places.wrapped_sum.Reads as wrapped-sum-reads
 
--- src/operations.rt:57:35
 accumulator-of-requires : tie.Need-accumulator-of-requires
 accumulator-of-requires c κs = search needs
 
--- src/operations.rt:57:23
 wrapped-sum-requires : tie.Need-wrapped-sum-requires
 wrapped-sum-requires c κs = search needs
 
--- src/operations.rt:57:5
 mul-t10 : tie.Need-mul-t10
 mul-t10 c = search needs
 
--- src/operations.rt:57:5
 element-set-from-accumulators : tie.Need-element-set-from-accumulators
 element-set-from-accumulators c = search needs
 
--- src/operations.rt:58:24
 add-go-to : tie.Need-add-go-to
 add-go-to c = search needs
 
--- src/operations.rt:58:5
 go-to-requires : tie.Need-go-to-requires
 go-to-requires c κs = search needs
 
--- src/operations.rt:53:1
 returns : tie.Need-returns
 returns c = let f : SFits w32 (c .before .before .wrapped-sum .result) = record { sfits = c .before .before .wrapped-sum .ok } in let g : SFits w32 (c .before .before .before .accumulator-of .result) = record { sfits = c .before .before .before .accumulator-of .ok } in (c .go-to .ensures, rw (toZ-ofZ f, c .before .before .wrapped-sum .ensures, toZ-ofZ g, toZ-ofZ (c .before .before .before .before .before .fits .number), c .before .before .before .accumulator-of .ensures))
 

@@ -1,91 +1,68 @@
+-- `engine::operations::call` meets its contract. Assumes nothing.
 use mathlib.Core.Path.{sym, ap, _∙_, refl}
 use mathlib.Core.Logic.{inl, inr}
 use native.Mathlib.Omega.{arith}
 use borrow.Author.Needs.{needs}
 use Rattle.engine.proofs.operations.call.Statement.{statement}
 use Rattle.engine.proofs.operations.call.Tie as tie
-use Rattle.engine.proofs.operations.call.Reads as reads
-use Rattle.engine.proofs.operations.call.Lts as lts
-use Rattle.engine.proofs.frames.enter.Reads as enter-reads
-use Rattle.engine.proofs.frames.go_to.Reads as go-to-reads
 
--- src/operations.rt:116:17
 mul-count : tie.Need-mul-count
 mul-count c = search needs
 
--- src/operations.rt:116:17
 element-copy-out-count : tie.Need-element-copy-out-count
 element-copy-out-count c = search needs
 
--- src/operations.rt:118:9
 returns : tie.Need-returns
 returns c = inl (record { full = c .if1 .taken; number-is = refl; nexts-are = refl; values-are = refl; counts-are = refl })
 
--- src/operations.rt:120:20
 mul-enter : tie.Need-mul-enter
 mul-enter c = search needs
 
--- src/operations.rt:120:20
 element-copy-out-enter : tie.Need-element-copy-out-enter
 element-copy-out-enter c = search needs
 
--- src/operations.rt:120:44
 add-enter : tie.Need-add-enter
 add-enter c = search needs
 
--- src/operations.rt:120:37
 mul-enter-2 : tie.Need-mul-enter-2
 mul-enter-2 c = search needs
 
--- src/operations.rt:120:37
 element-copy-out-enter-2 : tie.Need-element-copy-out-enter-2
 element-copy-out-enter-2 c = search needs
 
--- src/operations.rt:120:77
 add-enter-2 : tie.Need-add-enter-2
 add-enter-2 c = search needs
 
--- src/operations.rt:120:5
 enter-requires : tie.Need-enter-requires
 enter-requires c κs = let q = c .before .before .before .before .before .pre in (record { accepted = q .0 .accepted; few = q .0 .few; there = q .0 .there; slot-low = omega arith; caller-low = q .1 .slot-low; apart = λ e. omega arith }, q .3)
 
--- src/operations.rt:121:24
 add-go-to : tie.Need-add-go-to
 add-go-to c = search needs
 
--- src/operations.rt:121:5
 go-to-requires : tie.Need-go-to-requires
 go-to-requires c κs = search needs
 
--- src/operations.rt:122:18
 add-go-to-2 : tie.Need-add-go-to-2
 add-go-to-2 c = search needs
 
--- src/operations.rt:122:28
 mul-go-to : tie.Need-mul-go-to
 mul-go-to c = search needs
 
--- src/operations.rt:122:28
 element-copy-out-go-to : tie.Need-element-copy-out-go-to
 element-copy-out-go-to c = search needs
 
--- src/operations.rt:122:5
 go-to-requires-2 : tie.Need-go-to-requires-2
 go-to-requires-2 c κs = search needs
 
--- src/operations.rt:123:17
 add-counts : tie.Need-add-counts
 add-counts c = search needs
 
--- src/operations.rt:123:5
 mul-counts : tie.Need-mul-counts
 mul-counts c = search needs
 
--- src/operations.rt:123:5
 element-write-counts : tie.Need-element-write-counts
 element-write-counts c = search needs
 
--- src/operations.rt:100:1
 returns-2 : tie.Need-returns-2
 returns-2 c = inr (record { free = c .before .before .before .before .before .before .before .before .before .if1 .left; number-is = refl; nexts-are = rw (c .go-to2 .ensures, c .before .before .before .go-to .ensures); entered = c .before .before .before .before .before .enter .ensures; counts-are = refl })
 

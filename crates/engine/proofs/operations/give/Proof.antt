@@ -1,3 +1,4 @@
+-- `engine::operations::give` meets its contract. Assumes nothing.
 use mathlib.Core.Path.{sym, ap, _∙_, refl}
 use Prim.Native.Nat.{ℕ, _+_}
 use lib.ListN.{getD, set}
@@ -6,50 +7,34 @@ use mathlib.Core.Logic.{inl, inr}
 use borrow.Author.Needs.{needs}
 use Rattle.engine.proofs.operations.give.Statement.{statement}
 use Rattle.engine.proofs.operations.give.Tie as tie
-use Rattle.engine.proofs.operations.give.Reads as reads
-use Rattle.engine.proofs.operations.give.Lts as lts
-use Rattle.engine.proofs.frames.go_to.Reads as go-to-reads
-use Rattle.engine.proofs.frames.value_of.Reads as value-of-reads
-use Rattle.engine.proofs.places.owner_at.Reads as owner-at-reads
-use Rattle.engine.proofs.places.put_owner.Reads as put-owner-reads
 
--- src/operations.rt:78:9
 value-of-requires : tie.Need-value-of-requires
 value-of-requires c κs = search needs
 
--- src/operations.rt:79:8
 owner-at-requires : tie.Need-owner-at-requires
 owner-at-requires c κs = search needs
 
--- src/operations.rt:79:31
 add-if1 : tie.Need-add-if1
 add-if1 c = search needs
 
--- src/operations.rt:80:9
 same-length : tie.Need-same-length
 same-length c = search needs
 
--- src/operations.rt:80:9
 returns : tie.Need-returns
 returns c = let o = now (c .before .before .before .before .before .args .owners) in inl (record { blocked = λ q. c .if1 .taken (c .before .owner-at .ensures ∙ ap (λ (i : ℕ). getD o i 0) (c .before .before .before .value-of .ensures .0) ∙ q); number-is = refl; nexts-are = refl; owners-are = refl })
 
--- src/operations.rt:82:5
 put-owner-requires : tie.Need-put-owner-requires
 put-owner-requires c κs = search needs
 
--- src/operations.rt:83:24
 add-go-to : tie.Need-add-go-to
 add-go-to c = search needs
 
--- src/operations.rt:83:5
 go-to-requires : tie.Need-go-to-requires
 go-to-requires c κs = search needs
 
--- src/operations.rt:74:1
 same-length-2 : tie.Need-same-length-2
 same-length-2 c = search needs
 
--- src/operations.rt:74:1
 returns-2 : tie.Need-returns-2
 returns-2 c = let o = now (c .before .before .before .before .before .before .before .before .before .before .before .args .owners) in inr (record { free = sym (c .before .before .before .before .before .before .before .owner-at .ensures ∙ ap (λ (i : ℕ). getD o i 0) (c .before .before .before .before .before .before .before .before .before .value-of .ensures .0)) ∙ c .before .before .before .before .before .before .if1 .left; number-is = refl; nexts-are = c .go-to .ensures; owners-are = c .before .before .before .before .put-owner .ensures ∙ ap (λ (i : ℕ). set o i 0) (c .before .before .before .before .before .before .before .before .before .value-of .ensures .0) })
 

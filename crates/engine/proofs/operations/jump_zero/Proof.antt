@@ -1,3 +1,4 @@
+-- `engine::operations::jump_zero` meets its contract. Assumes nothing.
 use mathlib.Core.Path.{sym, _∙_}
 use mir.Val.{SFits}
 use mir.Syntax.{w32}
@@ -5,37 +6,25 @@ use mir.Facts.{toZ-ofZ}
 use borrow.Author.Needs.{needs}
 use Rattle.engine.proofs.operations.jump_zero.Statement.{statement}
 use Rattle.engine.proofs.operations.jump_zero.Tie as tie
-use Rattle.engine.proofs.operations.jump_zero.Reads as reads
-use Rattle.engine.proofs.operations.jump_zero.Lts as lts
-use Rattle.engine.proofs.frames.go_to.Reads as go-to-reads
-use Rattle.engine.proofs.places.accumulator_of.Reads as accumulator-of-reads
-use Rattle.engine.proofs.places.is_zero.Reads as is-zero-reads
 
--- src/operations.rt:163:16
 accumulator-of-requires : tie.Need-accumulator-of-requires
 accumulator-of-requires c κs = search needs
 
--- src/operations.rt:163:8
 is-zero-requires : tie.Need-is-zero-requires
 is-zero-requires c κs = search needs
 
--- src/operations.rt:164:9
 go-to-requires : tie.Need-go-to-requires
 go-to-requires c κs = search needs
 
--- src/operations.rt:166:28
 add-go-to : tie.Need-add-go-to
 add-go-to c = search needs
 
--- src/operations.rt:166:9
 go-to-requires-2 : tie.Need-go-to-requires-2
 go-to-requires-2 c κs = search needs
 
--- src/operations.rt:159:1
 returns : tie.Need-returns
 returns c = let g : SFits w32 (c .before .before .before .before .accumulator-of .result) = record { sfits = c .before .before .before .before .accumulator-of .ok } in let z = sym (rw (toZ-ofZ g, c .before .before .before .before .accumulator-of .ensures) at (c .before .before .before .is-zero .ensures)) ∙ c .before .before .if1 .taken in rw z (c .go-to .ensures)
 
--- src/operations.rt:159:1
 returns-2 : tie.Need-returns-2
 returns-2 c = let g : SFits w32 (c .before .before .before .before .accumulator-of .result) = record { sfits = c .before .before .before .before .accumulator-of .ok } in let z = sym (rw (toZ-ofZ g, c .before .before .before .before .accumulator-of .ensures) at (c .before .before .before .is-zero .ensures)) ∙ c .before .before .if1 .left in rw z (c .go-to2 .ensures)
 

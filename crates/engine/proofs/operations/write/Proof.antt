@@ -1,41 +1,29 @@
+-- `engine::operations::write` meets its contract. Assumes nothing.
 use mir.Val.{SFits}
 use mir.Syntax.{w32}
 use mir.Facts.{toZ-ofZ}
 use borrow.Author.Needs.{needs}
 use Rattle.engine.proofs.operations.write.Statement.{statement}
 use Rattle.engine.proofs.operations.write.Tie as tie
-use Rattle.engine.proofs.operations.write.Reads as reads
-use Rattle.engine.proofs.operations.write.Lts as lts
-use Rattle.engine.proofs.frames.go_to.Reads as go-to-reads
-use Rattle.engine.proofs.frames.value_of.Reads as value-of-reads
-use Rattle.engine.proofs.places.accumulator_of.Reads as accumulator-of-reads
-use Rattle.engine.proofs.places.put_cell.Reads as put-cell-reads
 
--- src/operations.rt:39:21
 value-of-requires : tie.Need-value-of-requires
 value-of-requires c κs = search needs
 
--- src/operations.rt:39:48
 accumulator-of-requires : tie.Need-accumulator-of-requires
 accumulator-of-requires c κs = search needs
 
--- src/operations.rt:39:5
 put-cell-requires : tie.Need-put-cell-requires
 put-cell-requires c κs = search needs
 
--- src/operations.rt:40:24
 add-go-to : tie.Need-add-go-to
 add-go-to c = search needs
 
--- src/operations.rt:40:5
 go-to-requires : tie.Need-go-to-requires
 go-to-requires c κs = search needs
 
--- src/operations.rt:35:1
 same-length : tie.Need-same-length
 same-length c = search needs
 
--- src/operations.rt:35:1
 returns : tie.Need-returns
 returns c = let f : SFits w32 (c .before .before .before .before .accumulator-of .result) = record { sfits = c .before .before .before .before .accumulator-of .ok } in (c .go-to .ensures, rw (c .before .before .before .put-cell .ensures, c .before .before .before .before .before .value-of .ensures .0, toZ-ofZ f, c .before .before .before .before .accumulator-of .ensures))
 

@@ -1,3 +1,4 @@
+-- `engine::places::cell_at` meets its contract. Assumes nothing.
 use lib.ListN.{List·getD-eq-default}
 use mathlib.Core.Path.{sym}
 use lib.IntN.{pos}
@@ -5,22 +6,16 @@ use denote.Ref.{now}
 use borrow.Author.Needs.{needs}
 use Rattle.engine.proofs.places.cell_at.Statement.{statement}
 use Rattle.engine.proofs.places.cell_at.Tie as tie
-use Rattle.engine.proofs.places.cell_at.Reads as reads
-use Rattle.engine.proofs.places.cell_at.Lts as lts
 
--- src/places.rt:11:26
 mul-result : tie.Need-mul-result
 mul-result c = search needs
 
--- src/places.rt:11:26
 shared-slice-copy-out-result : tie.Need-shared-slice-copy-out-result
 shared-slice-copy-out-result c = search needs
 
--- src/places.rt:8:1
 returns : tie.Need-returns
 returns c = search needs
 
--- src/places.rt:8:1
 returns-2 : tie.Need-returns-2
 returns-2 c = sym (List·getD-eq-default (now (c .before .args .cells)) (pos 0) (c .if1 .left))
 

@@ -1,3 +1,4 @@
+-- `engine::places::clear` meets its contract. Assumes nothing.
 use Prim.Native.Nat.{_-_}
 use lib.ListN.{length}
 use native.Mathlib.Omega.{arith}
@@ -5,8 +6,6 @@ use borrow.Author.Needs.{needs}
 use Rattle.engine.proofs.Filling.{Clearing, clearing-none, clearing-next, clearing-all}
 use Rattle.engine.proofs.places.clear.Statement.{statement}
 use Rattle.engine.proofs.places.clear.Tie as tie
-use Rattle.engine.proofs.places.clear.Reads as reads
-use Rattle.engine.proofs.places.clear.Lts as lts
 
 abbrev Inv-loop : tie.InvT-loop
 Inv-loop cells₀ i₀ cells i = Clearing cells₀ cells i
@@ -14,35 +13,27 @@ Inv-loop cells₀ i₀ cells i = Clearing cells₀ cells i
 abbrev μ-loop : tie.MeasureT-loop
 μ-loop cells₀ i₀ cells i = length cells₀ - i
 
--- src/places.rt:28:5
 loop-holds : tie.Need-loop-holds Inv-loop μ-loop
 loop-holds c = clearing-none _
 
--- src/places.rt:29:9
 mul-cells : tie.Need-mul-cells Inv-loop μ-loop
 mul-cells c = search needs
 
--- src/places.rt:29:9
 slice-set-of-cells : tie.Need-slice-set-of-cells Inv-loop μ-loop
 slice-set-of-cells c = search needs
 
--- src/places.rt:30:9
 add-i : tie.Need-add-i Inv-loop μ-loop
 add-i c = search needs
 
--- src/places.rt:28:5
 loop-less : tie.Need-loop-less Inv-loop μ-loop
 loop-less c = omega (arith, c .before .loop .inv .long)
 
--- src/places.rt:28:5
 loop-again : tie.Need-loop-again Inv-loop μ-loop
 loop-again c = clearing-next _ _ _ (c .before .loop .inv) (c .loop-test .taken)
 
--- src/places.rt:24:1
 same-length : tie.Need-same-length Inv-loop μ-loop
 same-length c = search needs
 
--- src/places.rt:24:1
 returns : tie.Need-returns Inv-loop μ-loop
 returns c = clearing-all _ _ _ (c .before .loop .inv) (c .loop-test .left)
 

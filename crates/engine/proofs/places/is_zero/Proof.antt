@@ -1,10 +1,8 @@
+-- `engine::places::is_zero` meets its contract. Assumes nothing.
 use Rattle.engine.proofs.Sums.{bits-zero}
 use Rattle.engine.proofs.places.is_zero.Statement.{statement}
 use Rattle.engine.proofs.places.is_zero.Tie as tie
-use Rattle.engine.proofs.places.is_zero.Reads as reads
-use Rattle.engine.proofs.places.is_zero.Lts as lts
 
--- src/places.rt:60:1
 returns : tie.Need-returns
 returns c = bits-zero (c .args .x) (c .fits .x)
 

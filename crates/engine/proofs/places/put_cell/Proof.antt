@@ -1,29 +1,23 @@
+-- `engine::places::put_cell` meets its contract. Assumes nothing.
 use lib.Seq.{set-out}
 use mathlib.Core.Path.{sym}
 use denote.Ref.{now}
 use borrow.Author.Needs.{needs}
 use Rattle.engine.proofs.places.put_cell.Statement.{statement}
 use Rattle.engine.proofs.places.put_cell.Tie as tie
-use Rattle.engine.proofs.places.put_cell.Reads as reads
-use Rattle.engine.proofs.places.put_cell.Lts as lts
 
--- src/places.rt:19:9
 mul-v : tie.Need-mul-v
 mul-v c = search needs
 
--- src/places.rt:19:9
 slice-set-from-v : tie.Need-slice-set-from-v
 slice-set-from-v c = search needs
 
--- src/places.rt:15:1
 same-length : tie.Need-same-length
 same-length c = search needs
 
--- src/places.rt:15:1
 returns : tie.Need-returns
 returns c = search needs
 
--- src/places.rt:15:1
 returns-2 : tie.Need-returns-2
 returns-2 c = sym (set-out (now (c .before .args .cells)) (c .before .args .x) _ (c .if1 .left))
 

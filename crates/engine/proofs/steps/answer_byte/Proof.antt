@@ -1,39 +1,30 @@
+-- `engine::steps::answer_byte` meets its contract. Assumes nothing.
 use native.Mathlib.Nat.{mod-eq-of-lt}
 use borrow.Author.Needs.{needs}
 use Rattle.engine.proofs.steps.answer_byte.Statement.{statement}
 use Rattle.engine.proofs.steps.answer_byte.Tie as tie
-use Rattle.engine.proofs.steps.answer_byte.Reads as reads
-use Rattle.engine.proofs.steps.answer_byte.Lts as lts
 
--- src/steps.rt:22:25
 enum-told : tie.Need-enum-told
 enum-told c = search needs
 
--- src/steps.rt:23:25
 enum-known-step : tie.Need-enum-known-step
 enum-known-step c = search needs
 
--- src/steps.rt:23:51
 cast-result : tie.Need-cast-result
 cast-result c = search needs
 
--- src/steps.rt:24:25
 enum-known-step-2 : tie.Need-enum-known-step-2
 enum-known-step-2 c = search needs
 
--- src/steps.rt:24:37
 cast-result-2 : tie.Need-cast-result-2
 cast-result-2 c = search needs
 
--- src/steps.rt:17:1
 returns : tie.Need-returns
 returns c = search needs
 
--- src/steps.rt:17:1
 returns-2 : tie.Need-returns-2
 returns-2 c = let e = c .before .step .given .1 in rw e (mod-eq-of-lt (rw e at (c .before .before .before .pre)))
 
--- src/steps.rt:17:1
 returns-3 : tie.Need-returns-3
 returns-3 c = let e = c .before .step2 .given .1 in rw e (mod-eq-of-lt (rw e at (c .before .before .before .pre)))
 

@@ -1,14 +1,11 @@
+-- `engine::steps::answered` meets its contract. Assumes nothing.
 use borrow.Author.Tests.{eq-eqb, ne-eqb}
 use Rattle.engine.proofs.steps.answered.Statement.{statement}
 use Rattle.engine.proofs.steps.answered.Tie as tie
-use Rattle.engine.proofs.steps.answered.Reads as reads
-use Rattle.engine.proofs.steps.answered.Lts as lts
 
--- src/steps.rt:29:1
 returns : tie.Need-returns
 returns c = rw (eq-eqb _ 0 (c .if1 .taken))
 
--- src/steps.rt:29:1
 returns-2 : tie.Need-returns-2
 returns-2 c = rw (ne-eqb _ 0 (c .if1 .left))
 

@@ -1,3 +1,4 @@
+-- `engine::steps::follow` meets its contract. Assumes nothing.
 use borrow.Author.Needs.{needs}
 use native.Mathlib.Omega.{arith}
 use mathlib.Core.Path.{_≡_, sym, ap, _∙_, refl}
@@ -7,11 +8,6 @@ use Rattle.engine.specs.Shown.{arrays}
 use Rattle.engine.specs.RunLaws.{Following, following-start, following-next, following-done}
 use Rattle.engine.proofs.steps.follow.Statement.{statement}
 use Rattle.engine.proofs.steps.follow.Tie as tie
-use Rattle.engine.proofs.steps.follow.Reads as reads
-use Rattle.engine.proofs.steps.follow.Lts as lts
-use Rattle.engine.proofs.steps.answer_byte.Reads as answer-byte-reads
-use Rattle.engine.proofs.steps.step.Reads as step-reads
-use Rattle.engine.proofs.steps.wide.Reads as wide-reads
 
 abbrev Inv-loop : tie.InvT-loop
 Inv-loop numbers first handle schedule answers₀ started₀ nexts₀ values₀ counts₀ accumulators₀ owners₀ cells₀ i₀ answers started nexts values counts accumulators owners cells i =
@@ -20,55 +16,42 @@ Inv-loop numbers first handle schedule answers₀ started₀ nexts₀ values₀ 
 abbrev μ-loop : tie.MeasureT-loop
 μ-loop numbers first handle schedule answers₀ started₀ nexts₀ values₀ counts₀ accumulators₀ owners₀ cells₀ i₀ answers started nexts values counts accumulators owners cells i = length schedule - i
 
--- src/steps.rt:172:5
 loop-holds : tie.Need-loop-holds Inv-loop μ-loop
 loop-holds c = (following-start _ _ _ _ _ _ (c .before .before .before .pre .0) (c .before .before .before .pre .1), refl, refl)
 
--- src/steps.rt:177:18
 shared-slice-read-wide : tie.Need-shared-slice-read-wide Inv-loop μ-loop
 shared-slice-read-wide c = search needs
 
--- src/steps.rt:177:13
 wide-requires : tie.Need-wide-requires Inv-loop μ-loop
 wide-requires c κs = search needs
 
--- src/steps.rt:173:13
 step-requires : tie.Need-step-requires Inv-loop μ-loop
 step-requires c κs = c .before .before .before .before .before .before .before .before .before .before .loop .inv .0 .standing
 
--- src/steps.rt:186:22
 answer-byte-requires : tie.Need-answer-byte-requires Inv-loop μ-loop
 answer-byte-requires c κs = let f = c .before .before .before .before .before .before .before .before .before .before .before .before .before .before .loop .inv .0 .standing in c .before .before .before .step .ensures (f .state) (f .shows) .small
 
--- src/steps.rt:186:9
 slice-write-answers : tie.Need-slice-write-answers Inv-loop μ-loop
 slice-write-answers c = let f = c .before .before .before .before .before .before .before .before .before .before .before .before .before .before .before .loop .inv .0 in omega (arith, f .long, f .room, c .before .before .before .before .before .before .before .before .before .before .before .before .before .before .loop-test .taken)
 
--- src/steps.rt:187:9
 add-i : tie.Need-add-i Inv-loop μ-loop
 add-i c = search needs
 
--- src/steps.rt:172:5
 loop-less : tie.Need-loop-less Inv-loop μ-loop
 loop-less c = search needs
 
--- src/steps.rt:172:5
 loop-again : tie.Need-loop-again Inv-loop μ-loop
 loop-again c = (following-next _ _ _ _ _ _ _ _ _ _ _ _ (c .before .before .before .before .before .before .before .before .before .before .before .before .before .before .before .loop .inv .0) (c .before .before .before .before .before .before .before .before .before .before .before .before .before .before .loop-test .taken) (c .before .before .before .before .before .before .before .before .before .before .before .before .wide .ensures) (c .before .before .before .before .step .ensures) (c .answer-byte .ensures), c .before .before .before .before .step .kept .1 .1 .1 .1 .1 .1 .1 .1 .1 .0 ∙ c .before .before .before .before .before .before .before .before .before .before .before .before .before .before .before .loop .inv .1, c .before .before .before .before .step .kept .1 .1 .1 .1 .1 .1 .1 .1 .1 .1 .0 ∙ c .before .before .before .before .before .before .before .before .before .before .before .before .before .before .before .loop .inv .2)
 
--- src/steps.rt:153:1
 same-length : tie.Need-same-length Inv-loop μ-loop
 same-length c = c .before .loop .inv .0 .long
 
--- src/steps.rt:153:1
 same-length-2 : tie.Need-same-length-2 Inv-loop μ-loop
 same-length-2 c = c .before .loop .inv .1
 
--- src/steps.rt:153:1
 same-length-3 : tie.Need-same-length-3 Inv-loop μ-loop
 same-length-3 c = c .before .loop .inv .2
 
--- src/steps.rt:153:1
 returns : tie.Need-returns Inv-loop μ-loop
 returns c = following-done _ _ _ _ _ _ _ _ (c .before .loop .inv .0) (c .loop-test .left)
 

@@ -1,3 +1,4 @@
+-- `engine::steps::operate` meets its contract. Assumes nothing.
 use mir.Val.{SFits}
 use mir.Syntax.{w32}
 use mir.Facts.{toZ-ofZ}
@@ -9,22 +10,6 @@ use Rattle.engine.proofs.Operating.{slot-low, Here, placed-here, jump-l
 use borrow.Author.Needs.{needs}
 use Rattle.engine.proofs.steps.operate.Statement.{statement}
 use Rattle.engine.proofs.steps.operate.Tie as tie
-use Rattle.engine.proofs.steps.operate.Reads as reads
-use Rattle.engine.proofs.steps.operate.Lts as lts
-use Rattle.engine.proofs.frames.go_to.Reads as go-to-reads
-use Rattle.engine.proofs.frames.next_of.Reads as next-of-reads
-use Rattle.engine.proofs.operations.add.Reads as add-reads
-use Rattle.engine.proofs.operations.call.Reads as call-reads
-use Rattle.engine.proofs.operations.give.Reads as give-reads
-use Rattle.engine.proofs.operations.jump_zero.Reads as jump-zero-reads
-use Rattle.engine.proofs.operations.point.Reads as point-reads
-use Rattle.engine.proofs.operations.read.Reads as read-reads
-use Rattle.engine.proofs.operations.set.Reads as set-reads
-use Rattle.engine.proofs.operations.start.Reads as start-reads
-use Rattle.engine.proofs.operations.take.Reads as take-reads
-use Rattle.engine.proofs.operations.write.Reads as write-reads
-use Rattle.engine.proofs.steps.answered.Reads as answered-reads
-use Rattle.table.proofs.statement_of.Reads as statement-of-reads
 
 abbrev A : tie.After-statement-of → Arrays
 A c = let a = c .before .before .before .before .args in arrays (now (a .started)) (now (a .nexts)) (now (a .values)) (now (a .counts)) (now (a .accumulators)) (now (a .owners)) (now (a .cells))
@@ -40,203 +25,153 @@ here c =
       statement-is = c .statement-of .ensures;
     }
 
--- src/steps.rt:58:9
 next-of-requires : tie.Need-next-of-requires
 next-of-requires c κs = slot-low _ _ _ _ _ _ (c .before .before .pre .0) (c .before .before .pre .1 .0) (c .before .before .pre .1 .2)
 
--- src/steps.rt:59:9
 statement-of-requires : tie.Need-statement-of-requires
 statement-of-requires c κs = search needs
 
--- src/steps.rt:61:25
 enum-known-statement : tie.Need-enum-known-statement
 enum-known-statement c = search needs
 
--- src/steps.rt:62:13
 read-requires : tie.Need-read-requires
 read-requires c κs = placed-here _ _ _ _ _ _ _ _ (here (c .before .before .before .before .before .before .before))
 
--- src/steps.rt:65:26
 enum-known-statement-2 : tie.Need-enum-known-statement-2
 enum-known-statement-2 c = search needs
 
--- src/steps.rt:66:13
 write-requires : tie.Need-write-requires
 write-requires c κs = placed-here _ _ _ _ _ _ _ _ (here (c .before .before .before .before .before .before .before))
 
--- src/steps.rt:69:24
 enum-known-statement-3 : tie.Need-enum-known-statement-3
 enum-known-statement-3 c = search needs
 
--- src/steps.rt:70:13
 set-requires : tie.Need-set-requires
 set-requires c κs = placed-here _ _ _ _ _ _ _ _ (here (c .before .before .before .before .before))
 
--- src/steps.rt:73:24
 enum-known-statement-4 : tie.Need-enum-known-statement-4
 enum-known-statement-4 c = search needs
 
--- src/steps.rt:74:13
 add-requires : tie.Need-add-requires
 add-requires c κs = placed-here _ _ _ _ _ _ _ _ (here (c .before .before .before .before .before))
 
--- src/steps.rt:77:25
 enum-known-statement-5 : tie.Need-enum-known-statement-5
 enum-known-statement-5 c = search needs
 
--- src/steps.rt:77:40
 take-requires : tie.Need-take-requires
 take-requires c κs = placed-here _ _ _ _ _ _ _ _ (here (c .before .before .before .before .before .before))
 
--- src/steps.rt:77:31
 answered-requires : tie.Need-answered-requires
 answered-requires c κs = search needs
 
--- src/steps.rt:78:25
 enum-known-statement-6 : tie.Need-enum-known-statement-6
 enum-known-statement-6 c = search needs
 
--- src/steps.rt:78:40
 give-requires : tie.Need-give-requires
 give-requires c κs = placed-here _ _ _ _ _ _ _ _ (here (c .before .before .before .before .before .before))
 
--- src/steps.rt:78:31
 answered-requires-2 : tie.Need-answered-requires-2
 answered-requires-2 c κs = search needs
 
--- src/steps.rt:79:36
 enum-known-statement-7 : tie.Need-enum-known-statement-7
 enum-known-statement-7 c = search needs
 
--- src/steps.rt:80:13
 point-requires : tie.Need-point-requires
 point-requires c κs = let q = placed-here _ _ _ _ _ _ _ _ (here (c .before .before .before .before .before)) in (q .slot-low, q .next-low)
 
--- src/steps.rt:83:27
 enum-known-statement-8 : tie.Need-enum-known-statement-8
 enum-known-statement-8 c = search needs
 
--- src/steps.rt:84:13
 call-requires : tie.Need-call-requires
 call-requires c κs = (call-naming _ _ _ _ _ _ _ _ (here (c .before .before .before .before .before .before)) _ _ (c .before .before .before .before .statement8 .given .1), placed-here _ _ _ _ _ _ _ _ (here (c .before .before .before .before .before .before)), c .before .before .before .before .before .before .before .before .before .before .pre .1 .2, values-long _ _ _ _ _ _ _ _ (here (c .before .before .before .before .before .before)))
 
--- src/steps.rt:83:51
 answered-requires-3 : tie.Need-answered-requires-3
 answered-requires-3 c κs = search needs
 
--- src/steps.rt:87:28
 enum-known-statement-9 : tie.Need-enum-known-statement-9
 enum-known-statement-9 c = search needs
 
--- src/steps.rt:88:13
 start-requires : tie.Need-start-requires
 start-requires c κs = let q = placed-here _ _ _ _ _ _ _ _ (here (c .before .before .before .before .before .before .before .before)) in (start-naming _ _ _ _ _ _ _ _ (here (c .before .before .before .before .before .before .before .before)) _ _ (c .before .before .before .before .before .before .statement9 .given .1), slot-below _ _ _ _ _ _ _ _ (here (c .before .before .before .before .before .before .before .before)), q .slot-low, q .next-low, values-long _ _ _ _ _ _ _ _ (here (c .before .before .before .before .before .before .before .before)))
 
--- src/steps.rt:87:52
 answered-requires-4 : tie.Need-answered-requires-4
 answered-requires-4 c κs = search needs
 
--- src/steps.rt:91:25
 enum-known-statement-10 : tie.Need-enum-known-statement-10
 enum-known-statement-10 c = search needs
 
--- src/steps.rt:92:13
 go-to-requires : tie.Need-go-to-requires
 go-to-requires c κs = let l = jump-low _ _ _ _ _ _ _ _ (here (c .before .before .before .before)) _ (c .before .before .statement10 .given .1) in let q = placed-here _ _ _ _ _ _ _ _ (here (c .before .before .before .before)) in (q .slot-low, omega arith)
 
--- src/steps.rt:95:29
 enum-known-statement-11 : tie.Need-enum-known-statement-11
 enum-known-statement-11 c = search needs
 
--- src/steps.rt:96:13
 jump-zero-requires : tie.Need-jump-zero-requires
 jump-zero-requires c κs = (placed-here _ _ _ _ _ _ _ _ (here (c .before .before .before .before .before)), jump-zero-low _ _ _ _ _ _ _ _ (here (c .before .before .before .before .before)) _ (c .before .before .before .statement11 .given .1))
 
--- src/steps.rt:100:25
 enum-told : tie.Need-enum-told
 enum-told c = search needs
 
--- src/steps.rt:100:25
 mul-counts : tie.Need-mul-counts
 mul-counts c = search needs
 
--- src/steps.rt:100:25
 element-copy-out-counts : tie.Need-element-copy-out-counts
 element-copy-out-counts c = search needs
 
--- src/steps.rt:100:25
 sub-counts : tie.Need-sub-counts
 sub-counts c = search needs
 
--- src/steps.rt:100:13
 mul-counts-2 : tie.Need-mul-counts-2
 mul-counts-2 c = search needs
 
--- src/steps.rt:100:13
 element-write-counts : tie.Need-element-write-counts
 element-write-counts c = search needs
 
--- src/steps.rt:40:1
 same-length : tie.Need-same-length
 same-length c = search needs
 
--- src/steps.rt:40:1
 returns : tie.Need-returns
 returns c = λ state shown. did-read _ _ _ _ _ _ _ _ (here (c .before .before .before .before .before .before .before .before)) state shown _ _ _ (c .before .before .before .before .before .before .statement .given .1) (c .read .ensures .0) (c .read .ensures .1)
 
--- src/steps.rt:40:1
 same-length-2 : tie.Need-same-length-2
 same-length-2 c = search needs
 
--- src/steps.rt:40:1
 returns-2 : tie.Need-returns-2
 returns-2 c = λ state shown. did-write _ _ _ _ _ _ _ _ (here (c .before .before .before .before .before .before .before .before .before)) state shown _ _ _ (c .before .before .before .before .before .before .before .statement2 .given .1) (c .before .write .ensures .0) (c .before .write .ensures .1)
 
--- src/steps.rt:40:1
 returns-3 : tie.Need-returns-3
 returns-3 c = λ state shown. let k : SFits w32 (c .before .before .before .before .statement3 .given .0 .0) = record { sfits = omega (arith, c .before .before .before .known-told3 .given) } in did-set _ _ _ _ _ _ _ _ (here (c .before .before .before .before .before .before)) state shown _ _ _ (c .before .before .before .before .statement3 .given .1) (c .set .ensures .0) (rw (toZ-ofZ k) at (c .set .ensures .1))
 
--- src/steps.rt:40:1
 returns-4 : tie.Need-returns-4
 returns-4 c = λ state shown. let k : SFits w32 (c .before .before .before .before .statement4 .given .0 .0) = record { sfits = omega (arith, c .before .before .before .known-told4 .given) } in did-add _ _ _ _ _ _ _ _ (here (c .before .before .before .before .before .before)) state shown _ _ _ (c .before .before .before .before .statement4 .given .1) (c .add .ensures .0) (rw (toZ-ofZ k) at (c .add .ensures .1))
 
--- src/steps.rt:40:1
 same-length-3 : tie.Need-same-length-3
 same-length-3 c = search needs
 
--- src/steps.rt:40:1
 returns-5 : tie.Need-returns-5
 returns-5 c = λ state shown. did-take _ _ _ _ _ _ _ _ (here (c .before .before .before .before .before .before .before .before .before .before)) state shown _ _ _ _ _ (c .before .before .before .before .before .before .before .before .statement5 .given .1) (c .answered .ensures) (c .before .before .before .take .ensures)
 
--- src/steps.rt:40:1
 same-length-4 : tie.Need-same-length-4
 same-length-4 c = search needs
 
--- src/steps.rt:40:1
 returns-6 : tie.Need-returns-6
 returns-6 c = λ state shown. did-give _ _ _ _ _ _ _ _ (here (c .before .before .before .before .before .before .before .before .before .before)) state shown _ _ _ _ _ (c .before .before .before .before .before .before .before .before .statement6 .given .1) (c .answered2 .ensures) (c .before .before .before .give .ensures)
 
--- src/steps.rt:40:1
 returns-7 : tie.Need-returns-7
 returns-7 c = λ state shown. did-point _ _ _ _ _ _ _ _ (here (c .before .before .before .before .before .before)) state shown _ _ _ _ (c .before .before .before .before .statement7 .given .1) (c .point .ensures .0) (c .point .ensures .1)
 
--- src/steps.rt:40:1
 returns-8 : tie.Need-returns-8
 returns-8 c = λ state shown. did-call _ _ _ _ _ _ _ _ (here (c .before .before .before .before .before .before .before .before)) state shown _ _ _ _ _ _ _ (c .before .before .before .before .before .before .statement8 .given .1) (c .answered3 .ensures) (c .before .call .ensures)
 
--- src/steps.rt:40:1
 returns-9 : tie.Need-returns-9
 returns-9 c = λ state shown. did-start _ _ _ _ _ _ _ _ (here (c .before .before .before .before .before .before .before .before .before .before)) state shown _ _ _ _ _ _ _ _ _ (c .before .before .before .before .before .before .before .before .statement9 .given .1) (c .answered4 .ensures) (c .before .start .ensures)
 
--- src/steps.rt:40:1
 returns-10 : tie.Need-returns-10
 returns-10 c = λ state shown. did-jump _ _ _ _ _ _ _ _ (here (c .before .before .before .before .before)) state shown _ _ (c .before .before .before .statement10 .given .1) (c .go-to .ensures)
 
--- src/steps.rt:40:1
 returns-11 : tie.Need-returns-11
 returns-11 c = λ state shown. did-jump-zero _ _ _ _ _ _ _ _ (here (c .before .before .before .before .before .before)) state shown _ _ (c .before .before .before .before .statement11 .given .1) (c .jump-zero .ensures)
 
--- src/steps.rt:40:1
 returns-12 : tie.Need-returns-12
 returns-12 c = λ state shown. did-return _ _ _ _ _ _ _ _ (here (c .before .before .before)) state shown _ (c .before .enum-told .given .1) refl
 

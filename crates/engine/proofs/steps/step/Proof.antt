@@ -1,53 +1,40 @@
+-- `engine::steps::step` meets its contract. Assumes nothing.
 use native.Mathlib.Omega.{arith}
 use Rattle.engine.specs.StepLaws.{not-started, has-ended}
 use borrow.Author.Needs.{needs}
 use Rattle.engine.proofs.steps.step.Statement.{statement}
 use Rattle.engine.proofs.steps.step.Tie as tie
-use Rattle.engine.proofs.steps.step.Reads as reads
-use Rattle.engine.proofs.steps.step.Lts as lts
-use Rattle.engine.proofs.steps.operate.Reads as operate-reads
 
--- src/steps.rt:124:9
 returns : tie.Need-returns
 returns c = λ state shown. not-started _ _ state _ shown (c .if1 .taken)
 
--- src/steps.rt:126:17
 mul-count : tie.Need-mul-count
 mul-count c = search needs
 
--- src/steps.rt:126:17
 element-copy-out-count : tie.Need-element-copy-out-count
 element-copy-out-count c = search needs
 
--- src/steps.rt:128:9
 returns-2 : tie.Need-returns-2
 returns-2 c = λ state shown. has-ended _ _ state _ shown (c .before .before .if1 .left) (c .if2 .taken)
 
--- src/steps.rt:135:9
 mul-operate : tie.Need-mul-operate
 mul-operate c = search needs
 
--- src/steps.rt:135:9
 add-operate : tie.Need-add-operate
 add-operate c = record { fits = omega (arith, c .before .before .before .before .before .pre .shows .most, c .before .before .before .before .before .pre .shows .thread-is (c .before .before .before .before .before .args .n) (c .before .before .if1 .left) .few) }
 
--- src/steps.rt:135:9
 sub-operate : tie.Need-sub-operate
 sub-operate c = search needs
 
--- src/steps.rt:130:5
 operate-requires : tie.Need-operate-requires
 operate-requires c κs = (c .before .before .before .before .before .before .before .before .before .before .before .before .pre, (c .before .before .before .before .before .before .before .before .before .if1 .left, omega (arith, c .before .before .before .before .before .before .before .if2 .left), omega (arith, c .before .before .before .before .before .before .before .if2 .left)))
 
--- src/steps.rt:107:1
 same-length : tie.Need-same-length
 same-length c = search needs
 
--- src/steps.rt:107:1
 same-length-2 : tie.Need-same-length-2
 same-length-2 c = search needs
 
--- src/steps.rt:107:1
 returns-3 : tie.Need-returns-3
 returns-3 c = search needs
 

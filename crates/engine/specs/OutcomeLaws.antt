@@ -1,0 +1,96 @@
+-- What a call answers and leaves, by what is read of its text. Assumes nothing.
+use Prim.Native.Nat.{ℕ, zero, suc, _<_, _≤_}
+use mathlib.Core.Path.{_≡_, refl, sym, ap, _∙_, subst}
+use mathlib.Core.Bool.{true, false}
+use mathlib.Core.List.{List, [], _∷_, _++_}
+use native.Mathlib.Nat.{le-of-suc-le-suc, not-suc-le-zero}
+use borrow.Author.Tests.{le-leb, lt-leb}
+use lib.IntN.{ℤ}
+use lib.ListN.{length, take, drop, replicate}
+use Rattle.lines.specs.Line.{numbersOf}
+use Rattle.table.specs.Table.{tableOf, countsOf}
+use Rattle.table.specs.Verdict.{verdict, readingOf}
+use Rattle.table.specs.Accepted.{Accepted}
+use Rattle.table.specs.AcceptedLaws.{accepted}
+use Rattle.table.specs.declared.Verdict.{Verdict}
+use Rattle.table.specs.declared.Verdict as Declared
+use Rattle.table.specs.declared.Reading.{Reading}
+use Rattle.table.specs.declared.Counts.{Counts}
+use Rattle.machine.specs.State.{start}
+use Rattle.machine.specs.Engine.{engineRun, answers}
+use Rattle.engine.specs.declared.Outcome.{Outcome}
+use Rattle.engine.specs.Run.{tableIn, fits, outcomeOf, answersLeft, cellsLeft}
+
+pub take-replicate : (n m x : ℕ) → n ≤ m → take n (replicate m x) ≡ replicate n x
+take-replicate zero m x l = refl
+take-replicate (suc n) zero x l = absurd (not-suc-le-zero l)
+take-replicate (suc n) (suc m) x l = ap (λ (r : List ℕ). x ∷ r) (take-replicate n m x (le-of-suc-le-suc l))
+
+-- ---- what is read of a text
+
+pub verdict-read : (text : List ℕ) (r : Reading) (v : Verdict) → r ≡ readingOf text → r .verdict ≡ v → verdict text ≡ v
+unfolding readingOf
+verdict-read text r v e q = ap (λ (x : Reading). x .verdict) (sym e) ∙ q
+
+pub record ReadFacts (text : List ℕ) (r : Reading) (k : Counts) : Type 0 where
+  pub verdict-is : verdict text ≡ Declared.Verdict.Accepted
+  pub numbers-are : r .numbers ≡ numbersOf text
+  pub facts : Accepted (tableOf (r .numbers))
+  pub cells-are : k .cells ≡ tableOf (r .numbers) .cells
+  pub locks-are : k .locks ≡ tableOf (r .numbers) .locks
+
+pub read-facts : (text : List ℕ) (r : Reading) (k : Counts) → r ≡ readingOf text → r .verdict ≡ Declared.Verdict.Accepted → k ≡ countsOf (r .numbers) → ReadFacts text r k
+unfolding readingOf countsOf tableOf
+read-facts text r k e q c =
+    let v : verdict text ≡ Declared.Verdict.Accepted = verdict-read text r Declared.Verdict.Accepted e q in
+    let n : r .numbers ≡ numbersOf text = ap (λ (x : Reading). x .numbers) e ∙ rw v in
+    record {
+      verdict-is = v;
+      numbers-are = n;
+      facts = subst (λ (f : List ℤ). Accepted (tableOf f)) (sym n) (accepted text v);
+      cells-are = ap (λ (x : Counts). x .cells) c;
+      locks-are = ap (λ (x : Counts). x .locks) c;
+    }
+
+-- ---- what is left
+
+abbrev pub Left : List ℕ → List ℕ → List ℕ → List ℤ → Outcome → List ℕ → List ℤ → Type 0
+Left text schedule given cells r given′ cells′ =
+    (r ≡ outcomeOf text schedule given cells) × ((given′ ≡ answersLeft text schedule given cells) × (cells′ ≡ cellsLeft text schedule given cells))
+
+module _ (text schedule given : List ℕ) (cells : List ℤ) where
+  pub left-refused : (number line : ℕ) → verdict text ≡ Declared.Verdict.Refused number line → Left text schedule given cells (record { number = number; line = line }) given cells
+  unfolding outcomeOf answersLeft cellsLeft
+  left-refused number line e = (rw e, (rw e, rw e))
+
+  left-short : verdict text ≡ Declared.Verdict.Accepted → fits text schedule given cells ≡ false → Left text schedule given cells (record { number = 13; line = 0 }) given cells
+  unfolding outcomeOf answersLeft cellsLeft
+  left-short e f = (rw (e, f), (rw (e, f), rw (e, f)))
+
+  module _ (r : Reading) (k : Counts) (q : ReadFacts text r k) where
+    count-is : k .cells ≡ tableIn text .cells
+    count-is = q .cells-are ∙ ap (λ (f : List ℤ). tableOf f .cells) (q .numbers-are)
+
+    pub short-answers : length given < length schedule → Left text schedule given cells (record { number = 13; line = 0 }) given cells
+    short-answers l = left-short (q .verdict-is) (rw (lt-leb (length schedule) (length given) l))
+
+    pub short-cells : length schedule ≤ length given → length cells < k .cells → Left text schedule given cells (record { number = 13; line = 0 }) given cells
+    short-cells a l = left-short (q .verdict-is) (rw (le-leb (length schedule) (length given) a, lt-leb (tableIn text .cells) (length cells) (subst (λ (n : ℕ). length cells < n) count-is l)))
+
+    pub left-run : (given′ : List ℕ) (part : List ℤ) → length schedule ≤ length given → k .cells ≤ length cells
+        → given′ ≡ answers (tableOf (r .numbers)) (start (tableOf (r .numbers))) schedule ++ drop (length schedule) given
+        → part ≡ engineRun (tableOf (r .numbers)) (start (tableOf (r .numbers))) schedule .cells
+        → Left text schedule given cells (record { number = 0; line = 0 }) given′ (part ++ drop (k .cells) cells)
+    unfolding outcomeOf answersLeft cellsLeft
+    left-run given′ part a b x y =
+        let fit = le-leb (length schedule) (length given) a in
+        let room = le-leb (tableIn text .cells) (length cells) (subst (λ (n : ℕ). n ≤ length cells) count-is b) in
+        let v = q .verdict-is in (
+          rw (v, fit, room),
+          (
+            rw (v, fit, room) (x ∙ ap (λ (f : List ℤ). answers (tableOf f) (start (tableOf f)) schedule ++ drop (length schedule) given) (q .numbers-are)),
+            rw (v, fit, room)
+                (ap (λ (l : List ℤ). l ++ drop (k .cells) cells) (y ∙ ap (λ (f : List ℤ). engineRun (tableOf f) (start (tableOf f)) schedule .cells) (q .numbers-are))
+                ∙ ap (λ (n : ℕ). engineRun (tableIn text) (start (tableIn text)) schedule .cells ++ drop n cells) count-is),
+          ),
+        )
