@@ -16,7 +16,9 @@ use Rattle.table.specs.declared.Verdict.{Verdict}
 use Rattle.table.specs.declared.Verdict as Declared
 use Rattle.table.specs.declared.Reading.{Reading}
 use Rattle.table.specs.declared.Counts.{Counts}
-use Rattle.machine.specs.State.{start}
+use Rattle.machine.specs.State.{State, start}
+use Rattle.machine.specs.Step.{run}
+use Rattle.machine.specs.EngineLaws.{unlimited, engine-runs-as-machine}
 use Rattle.machine.specs.Engine.{engineRun, answers}
 use Rattle.engine.specs.declared.Outcome.{Outcome}
 use Rattle.engine.specs.Run.{tableIn, fits, outcomeOf, answersLeft, cellsLeft}
@@ -94,3 +96,11 @@ module _ (text schedule given : List ℕ) (cells : List ℤ) where
                 ∙ ap (λ (n : ℕ). engineRun (tableIn text) (start (tableIn text)) schedule .cells ++ drop n cells) count-is),
           ),
         )
+
+-- the cells that an accepted call leaves are the machine's after the schedule without the steps that are answered 18 or 19
+pub cells-of-the-machine : (text schedule given : List ℕ) (cells : List ℤ) → verdict text ≡ Declared.Verdict.Accepted → fits text schedule given cells ≡ true
+    → cellsLeft text schedule given cells
+    ≡ run (tableIn text) (start (tableIn text)) (unlimited (tableIn text) (start (tableIn text)) schedule) .cells ++ drop (tableIn text .cells) cells
+unfolding cellsLeft
+cells-of-the-machine text schedule given cells v f =
+    rw (v, f) (ap (λ (s : State). s .cells ++ drop (tableIn text .cells) cells) (engine-runs-as-machine (tableIn text) (start (tableIn text)) schedule))
