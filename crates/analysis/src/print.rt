@@ -84,11 +84,12 @@ fn print_strays(out: &mut [u8], at: usize, marks: &[u64], count: usize) -> usize
     let mut place = at;
     let mut s = 0;
     while s < count {
-        if sets::has(set_at(marks, s), 0) {
-            lines::print_line(out, place, [52, as_field(s as u64), 0, 0, 0, 0, 0, 0]);
+        let here = s;
+        s += 1;
+        if sets::has(set_at(marks, here), 0) {
+            lines::print_line(out, place, [52, as_field(here as u64), 0, 0, 0, 0, 0, 0]);
             place += 49;
         }
-        s += 1;
     }
     place
 }

@@ -1,3 +1,4 @@
+use Rattle.analysis.proofs.Numbers.{word}
 use borrow.Author.Needs.{needs}
 use Rattle.analysis.proofs.print.as_field.Statement.{statement}
 use Rattle.analysis.proofs.print.as_field.Tie as tie
@@ -10,7 +11,7 @@ cast-result c = search needs
 
 -- src/print.rt:15:1
 returns : tie.Need-returns
-returns c = ?
+returns c = word (c .args .n) (c .pre)
 
 pub as-field-spec : {M : Type 1} → statement M
 as-field-spec = tie.close (tie.spec cast-result returns)
