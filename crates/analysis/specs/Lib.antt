@@ -1,3 +1,5 @@
 pub mod Steps
 pub mod FoldLaws
 pub mod PrintLaws
+pub mod Found
+pub mod FoundLaws
