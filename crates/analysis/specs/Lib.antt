@@ -1,3 +1,4 @@
+pub mod Reported
 pub mod Steps
 pub mod FoldLaws
 pub mod PrintLaws

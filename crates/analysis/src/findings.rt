@@ -8,6 +8,10 @@ ghost use Rattle.report.specs.Operations.{accessed};
 ghost use Rattle.report.specs.Findings.{clash, strayBy};
 ghost use Rattle.report.specs.Report.{bit};
 ghost use Rattle.analysis.specs.Steps.{entry, foldFrom, ownBy, sharedBy, strayMark, heldAt, hasMark, unguardedMark};
+ghost use Rattle.table.specs.Table.{tableOf};
+ghost use Rattle.table.specs.Accepted.{Accepted};
+ghost use Rattle.analysis.specs.Found.{Known, Found};
+use crate::Summary;
 use table::Statement;
 
 // The set at place `i` of a list; the empty set past the end.
@@ -216,4 +220,32 @@ fn stray_marks(numbers: &[i32], flow: &[u64], held: &[u64]) -> [u64; 512]
         s += 1;
     }
     strays
+}
+
+// What is found of a table with these sets.
+pub fn summary_from(
+    numbers: &[i32],
+    flow: &[u64],
+    reads: &[u64],
+    writes: &[u64],
+    held: &[u64],
+    later_reads: &[u64],
+    later_writes: &[u64],
+) -> Summary
+    requires { ⌜ Known (now numbers) (now flow) (now reads) (now writes) (now held) (now «later_reads») (now «later_writes») ⌝ }
+    requires { ⌜ Accepted (tableOf (now numbers)) ⌝ }
+    ensures { λ r. ⌜ Found (tableOf (now (numbers .entry))) r ⌝ }
+{
+    let counts = table::counts_of(numbers);
+    let count = counts.statements;
+    let all = sets::firsts(counts.locks);
+    let own_reads = own_accesses(numbers, flow, false);
+    let own_writes = own_accesses(numbers, flow, true);
+    Summary {
+        shared: shared_cells(numbers, reads, writes, later_reads, later_writes, count),
+        common: common_sets(&own_reads[..], &own_writes[..], held, all, count),
+        reads: own_reads,
+        writes: own_writes,
+        strays: stray_marks(numbers, flow, held),
+    }
 }

@@ -1,0 +1,47 @@
+use borrow.Author.Needs.{needs}
+use Rattle.analysis.proofs.may_load.Statement.{statement}
+use Rattle.analysis.proofs.may_load.Tie as tie
+use Rattle.analysis.proofs.may_load.Reads as reads
+use Rattle.analysis.proofs.may_load.Lts as lts
+use Rattle.analysis.proofs.is_clean.Reads as is-clean-reads
+use Rattle.table.proofs.read.Reads as read-reads
+
+-- src/lib.rt:146:9
+read-requires : tie.Need-read-requires
+read-requires c κs = search needs
+
+-- src/lib.rt:150:17
+enum-told : tie.Need-enum-told
+enum-told c = search needs
+
+-- src/lib.rt:151:22
+slice-aggregate-is-clean : tie.Need-slice-aggregate-is-clean
+slice-aggregate-is-clean c = search needs
+
+-- src/lib.rt:151:13
+is-clean-requires : tie.Need-is-clean-requires
+is-clean-requires c κs = ?
+
+-- src/lib.rt:153:52
+enum-told-2 : tie.Need-enum-told-2
+enum-told-2 c = search needs
+
+-- src/lib.rt:143:1
+returns : tie.Need-returns
+returns c = ?
+
+-- src/lib.rt:143:1
+returns-2 : tie.Need-returns-2
+returns-2 c = ?
+
+pub may-load-spec : {M : Type 1} → statement M
+may-load-spec =
+    tie.close
+    (tie.spec
+    read-requires
+    enum-told
+    slice-aggregate-is-clean
+    is-clean-requires
+    enum-told-2
+    returns
+    returns-2)
