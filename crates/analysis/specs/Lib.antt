@@ -4,3 +4,4 @@ pub mod FoldLaws
 pub mod PrintLaws
 pub mod Found
 pub mod FoundLaws
+pub mod ReportedLaws

@@ -1,3 +1,4 @@
+use Rattle.analysis.specs.ReportedLaws.{totals-found}
 use borrow.Author.Needs.{needs}
 use Rattle.analysis.proofs.is_clean.Statement.{statement}
 use Rattle.analysis.proofs.is_clean.Tie as tie
@@ -34,7 +35,7 @@ unguarded-count-requires c κs = search needs
 
 -- src/lib.rt:127:1
 returns : tie.Need-returns
-returns c = ?
+returns c = totals-found _ (c .before .before .before .before .before .before .before .before .pre) _ (c .before .before .before .before .before .before .before .summary-of .ensures) _ (c .before .before .before .before .before .before .counts-of .ensures) _ (c .before .before .access-count .ensures .0) _ (c .unguarded-count .ensures .0)
 
 pub is-clean-spec : {M : Type 1} → statement M
 is-clean-spec =

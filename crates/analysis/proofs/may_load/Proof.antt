@@ -1,3 +1,5 @@
+use mathlib.Core.Path.{_∙_}
+use Rattle.analysis.specs.ReportedLaws.{read-facts, accepted-loads, refused-stays}
 use borrow.Author.Needs.{needs}
 use Rattle.analysis.proofs.may_load.Statement.{statement}
 use Rattle.analysis.proofs.may_load.Tie as tie
@@ -20,7 +22,7 @@ slice-aggregate-is-clean c = search needs
 
 -- src/lib.rt:151:13
 is-clean-requires : tie.Need-is-clean-requires
-is-clean-requires c κs = ?
+is-clean-requires c κs = read-facts _ _ (c .before .before .before .before .read .ensures) (c .before .before .enum-told .given .1)
 
 -- src/lib.rt:153:52
 enum-told-2 : tie.Need-enum-told-2
@@ -28,11 +30,11 @@ enum-told-2 c = search needs
 
 -- src/lib.rt:143:1
 returns : tie.Need-returns
-returns c = ?
+returns c = c .is-clean .ensures ∙ accepted-loads _ _ (c .before .before .before .before .before .read .ensures) (c .before .before .before .enum-told .given .1)
 
 -- src/lib.rt:143:1
 returns-2 : tie.Need-returns-2
-returns-2 c = ?
+returns-2 c = refused-stays _ _ (c .before .before .read .ensures) _ _ (c .enum-told2 .given .1)
 
 pub may-load-spec : {M : Type 1} → statement M
 may-load-spec =

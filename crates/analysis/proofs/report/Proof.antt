@@ -1,3 +1,5 @@
+use mathlib.Core.Path.{_∙_}
+use Rattle.analysis.specs.ReportedLaws.{read-facts, accepted-answer, accepted-written, refused-answer, refused-written}
 use borrow.Author.Needs.{needs}
 use Rattle.analysis.proofs.report.Statement.{statement}
 use Rattle.analysis.proofs.report.Tie as tie
@@ -20,7 +22,7 @@ slice-aggregate-report-of c = search needs
 
 -- src/lib.rt:116:13
 report-of-requires : tie.Need-report-of-requires
-report-of-requires c κs = ?
+report-of-requires c κs = read-facts _ _ (c .before .before .before .before .before .read .ensures) (c .before .before .before .enum-told .given .1)
 
 -- src/lib.rt:118:28
 enum-known-verdict : tie.Need-enum-known-verdict
@@ -32,11 +34,15 @@ same-length c = search needs
 
 -- src/lib.rt:107:1
 returns : tie.Need-returns
-returns c = ?
+returns c = let e = c .before .before .before .before .before .before .before .before .read .ensures in
+    let v = c .before .before .before .before .before .before .enum-told .given .1 in
+    (c .before .before .report-of .ensures .0 ∙ accepted-answer _ _ e v _, c .before .before .report-of .ensures .1 ∙ accepted-written _ _ e v _)
 
 -- src/lib.rt:107:1
 returns-2 : tie.Need-returns-2
-returns-2 c = ?
+returns-2 c = let e = c .before .before .before .read .ensures in
+    let v = c .before .verdict .given .1 in
+    (refused-answer _ _ e _ _ v _, refused-written _ _ e _ _ v _)
 
 pub report-spec : {M : Type 1} → statement M
 report-spec =
