@@ -1,6 +1,6 @@
 // The held sets of a table: the greatest sets of locks before each statement, solved from what is left out of them.
 ghost use mathlib.Core.Path.{_≡_};
-ghost use mathlib.Core.Bool.{cond};
+ghost use mathlib.Core.Bool.{false};
 ghost use mathlib.Core.List.{_++_};
 ghost use Prim.Native.Nat.{_+_, _-_, _<_, _≤_};
 ghost use lib.ListN.{length, getD, replicate};
@@ -12,9 +12,8 @@ ghost use Rattle.table.specs.Table.{tableOf, routine, statement};
 ghost use Rattle.table.specs.Tabulate.{tabulate};
 ghost use Rattle.report.specs.Greatest.{leaving, narrow, narrowAll};
 ghost use Rattle.report.specs.Layout.{oneEach};
-ghost use Rattle.report.specs.Operations.{isReturn};
 ghost use Rattle.report.specs.Held.{onlyLock, atReturns, heldSets};
-ghost use Rattle.lockset.specs.Steps.{Ready, Became, behind, waysOn, waysInto, waysOf, passOf};
+ghost use Rattle.lockset.specs.Steps.{Ready, Became, atReturn, behind, waysOn, waysInto, waysOf, passOf};
 use sets::Which;
 use table::Statement;
 
@@ -76,7 +75,7 @@ fn held_at(out: &[u64], all: u64, p: usize) -> u64
 
 // What a RETURN at statement `s` hands back; all locks if it is none.
 fn at_return(numbers: &[i32], out: &[u64], all: u64, s: usize) -> u64
-    ensures { λ r. ⌜ r ≡ cond (isReturn (statement (tableOf (now (numbers .entry))) s)) (leaving all (now (out .entry)) s) all ⌝ }
+    ensures { λ r. ⌜ r ≡ atReturn all (tableOf (now (numbers .entry))) (leaving all (now (out .entry))) s ⌝ }
 {
     let statement = statement_at(numbers, s);
     match statement {
@@ -218,7 +217,7 @@ fn narrow_from(out: &mut [u64], numbers: &[i32], first: &[usize], flow: &[u64], 
 fn pass(out: &mut [u64], numbers: &[i32], first: &[usize], flow: &[u64], given: &[u64], all: u64) -> bool
     requires { ⌜ Ready (now numbers) (now first) all ⌝ }
     requires { ⌜ statements (now numbers) ≤ 512 ⌝ }
-    ensures { λ r. ⌜ Became (passOf (tableOf (now (numbers .entry))) (now (flow .entry)) (now (given .entry)) (now (out .entry))) (now (out .entry)) (now (out .exit)) false r ⌝ }
+    ensures { λ r. ⌜ Became (passOf all (tableOf (now (numbers .entry))) (now (flow .entry)) (now (given .entry)) (now (out .entry))) (now (out .entry)) (now (out .exit)) false r ⌝ }
 {
     let count = table::counts_of(numbers).statements;
     let entry = first_of(numbers, first, all, 0);
@@ -235,7 +234,7 @@ fn pass(out: &mut [u64], numbers: &[i32], first: &[usize], flow: &[u64], given: 
 fn settle(out: &mut [u64], numbers: &[i32], first: &[usize], flow: &[u64], given: &[u64], all: u64)
     requires { ⌜ Ready (now numbers) (now first) all ⌝ }
     requires { ⌜ statements (now numbers) ≤ 512 ⌝ }
-    ensures { λ _. ⌜ now (out .exit) ≡ settled (passOf (tableOf (now (numbers .entry))) (now (flow .entry)) (now (given .entry))) (now (out .entry)) ⌝ }
+    ensures { λ _. ⌜ now (out .exit) ≡ settled (passOf all (tableOf (now (numbers .entry))) (now (flow .entry)) (now (given .entry))) (now (out .entry)) ⌝ }
 {
     let mut going = true;
     while going {

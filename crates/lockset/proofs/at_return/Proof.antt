@@ -1,30 +1,26 @@
+-- `lockset::at_return` meets its contract. Assumes nothing.
+use mathlib.Core.Path.{refl}
+use Rattle.report.specs.Operations.{isReturn}
+use Rattle.lockset.proofs.WayLaws.{not-return}
 use borrow.Author.Needs.{needs}
 use Rattle.lockset.proofs.at_return.Statement.{statement}
 use Rattle.lockset.proofs.at_return.Tie as tie
-use Rattle.lockset.proofs.at_return.Reads as reads
-use Rattle.lockset.proofs.at_return.Lts as lts
-use Rattle.lockset.proofs.held_at.Reads as held-at-reads
-use Rattle.lockset.proofs.statement_at.Reads as statement-at-reads
 
--- src/lib.rt:81:9
 statement-at-requires : tie.Need-statement-at-requires
 statement-at-requires c κs = search needs
 
--- src/lib.rt:83:30
 enum-told : tie.Need-enum-told
 enum-told c = search needs
 
--- src/lib.rt:83:30
 held-at-requires : tie.Need-held-at-requires
 held-at-requires c κs = search needs
 
--- src/lib.rt:78:1
 returns : tie.Need-returns
-returns c = ?
+unfolding isReturn
+returns c = rw (← c .before .before .before .statement-at .ensures, c .before .enum-told .given .1) (c .held-at .ensures)
 
--- src/lib.rt:78:1
 returns-2 : tie.Need-returns-2
-returns-2 c = ?
+returns-2 c = rw (← c .before .statement-at .ensures, not-return _ (c .match .keys2))
 
 pub at-return-spec : {M : Type 1} → statement M
 at-return-spec =

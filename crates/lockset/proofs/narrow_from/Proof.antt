@@ -1,31 +1,25 @@
+-- `lockset::narrow_from` meets its contract. Assumes nothing.
+use mathlib.Core.Path.{sym}
+use Rattle.lockset.proofs.StepLaws.{became-as, became-then}
+use Rattle.lockset.proofs.WayLaws.{ways-both}
 use borrow.Author.Needs.{needs}
 use Rattle.lockset.proofs.narrow_from.Statement.{statement}
 use Rattle.lockset.proofs.narrow_from.Tie as tie
-use Rattle.lockset.proofs.narrow_from.Reads as reads
-use Rattle.lockset.proofs.narrow_from.Lts as lts
-use Rattle.lockset.proofs.narrow_into.Reads as narrow-into-reads
-use Rattle.lockset.proofs.narrow_on.Reads as narrow-on-reads
-use Rattle.lockset.proofs.statement_at.Reads as statement-at-reads
 
--- src/lib.rt:212:9
 statement-at-requires : tie.Need-statement-at-requires
 statement-at-requires c κs = search needs
 
--- src/lib.rt:213:9
 narrow-on-requires : tie.Need-narrow-on-requires
-narrow-on-requires c κs = ?
+narrow-on-requires c κs = (c .before .before .before .before .before .before .pre .0, (sym (c .before .statement-at .ensures), c .before .before .before .before .before .before .pre .1))
 
--- src/lib.rt:214:5
 narrow-into-requires : tie.Need-narrow-into-requires
-narrow-into-requires c κs = ?
+narrow-into-requires c κs = (c .before .before .before .before .before .before .before .before .before .before .pre .0, sym (c .before .before .before .before .before .statement-at .ensures))
 
--- src/lib.rt:207:1
 same-length : tie.Need-same-length
 same-length c = search needs
 
--- src/lib.rt:207:1
 returns : tie.Need-returns
-returns c = ?
+returns c = became-as (ways-both _ _ _ _ _ _ (c .before .before .before .before .before .before .before .before .statement-at .ensures) (c .before .before .before .before .before .before .narrow-on .ensures .is)) (became-then (c .before .before .before .before .before .before .narrow-on .ensures) (c .before .before .narrow-into .ensures))
 
 pub narrow-from-spec : {M : Type 1} → statement M
 narrow-from-spec =

@@ -1,59 +1,45 @@
+-- `lockset::narrow_into` meets its contract. Assumes nothing.
+use Rattle.lockset.proofs.StepLaws.{became-as, became-same}
+use Rattle.lockset.proofs.WayLaws.{into-call, into-start, into-other}
 use borrow.Author.Needs.{needs}
 use Rattle.lockset.proofs.narrow_into.Statement.{statement}
 use Rattle.lockset.proofs.narrow_into.Tie as tie
-use Rattle.lockset.proofs.narrow_into.Reads as reads
-use Rattle.lockset.proofs.narrow_into.Lts as lts
-use Rattle.lockset.proofs.first_of.Reads as first-of-reads
-use Rattle.lockset.proofs.held_at.Reads as held-at-reads
-use Rattle.lockset.proofs.narrow_to.Reads as narrow-to-reads
 
--- src/lib.rt:192:13
 enum-known-operation : tie.Need-enum-known-operation
 enum-known-operation c = search needs
 
--- src/lib.rt:195:17
 held-at-requires : tie.Need-held-at-requires
 held-at-requires c κs = search needs
 
--- src/lib.rt:196:33
 first-of-requires : tie.Need-first-of-requires
 first-of-requires c κs = search needs
 
--- src/lib.rt:196:13
 narrow-to-requires : tie.Need-narrow-to-requires
 narrow-to-requires c κs = search needs
 
--- src/lib.rt:199:13
 enum-known-operation-2 : tie.Need-enum-known-operation-2
 enum-known-operation-2 c = search needs
 
--- src/lib.rt:201:34
 first-of-requires-2 : tie.Need-first-of-requires-2
 first-of-requires-2 c κs = search needs
 
--- src/lib.rt:201:14
 narrow-to-requires-2 : tie.Need-narrow-to-requires-2
 narrow-to-requires-2 c κs = search needs
 
--- src/lib.rt:185:1
 same-length : tie.Need-same-length
 same-length c = search needs
 
--- src/lib.rt:185:1
 returns : tie.Need-returns
-returns c = ?
+returns c = became-as (into-call _ _ _ _ _ _ (c .before .before .before .before .before .before .before .before .before .before .before .before .pre .1) (c .before .before .before .before .before .before .before .before .operation .given .1) (c .before .before .before .first-of .ensures) (c .before .before .before .before .before .held-at .ensures)) (c .before .before .narrow-to .ensures)
 
--- src/lib.rt:185:1
 same-length-2 : tie.Need-same-length-2
 same-length-2 c = search needs
 
--- src/lib.rt:185:1
 returns-2 : tie.Need-returns-2
-returns-2 c = ?
+returns-2 c = became-as (into-start _ _ _ _ _ _ (c .before .before .before .before .before .before .before .before .before .before .pre .1) (c .before .before .before .before .before .before .operation2 .given .1) (c .before .before .before .first-of2 .ensures)) (c .before .before .narrow-to2 .ensures)
 
--- src/lib.rt:185:1
 returns-3 : tie.Need-returns-3
-returns-3 c = ?
+returns-3 c = became-same (into-other _ _ _ _ _ (c .match .keys3))
 
 pub narrow-into-spec : {M : Type 1} → statement M
 narrow-into-spec =

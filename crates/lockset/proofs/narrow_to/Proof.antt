@@ -1,45 +1,42 @@
+-- `lockset::narrow_to` meets its contract. Assumes nothing.
+use mathlib.Core.Path.{ap}
+use Prim.Native.Nat.{ℕ}
+use native.Mathlib.Omega.{arith}
+use Rattle.sets.specs.Set.{union}
+use Rattle.sets.specs.Least.{putInto}
+use Rattle.lockset.proofs.StepLaws.{became-as, put-more, put-nothing, put-past}
 use borrow.Author.Needs.{needs}
 use Rattle.lockset.proofs.narrow_to.Statement.{statement}
 use Rattle.lockset.proofs.narrow_to.Tie as tie
-use Rattle.lockset.proofs.narrow_to.Reads as reads
-use Rattle.lockset.proofs.narrow_to.Lts as lts
-use Rattle.sets.proofs.difference.Reads as difference-reads
 
--- src/lib.rt:143:9
 difference-requires : tie.Need-difference-requires
 difference-requires c κs = search needs
 
--- src/lib.rt:145:19
 mul-old : tie.Need-mul-old
 mul-old c = search needs
 
--- src/lib.rt:145:19
 slice-read-old : tie.Need-slice-read-old
 slice-read-old c = search needs
 
--- src/lib.rt:148:13
 mul-out : tie.Need-mul-out
 mul-out c = search needs
 
--- src/lib.rt:148:13
 slice-write-out : tie.Need-slice-write-out
 slice-write-out c = search needs
 
--- src/lib.rt:149:13
 same-length : tie.Need-same-length
 same-length c = search needs
 
--- src/lib.rt:149:13
 returns : tie.Need-returns
-returns c = ?
+unfolding union
+returns c = became-as (ap (λ (x : ℕ). putInto (c .before .before .before .before .before .args .to) x (c .before .before .before .before .before .args .out .now)) (c .before .before .before .difference .ensures)) (put-more _ _ (c .before .before .before .before .before .args .out .now) _ (c .before .before .if1 .taken) (λ i. omega (arith, c .before .slice-known2 .given i)) (omega (arith, c .before .before .before .difference .ok)) (c .if2 .taken))
 
--- src/lib.rt:140:1
 returns-2 : tie.Need-returns-2
-returns-2 c = ?
+unfolding union
+returns-2 c = became-as (ap (λ (x : ℕ). putInto (c .before .before .before .before .before .args .to) x (c .before .before .before .before .before .args .out .now)) (c .before .before .before .difference .ensures)) (put-nothing _ _ _ _ (c .if2 .left))
 
--- src/lib.rt:140:1
 returns-3 : tie.Need-returns-3
-returns-3 c = ?
+returns-3 c = put-past _ _ _ _ (c .if1 .left)
 
 pub narrow-to-spec : {M : Type 1} → statement M
 narrow-to-spec =

@@ -1,26 +1,23 @@
+-- `lockset::statement_at` meets its contract. Assumes nothing.
+use mathlib.Core.Path.{sym, _∙_}
+use native.Mathlib.Omega.{arith}
+use Rattle.table.specs.LookupLaws.{statement-is}
+use Rattle.lockset.proofs.TableLaws.{counts-statements, statement-past}
 use borrow.Author.Needs.{needs}
 use Rattle.lockset.proofs.statement_at.Statement.{statement}
 use Rattle.lockset.proofs.statement_at.Tie as tie
-use Rattle.lockset.proofs.statement_at.Reads as reads
-use Rattle.lockset.proofs.statement_at.Lts as lts
-use Rattle.table.proofs.counts_of.Reads as counts-of-reads
-use Rattle.table.proofs.statement_of.Reads as statement-of-reads
 
--- src/lib.rt:39:17
 counts-of-requires : tie.Need-counts-of-requires
 counts-of-requires c κs = search needs
 
--- src/lib.rt:41:9
 statement-of-requires : tie.Need-statement-of-requires
 statement-of-requires c κs = search needs
 
--- src/lib.rt:41:9
 returns : tie.Need-returns
-returns c = ?
+returns c = c .statement-of .ensures ∙ sym (statement-is _ (c .before .before .before .args .s) (omega (arith, counts-statements _ (c .before .before .counts-of .ensures))))
 
--- src/lib.rt:36:1
 returns-2 : tie.Need-returns-2
-returns-2 c = ?
+returns-2 c = statement-past _ (c .before .before .args .s) (omega (arith, counts-statements _ (c .before .counts-of .ensures)))
 
 pub statement-at-spec : {M : Type 1} → statement M
 statement-at-spec = tie.close (tie.spec counts-of-requires statement-of-requires returns returns-2)

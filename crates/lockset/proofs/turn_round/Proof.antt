@@ -1,58 +1,51 @@
+-- `lockset::turn_round` meets its contract. Assumes nothing.
+use native.Mathlib.Omega.{arith}
+use borrow.Author.Needs.{needs}
+use lib.ListN.{length}
+use Prim.Native.Nat.{_-_}
+use Rattle.lockset.specs.Steps.{Turned}
+use Rattle.lockset.proofs.StepLaws.{turned-start, turned-next, turned-done}
 use Rattle.lockset.proofs.turn_round.Statement.{statement}
 use Rattle.lockset.proofs.turn_round.Tie as tie
-use Rattle.lockset.proofs.turn_round.Reads as reads
-use Rattle.lockset.proofs.turn_round.Lts as lts
-use Rattle.sets.proofs.difference.Reads as difference-reads
 
 abbrev Inv-loop : tie.InvT-loop
-Inv-loop sets₀ all p₀ sets p = ?
+Inv-loop sets₀ all p₀ sets p = Turned all sets₀ sets p
 
 abbrev μ-loop : tie.MeasureT-loop
-μ-loop sets₀ all p₀ sets p = ?
+μ-loop sets₀ all p₀ sets p = length sets₀ - p
 
--- src/lib.rt:251:5
 loop-holds : tie.Need-loop-holds Inv-loop μ-loop
-loop-holds c = ?
+loop-holds c = turned-start _ _
 
--- src/lib.rt:252:41
 mul-difference : tie.Need-mul-difference Inv-loop μ-loop
-mul-difference c = ?
+mul-difference c = search needs
 
--- src/lib.rt:252:41
 slice-read-difference : tie.Need-slice-read-difference Inv-loop μ-loop
-slice-read-difference c = ?
+slice-read-difference c = search needs
 
--- src/lib.rt:252:19
 difference-requires : tie.Need-difference-requires Inv-loop μ-loop
-difference-requires c κs = ?
+difference-requires c κs = search needs
 
--- src/lib.rt:252:9
 mul-sets : tie.Need-mul-sets Inv-loop μ-loop
-mul-sets c = ?
+mul-sets c = search needs
 
--- src/lib.rt:252:9
 slice-write-sets : tie.Need-slice-write-sets Inv-loop μ-loop
-slice-write-sets c = ?
+slice-write-sets c = search needs
 
--- src/lib.rt:253:9
 add-p : tie.Need-add-p Inv-loop μ-loop
-add-p c = ?
+add-p c = search needs
 
--- src/lib.rt:251:5
 loop-less : tie.Need-loop-less Inv-loop μ-loop
-loop-less c = ?
+loop-less c = omega (arith, c .before .before .before .loop .inv .filled .long)
 
--- src/lib.rt:251:5
 loop-again : tie.Need-loop-again Inv-loop μ-loop
-loop-again c = ?
+loop-again c = turned-next (c .before .before .before .loop .inv) (c .before .before .loop-test .taken) (c .difference .ensures)
 
--- src/lib.rt:247:1
 same-length : tie.Need-same-length Inv-loop μ-loop
-same-length c = ?
+same-length c = c .before .loop .inv .filled .long
 
--- src/lib.rt:247:1
 returns : tie.Need-returns Inv-loop μ-loop
-returns c = ?
+returns c = turned-done (c .before .loop .inv) (c .loop-test .left)
 
 pub turn-round-spec : {M : Type 1} → statement M
 turn-round-spec =
