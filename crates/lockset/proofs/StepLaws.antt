@@ -6,7 +6,7 @@ use mathlib.Core.Logic.{_⊎_, inl, inr, ⊎-elim}
 use Prim.Native.Nat.{ℕ, zero, suc, _+_, _-_, _^_, _≤_, _<_}
 use native.Mathlib.Nat.{le-refl, lt-of-lt-of-le, lt-of-le-of-lt}
 use native.Mathlib.Omega.{arith}
-use lib.ListN.{length, getD, set, length-set}
+use lib.ListN.{length, getD, set, take, drop, replicate}
 use lib.Seq.{set-out, set-getD, getD-set-same, getD-set-other}
 use Rattle.sets.specs.Set.{union, inter, minus}
 use Rattle.sets.specs.Least.{SetList, room, putInto, same, settle, settled}
@@ -21,14 +21,15 @@ use Rattle.lockset.specs.Steps.{Became, Settling, Meeting, Turned}
 -- ---- one step, and one after another
 
 pub became-same : {x s : List ℕ} {b : Bool} → x ≡ s → Became x s s b b
-became-same {x} {s} {b} e = record { is = sym e; still = λ q. (q, refl); moved = λ q. inl q; less = le-refl (room s) }
+became-same {x} {s} {b} e = record { is = sym e; long = refl; still = λ q. (q, refl); moved = λ q. inl q; less = le-refl (room s) }
 
 pub became-as : {x y s s′ : List ℕ} {b b′ : Bool} → x ≡ y → Became x s s′ b b′ → Became y s s′ b b′
-became-as e p = record { is = p .is ∙ e; still = p .still; moved = p .moved; less = p .less }
+became-as e p = record { is = p .is ∙ e; long = p .long; still = p .still; moved = p .moved; less = p .less }
 
 pub became-then : {x y s s′ s″ : List ℕ} {b b′ b″ : Bool} → Became x s s′ b b′ → Became y s′ s″ b′ b″ → Became y s s″ b b″
 became-then {x} {y} {s} {s′} {s″} {b} {b′} {b″} p q = record {
   is = q .is;
+  long = q .long ∙ p .long;
   still = λ e. let was = q .still e in let first = p .still (was .0) in (first .0, was .1 ∙ first .1);
   moved = λ e. ⊎-elim (λ m. ⊎-elim (λ n. inl n) (λ l. inr (lt-of-le-of-lt (q .less) l)) (p .moved m)) (λ l. inr (lt-of-lt-of-le l (p .less))) (q .moved e);
   less = omega (arith, p .less, q .less);
@@ -53,6 +54,7 @@ put-more t x s b l h small d =
     (λ q. d (sym (getD-set-same s t (union (getD s t 0) x) 0 l) ∙ ap (λ (r : List ℕ). getD r t 0) (sym q))) in
     record {
       is = refl;
+      long = put-length t x s;
       still = λ e. absurd (let z : _≡_ {A = ℕ} 0 1 = cc in omega arith);
       moved = λ e. inr less;
       less = omega (arith, less);
@@ -88,7 +90,7 @@ module _ (pass : List ℕ → List ℕ) where
 
   pub settling-start : (s : List ℕ) → Settling pass s s true
   unfolding settled
-  settling-start s = record { fuel = room s; enough = le-refl (room s); whole = refl; closed = λ e. absurd (let z : _≡_ {A = ℕ} 0 1 = cc in omega arith) }
+  settling-start s = record { long = refl; fuel = room s; enough = le-refl (room s); whole = refl; closed = λ e. absurd (let z : _≡_ {A = ℕ} 0 1 = cc in omega arith) }
 
   pub settling-next : {s₀ s s′ : List ℕ} {b b′ : Bool} → Settling pass s₀ s b → Became (pass s) s s′ false b′ → Settling pass s₀ s′ b′
   settling-next {s₀} {s} {s′} {b} {b′} h p = go b′ p
@@ -97,6 +99,7 @@ module _ (pass : List ℕ → List ℕ) where
       more : (m : ℕ) → room s ≤ m → settle pass m s ≡ settled pass s₀ → room s′ < room s → Became (pass s) s s′ false true → Settling pass s₀ s′ true
       more zero enough whole l q = absurd (omega arith)
       more (suc m) enough whole l q = record {
+        long = q .long ∙ h .long;
         fuel = m;
         enough = omega arith;
         whole = ap (settle pass m) (q .is)
@@ -109,6 +112,7 @@ module _ (pass : List ℕ → List ℕ) where
       go false q =
           let e : s′ ≡ s = q .still refl .1 in
           record {
+            long = q .long ∙ h .long;
             fuel = h .fuel;
             enough = subst (λ (r : List ℕ). room r ≤ h .fuel) (sym e) (h .enough);
             whole = ap (settle pass (h .fuel)) e ∙ h .whole;
@@ -173,3 +177,17 @@ turned-next {all} {s₀} {s} {p} {v} t l e =
 
 pub turned-done : {all : ℕ} {s₀ s : List ℕ} {p : ℕ} → Turned all s₀ s p → length s ≤ p → s ≡ tabulate (length s₀) (leaving all s₀)
 turned-done {all} {s₀} {s} {p} t h = filled-all (leaving all s₀) s (length s₀) p (t .filled) (omega (arith, t .filled .long))
+
+-- ---- parts of a list of empty sets
+
+pub take-empty : (n m : ℕ) → n ≤ m → _≡_ {A = List ℕ} (take n (replicate m 0)) (replicate n 0)
+take-empty zero m h = refl
+take-empty (suc n) zero h = absurd (omega arith)
+take-empty (suc n) (suc m) h = ap (λ (l : List ℕ). 0 ∷ l) (take-empty n m (omega arith))
+
+pub drop-empty : (n m : ℕ) → n ≤ m → _≡_ {A = List ℕ} (drop n (replicate m 0)) (replicate (m - n) 0)
+drop-empty zero m h = let e : m - 0 ≡ m = omega arith in ap (λ (k : ℕ). replicate k 0) (sym e)
+drop-empty (suc n) zero h = absurd (omega arith)
+drop-empty (suc n) (suc m) h =
+    let e : suc m - suc n ≡ m - n = omega arith in
+    drop-empty n m (omega arith) ∙ ap (λ (k : ℕ). replicate k 0) (sym e)

@@ -169,20 +169,21 @@ module _ (all : ℕ) (t : Table) (flow given : List ℕ) where
   unfolding passBelow joinedFrom narrowAll
   below-none out = refl
 
-  pub below-next : (i : ℕ) (out : List ℕ) → narrowAll all (waysOf t flow given i) (passBelow all t flow given i out) ≡ passBelow all t flow given (i + 1) out
+  pub below-next : {out′ : List ℕ} (i : ℕ) (out : List ℕ) → out′ ≡ passBelow all t flow given i out → narrowAll all (waysOf t flow given i) out′ ≡ passBelow all t flow given (i + 1) out
   unfolding passBelow
-  below-next i out =
-      sym (narrow-append all (joinedFrom 0 i (waysOf t flow given)) (waysOf t flow given i) out)
+  below-next {out′} i out e =
+      ap (narrowAll all (waysOf t flow given i)) e
+      ∙ sym (narrow-append all (joinedFrom 0 i (waysOf t flow given)) (waysOf t flow given i) out)
       ∙ ap (λ (j : ℕ). narrowAll all (joinedFrom 0 i (waysOf t flow given) ++ waysOf t flow given j) out) (sym (zero-add i))
       ∙ ap (λ (ws : List Way). narrowAll all ws out) (sym (joined-last 0 i (waysOf t flow given)))
       ∙ ap (λ (n : ℕ). narrowAll all (joinedFrom 0 n (waysOf t flow given)) out) (sym (add-one i))
 
-  pub below-all : (n first : ℕ) (out : List ℕ) → n ≡ length (t .statements) → first ≡ routine t 0 .first
-      → passBelow all t flow given n (putInto first (minus all 0) out) ≡ passOf all t flow given out
+  pub below-all : {out′ : List ℕ} (n first : ℕ) (out : List ℕ) → n ≡ length (t .statements) → first ≡ routine t 0 .first → out′ ≡ putInto first (minus all 0) out
+      → passBelow all t flow given n out′ ≡ passOf all t flow given out
   unfolding passBelow allWays narrowAll narrow entry oneEach
-  below-all n first out e p =
-      ap (λ (m : ℕ). passBelow all t flow given m (putInto first (minus all 0) out)) e
-      ∙ ap (λ (x : ℕ). passBelow all t flow given (length (t .statements)) (putInto x (minus all 0) out)) p
+  below-all {out′} n first out e p q =
+      ap (λ (m : ℕ). passBelow all t flow given m out′) e
+      ∙ ap (passBelow all t flow given (length (t .statements))) (q ∙ ap (λ (x : ℕ). putInto x (minus all 0) out) p)
 
 -- ---- the whole
 

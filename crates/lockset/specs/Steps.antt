@@ -28,6 +28,7 @@ pub record Ready (f : List ℤ) (first : List ℕ) (all : ℕ) : Type 0 where
 -- a list became the target; `after` says whether anything changed so far, and `before` whether anything had before
 pub record Became (target s s′ : List ℕ) (before after : Bool) : Type 0 where
   pub is : s′ ≡ target
+  pub long : length s′ ≡ length s
   pub still : after ≡ false → (before ≡ false) × (s′ ≡ s)
   pub moved : after ≡ true → (before ≡ true) ⊎ (room s′ < room s)
   pub less : room s′ ≤ room s
@@ -66,6 +67,7 @@ passBelow all t flow given i = narrowAll all (joinedFrom 0 i (waysOf t flow give
 
 -- some passes were made: what is left of them gives the whole; where the last one changed nothing, nothing is left
 pub record Settling (pass : List ℕ → List ℕ) (s₀ s : List ℕ) (going : Bool) : Type 0 where
+  pub long : length s ≡ length s₀
   pub fuel : ℕ
   pub enough : room s ≤ fuel
   pub whole : settle pass fuel s ≡ settled pass s₀

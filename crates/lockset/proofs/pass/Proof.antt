@@ -1,8 +1,7 @@
 -- `lockset::pass` meets its contract. Assumes nothing.
-use mathlib.Core.Path.{refl, _∙_}
+use mathlib.Core.Path.{_∙_}
 use native.Mathlib.Omega.{arith}
 use borrow.Author.Needs.{needs}
-use lib.ListN.{length}
 use Prim.Native.Nat.{_-_, _≤_}
 use Rattle.table.specs.Table.{tableOf}
 use Rattle.table.specs.LookupLaws.{statements-length}
@@ -41,13 +40,13 @@ loop-less : tie.Need-loop-less Inv-loop μ-loop
 loop-less c = omega arith
 
 loop-again : tie.Need-loop-again Inv-loop μ-loop
-loop-again c = ?
+loop-again c = (omega arith, became-as (below-next _ _ _ _ _ _ (c .before .before .before .before .before .loop .inv .1 .is)) (became-then (c .before .before .before .before .before .loop .inv .1) (c .before .before .narrow-from .ensures)))
 
 same-length : tie.Need-same-length Inv-loop μ-loop
-same-length c = ?
+same-length c = c .before .loop .inv .1 .long ∙ c .before .before .before .before .narrow-to .ensures .long
 
 returns : tie.Need-returns Inv-loop μ-loop
-returns c = ?
+returns c = became-as (below-all _ _ _ _ _ _ _ (omega (arith, c .before .loop .inv .0, counts-statements _ (c .before .before .before .before .before .before .before .counts-of .ensures), statements-length (c .before .before .before .before .before .before .before .before .before .before .before .before .args .numbers .now))) (c .before .before .before .before .before .before .first-of .ensures) (c .before .before .before .before .narrow-to .ensures .is)) (became-then (c .before .before .before .before .narrow-to .ensures) (c .before .loop .inv .1))
 
 pub pass-spec : {M : Type 1} → statement M
 pass-spec =

@@ -1,26 +1,22 @@
+-- `lockset::solve` meets its contract. Assumes nothing.
+use Rattle.lockset.proofs.WayLaws.{held-is}
+use mathlib.Core.Path.{sym, _∙_}
+use Rattle.table.specs.LookupLaws.{statements-length}
 use borrow.Author.Needs.{needs}
 use Rattle.lockset.proofs.solve.Statement.{statement}
 use Rattle.lockset.proofs.solve.Tie as tie
-use Rattle.lockset.proofs.solve.Reads as reads
-use Rattle.lockset.proofs.solve.Lts as lts
-use Rattle.lockset.proofs.settle.Reads as settle-reads
-use Rattle.lockset.proofs.turn_round.Reads as turn-round-reads
 
--- src/lib.rt:264:5
 settle-requires : tie.Need-settle-requires
 settle-requires c κs = search needs
 
--- src/lib.rt:265:5
 turn-round-requires : tie.Need-turn-round-requires
 turn-round-requires c κs = search needs
 
--- src/lib.rt:258:1
 same-length : tie.Need-same-length
 same-length c = search needs
 
--- src/lib.rt:258:1
 returns : tie.Need-returns
-returns c = ?
+returns c = held-is _ _ _ _ _ _ _ _ (c .before .before .before .before .before .before .before .before .before .before .before .before .pre .0 .all-is) (sym (statements-length _)) (c .before .before .before .before .before .before .before .before .before .before .before .before .pre .1 .1) (c .before .before .before .before .before .before .settle .ensures) (c .before .before .before .before .before .before .settle .kept .0) (c .before .before .turn-round .ensures)
 
 pub solve-spec : {M : Type 1} → statement M
 solve-spec = tie.close (tie.spec settle-requires turn-round-requires same-length returns)
