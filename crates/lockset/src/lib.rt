@@ -110,7 +110,15 @@ fn only_lock(flow: u64) -> u64
 }
 
 // What is held behind a CALL of routine `r` at statement `s`.
-fn after_call(numbers: &[i32], first: &[usize], given: &[u64], out: &[u64], all: u64, s: usize, r: usize) -> u64
+fn after_call(
+    numbers: &[i32],
+    first: &[usize],
+    given: &[u64],
+    out: &[u64],
+    all: u64,
+    s: usize,
+    r: usize,
+) -> u64
     requires { ⌜ Ready (now numbers) (now first) all ⌝ }
     ensures { λ x. ⌜ x ≡ union (atReturns (tableOf (now (numbers .entry))) (oneEach (tableOf (now (numbers .entry)))) (leaving all (now (out .entry))) r) (minus (leaving all (now (out .entry)) s) (getD (now (given .entry)) r 0)) ⌝ }
 {
@@ -119,7 +127,16 @@ fn after_call(numbers: &[i32], first: &[usize], given: &[u64], out: &[u64], all:
 }
 
 // What is held behind statement `s`, which is `operation`.
-fn held_after(numbers: &[i32], first: &[usize], flow: &[u64], given: &[u64], out: &[u64], all: u64, s: usize, operation: Statement) -> u64
+fn held_after(
+    numbers: &[i32],
+    first: &[usize],
+    flow: &[u64],
+    given: &[u64],
+    out: &[u64],
+    all: u64,
+    s: usize,
+    operation: Statement,
+) -> u64
     requires { ⌜ Ready (now numbers) (now first) all ⌝ }
     requires { ⌜ statement (tableOf (now numbers)) s ≡ operation ⌝ }
     ensures { λ x. ⌜ x ≡ behind (tableOf (now (numbers .entry))) (now (flow .entry)) (now (given .entry)) s operation 0 .brings (leaving all (now (out .entry))) ⌝ }
@@ -152,7 +169,18 @@ fn narrow_to(out: &mut [u64], all: u64, to: usize, brought: u64, changed: bool) 
 }
 
 // Goes the way behind statement `s`, which is `operation`, to statement `to`, and returns as narrow_to does.
-fn narrow_behind(out: &mut [u64], numbers: &[i32], first: &[usize], flow: &[u64], given: &[u64], all: u64, s: usize, operation: Statement, to: usize, changed: bool) -> bool
+fn narrow_behind(
+    out: &mut [u64],
+    numbers: &[i32],
+    first: &[usize],
+    flow: &[u64],
+    given: &[u64],
+    all: u64,
+    s: usize,
+    operation: Statement,
+    to: usize,
+    changed: bool,
+) -> bool
     requires { ⌜ Ready (now numbers) (now first) all ⌝ }
     requires { ⌜ statement (tableOf (now numbers)) s ≡ operation ⌝ }
     ensures { λ r. ⌜ Became (narrow all (behind (tableOf (now (numbers .entry))) (now (flow .entry)) (now (given .entry)) s operation to) (now (out .entry))) (now (out .entry)) (now (out .exit)) changed r ⌝ }
@@ -162,26 +190,88 @@ fn narrow_behind(out: &mut [u64], numbers: &[i32], first: &[usize], flow: &[u64]
 }
 
 // Goes the ways of statement `s`, which is `operation`, to what may come next, and returns as narrow_to does.
-fn narrow_on(out: &mut [u64], numbers: &[i32], first: &[usize], flow: &[u64], given: &[u64], all: u64, s: usize, operation: Statement, changed: bool) -> bool
+fn narrow_on(
+    out: &mut [u64],
+    numbers: &[i32],
+    first: &[usize],
+    flow: &[u64],
+    given: &[u64],
+    all: u64,
+    s: usize,
+    operation: Statement,
+    changed: bool,
+) -> bool
     requires { ⌜ Ready (now numbers) (now first) all ⌝ }
     requires { ⌜ statement (tableOf (now numbers)) s ≡ operation ⌝ }
     requires { ⌜ s < 512 ⌝ }
     ensures { λ r. ⌜ Became (narrowAll all (waysOn (tableOf (now (numbers .entry))) (now (flow .entry)) (now (given .entry)) s operation) (now (out .entry))) (now (out .entry)) (now (out .exit)) changed r ⌝ }
 {
     match operation {
-        Statement::Jump(target) => narrow_behind(out, numbers, first, flow, given, all, s, operation, target.statement, changed),
+        Statement::Jump(target) => narrow_behind(
+            out,
+            numbers,
+            first,
+            flow,
+            given,
+            all,
+            s,
+            operation,
+            target.statement,
+            changed,
+        ),
         Statement::JumpZero(target) => {
-            let more = narrow_behind(out, numbers, first, flow, given, all, s, operation, target.statement, changed);
-            narrow_behind(out, numbers, first, flow, given, all, s, operation, s + 1, more)
+            let more = narrow_behind(
+                out,
+                numbers,
+                first,
+                flow,
+                given,
+                all,
+                s,
+                operation,
+                target.statement,
+                changed,
+            );
+            narrow_behind(
+                out,
+                numbers,
+                first,
+                flow,
+                given,
+                all,
+                s,
+                operation,
+                s + 1,
+                more,
+            )
         }
         Statement::Return => changed,
-        _ => narrow_behind(out, numbers, first, flow, given, all, s, operation, s + 1, changed),
+        _ => narrow_behind(
+            out,
+            numbers,
+            first,
+            flow,
+            given,
+            all,
+            s,
+            operation,
+            s + 1,
+            changed,
+        ),
     }
 }
 
 // Goes the way of statement `s`, which is `operation`, into the routine that it names: by CALL with what is held here, by START with
 // nothing. Returns as narrow_to does.
-fn narrow_into(out: &mut [u64], numbers: &[i32], first: &[usize], all: u64, s: usize, operation: Statement, changed: bool) -> bool
+fn narrow_into(
+    out: &mut [u64],
+    numbers: &[i32],
+    first: &[usize],
+    all: u64,
+    s: usize,
+    operation: Statement,
+    changed: bool,
+) -> bool
     requires { ⌜ Ready (now numbers) (now first) all ⌝ }
     requires { ⌜ statement (tableOf (now numbers)) s ≡ operation ⌝ }
     ensures { λ r. ⌜ Became (narrowAll all (waysInto (tableOf (now (numbers .entry))) s operation) (now (out .entry))) (now (out .entry)) (now (out .exit)) changed r ⌝ }
@@ -192,7 +282,13 @@ fn narrow_into(out: &mut [u64], numbers: &[i32], first: &[usize], all: u64, s: u
             arguments: _,
         } => {
             let held = held_at(out, all, s);
-            narrow_to(out, all, first_of(numbers, first, all, routine), held, changed)
+            narrow_to(
+                out,
+                all,
+                first_of(numbers, first, all, routine),
+                held,
+                changed,
+            )
         }
         Statement::Start {
             routine,
@@ -203,7 +299,16 @@ fn narrow_into(out: &mut [u64], numbers: &[i32], first: &[usize], all: u64, s: u
 }
 
 // Goes every way of statement `s`, and returns as narrow_to does.
-fn narrow_from(out: &mut [u64], numbers: &[i32], first: &[usize], flow: &[u64], given: &[u64], all: u64, s: usize, changed: bool) -> bool
+fn narrow_from(
+    out: &mut [u64],
+    numbers: &[i32],
+    first: &[usize],
+    flow: &[u64],
+    given: &[u64],
+    all: u64,
+    s: usize,
+    changed: bool,
+) -> bool
     requires { ⌜ Ready (now numbers) (now first) all ⌝ }
     requires { ⌜ s < 512 ⌝ }
     ensures { λ r. ⌜ Became (narrowAll all (waysOf (tableOf (now (numbers .entry))) (now (flow .entry)) (now (given .entry)) s) (now (out .entry))) (now (out .entry)) (now (out .exit)) changed r ⌝ }
@@ -214,7 +319,14 @@ fn narrow_from(out: &mut [u64], numbers: &[i32], first: &[usize], flow: &[u64], 
 }
 
 // Goes every way of the table once, the entry of routine 0 first, and returns whether anything changed.
-fn pass(out: &mut [u64], numbers: &[i32], first: &[usize], flow: &[u64], given: &[u64], all: u64) -> bool
+fn pass(
+    out: &mut [u64],
+    numbers: &[i32],
+    first: &[usize],
+    flow: &[u64],
+    given: &[u64],
+    all: u64,
+) -> bool
     requires { ⌜ Ready (now numbers) (now first) all ⌝ }
     requires { ⌜ statements (now numbers) ≤ 512 ⌝ }
     ensures { λ r. ⌜ Became (passOf all (tableOf (now (numbers .entry))) (now (flow .entry)) (now (given .entry)) (now (out .entry))) (now (out .entry)) (now (out .exit)) false r ⌝ }
@@ -266,7 +378,14 @@ fn solve(held: &mut [u64], numbers: &[i32], first: &[usize], flow: &[u64], given
 
 // The held sets of a table, from its flow sets and the locks that each routine may give up; empty sets behind the last statement's.
 // `first`, `handle` and `counts` are the lists that the table's reader makes.
-pub fn held_sets(numbers: &[i32], first: &[usize], handle: &[usize], counts: &[usize], flow: &[u64], given: &[u64]) -> [u64; 512]
+pub fn held_sets(
+    numbers: &[i32],
+    first: &[usize],
+    handle: &[usize],
+    counts: &[usize],
+    flow: &[u64],
+    given: &[u64],
+) -> [u64; 512]
     requires { ⌜ Laid (now numbers) (now first) (now handle) (now counts) ⌝ }
     ensures { λ r. ⌜ r ≡ heldSets (tableOf (now (numbers .entry))) (oneEach (tableOf (now (numbers .entry)))) (now (flow .entry)) (now (given .entry)) ++ replicate (512 - statements (now (numbers .entry))) 0 ⌝ }
 {
