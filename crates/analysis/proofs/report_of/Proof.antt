@@ -54,7 +54,7 @@ returns : tie.Need-returns
 returns c = let start = c .before .before .before .before .before .before .before in
     let bytes = report-bytes _ (start .pre) _ (c .before .before .before .before .before .summary-of .ensures) _ (c .before .before .before .before .counts-of .ensures) _ (c .before .access-count .ensures .0) in
     let short : length (now (start .args .out)) < length (reportText (tableOf (now (start .args .numbers)))) = omega (arith, c .if1 .taken) in
-    no-room _ _ short
+    no-room (reportText (tableOf (now (start .args .numbers)))) (now (start .args .out)) short
 
 -- src/lib.rt:85:55
 slice-aggregate-unguarded-count : tie.Need-slice-aggregate-unguarded-count
