@@ -7,3 +7,4 @@ pub mod Operations
 pub mod Runs
 pub mod Theorem
 pub mod Engine
+pub mod Demand

@@ -2,11 +2,11 @@
 use Prim.Native.Nat.{ℕ, _^_, _<_}
 use mathlib.Core.Path.{_≡_, refl, sym, ap, _∙_, subst}
 use mathlib.Core.Bool.{Bool, true, false, cond, not, _&&_, _||_}
-use mathlib.Core.Logic.{_⊎_, inl, inr}
+use mathlib.Core.Logic.{_⊎_, inl, inr, _↔_}
 use mathlib.Core.List.{List·Memᴰ}
 use native.Mathlib.Omega.{arith}
 use lib.Count.{trailingZeros}
-use lib.ListN.{getD}
+use lib.ListN.{length, getD}
 use borrow.Author.Tests.{eqb-true, eq-eqb, not-false}
 use Rattle.sets.specs.Set.{has, subset, isEmpty, isSingle, count}
 use Rattle.sets.specs.SetLaws.{has-beyond, below-of-has, firsts-below, subset-has, has-subset, single-is-one, has-one, lowest-some, lowest-is}
@@ -15,9 +15,10 @@ use Rattle.table.specs.Accepted.{Accepted}
 use Rattle.table.specs.declared.Handle.{Handle}
 use Rattle.table.specs.declared.Statement.{Statement}
 use Rattle.table.specs.declared.Statement.the-variants.{Read, Write, Set, Add, Take, Give, Point, Call, Start, Jump, JumpZero, Return}
+use Rattle.report.specs.Over.{unionAt}
 use Rattle.report.specs.OverLaws.{never, none-in, both-true, true-both, not-has, inter-at, inter-inside, inter-has, unionAt-has, unionAt-from, below-within, within-below}
 use Rattle.report.specs.Layout.{Layout}
-use Rattle.report.specs.Fits.{Fits, copiesOf}
+use Rattle.report.specs.Fits.{Fits, StatementPlaced, copiesOf}
 use Rattle.report.specs.Operations.{accessed, reading, writing}
 use Rattle.report.specs.Flow.{flowAt}
 use Rattle.report.specs.FlowLaws.{flow-sets}
@@ -234,3 +235,31 @@ module _ (t : Table) (k : Layout) (acc : Accepted t) (fits : Fits t k) where
   stray-from s h =
       let r = unionAt-from (k .placesOf s) (λ q. cond (strayAt t k theSets q) 1 0) 0 h in
       (r .0, r .1, sym (mark (strayAt t k theSets (r .0))) ∙ r .2)
+
+  -- ---- a statement is counted exactly if it is an access in some copy
+
+  counted-if : (c s : ℕ) (w : Bool) (x : ℕ) → Place (copiesOf fits) c s → Accesses (copiesOf fits) (families t k .flow) c (statement t s) w x
+      → has (unionAt (k .placesOf s) (ownAccess t k theSets w)) x ≡ true
+  unfolding ownAccess
+  counted-if c s w x v a =
+      let u : StatementPlaced k c s = placed t k fits c s v in
+      unionAt-has (k .placesOf s) (ownAccess t k theSets w) (k .statementPlace c s) x
+      (subst (λ (z : ℕ). List·Memᴰ (k .statementPlace c s) (k .placesOf z)) (u .same) (fits .statement-there (k .statementPlace c s) (u .there) .among))
+      (at-placed t k fits (λ p d z τ. has (accessed w (flowAt k (theSets .flow) d) 0 τ) x ≡ true) c s v (statement t s) refl (accesses-has c (statement t s) w x a))
+
+  counted-is : (s : ℕ) (w : Bool) (x : ℕ) → s < length (t .statements) → has (unionAt (k .placesOf s) (ownAccess t k theSets w)) x ≡ true
+      → (c : ℕ) × Place (copiesOf fits) c s × Accesses (copiesOf fits) (families t k .flow) c (statement t s) w x
+  unfolding ownAccess
+  counted-is s w x l h =
+      let r = unionAt-from (k .placesOf s) (ownAccess t k theSets w) x h in
+      let q : (r .0 < k .statements) × (k .statementAt (r .0) ≡ s) = fits .places-of s (r .0) l (r .1) in (
+        k .statementCopy (r .0),
+        subst (Place (copiesOf fits) (k .statementCopy (r .0))) (q .1) (place-at t k fits (r .0) (q .0)),
+        subst (λ (z : ℕ). Accesses (copiesOf fits) (families t k .flow) (k .statementCopy (r .0)) (statement t z) w x) (q .1)
+            (has-accesses (k .statementCopy (r .0)) (statement t (k .statementAt (r .0))) w x (r .2)),
+      )
+
+  pub counted-exactly : (s : ℕ) (w : Bool) (x : ℕ) → s < length (t .statements)
+      → (has (unionAt (k .placesOf s) (ownAccess t k theSets w)) x ≡ true)
+      ↔ ((c : ℕ) × Place (copiesOf fits) c s × Accesses (copiesOf fits) (families t k .flow) c (statement t s) w x)
+  counted-exactly s w x l = (counted-is s w x l, λ (c, v, a). counted-if c s w x v a)

@@ -1,16 +1,18 @@
 -- The lines of the report have a table line's form: eight numbers each, all in the range of a field; so many bytes. Assumes nothing.
-use Prim.Native.Nat.{ℕ, zero, suc, _+_, _*_, _^_, _≤_, _<_}
+use Prim.Native.Nat.{ℕ, zero, suc, _+_, _-_, _*_, _^_, _≤_, _<_}
 use mathlib.Core.Path.{_≡_, refl, sym, ap, _∙_, subst}
 use mathlib.Core.Bool.{Bool, true, false, cond}
 use mathlib.Core.Logic.{_⊎_, inl, inr}
-use mathlib.Core.List.{List, [], _∷_, map, List·Memᴰ, List·Memᴰ·head, List·Memᴰ·tail, List·Memᴰ·append-cases, List·Memᴰ·eq-of-singleton}
+use mathlib.Core.List.{List, [], _∷_, _++_, append-assoc, append-nil, map, map-append, List·Memᴰ, List·Memᴰ·head, List·Memᴰ·tail, List·Memᴰ·append-cases, List·Memᴰ·eq-of-singleton}
 use native.Mathlib.Omega.{arith}
 use lib.IntN.{ℤ, pos}
-use lib.ListN.{length, length-append, length-map}
+use mathlib.Core.Option.{some}
+use lib.ListN.{length, drop, length-append, length-map}
+use lib.Seq.{drop-at}
 use borrow.Author.Tests.{lt-ltb, ltb-true}
 use Rattle.lines.specs.Field.{inField}
-use Rattle.lines.specs.Line.{allInField, lineText}
-use Rattle.lines.specs.LineLaws.{all-none, all-good, line-text-length}
+use Rattle.lines.specs.Line.{allInField, lineText, lineOf}
+use Rattle.lines.specs.LineLaws.{all-none, all-good, line-text-length, printed-reads-back}
 use Rattle.sets.specs.Set.{has}
 use Rattle.sets.specs.SetLaws.{has-firsts, below-of-has}
 use Rattle.table.specs.Table.{Table}
@@ -21,8 +23,8 @@ use Rattle.report.specs.Layout.{Layout, oneEach}
 use Rattle.report.specs.Operations.{reading, writing}
 use Rattle.report.specs.Held.{allLocks}
 use Rattle.report.specs.Findings.{Sets, setsOf, sharedCells, commonLocks, isUnguarded, accessCount, isStray}
-use Rattle.report.specs.Report.{bit, cellLine, cellLines, strayLine, strayLines, countLines, saysUnguarded, saysStray, totalLine, findingLines, linesFor, reportLines, textOf, reportText}
-use Rattle.report.specs.ReportLaws.{unguarded-counted, stray-counted}
+use Rattle.report.specs.Report.{bit, cellLine, cellLines, strayLine, strayLines, countLines, saysUnguarded, saysStray, totalLine, findingLines, linesFor, reportLines, textOf, reportText, lastLine}
+use Rattle.report.specs.ReportLaws.{unguarded-counted, stray-counted, last-line}
 
 -- ---- numbers in the range of a field
 
@@ -175,3 +177,27 @@ pub report-length : (t : Table) → Accepted t
 unfolding reportText reportLines
 report-length t acc =
     text-length (linesFor t (oneEach t)) (lines-8 t (oneEach t) acc) ∙ ap (λ (n : ℕ). 49 * n) (lines-count t (oneEach t))
+
+-- ---- the last line of the bytes
+
+text-behind : (ls : List (List ℤ)) (l : List ℤ) → textOf (ls ++ (l ∷ [])) ≡ textOf ls ++ lineText l
+unfolding textOf
+text-behind [] l = append-nil (lineText l)
+text-behind (m ∷ ls) l = ap (λ (b : List ℕ). lineText m ++ b) (text-behind ls l) ∙ sym (append-assoc (lineText m) (textOf ls) (lineText l))
+
+-- the last 49 bytes of a report read as its last line
+pub last-49 : (t : Table) → Accepted t → lineOf (drop (length (reportText t) - 49) (reportText t)) ≡ some (lastLine (reportLines t))
+unfolding reportText reportLines linesFor
+last-49 t acc =
+    let k = oneEach t in
+    let above = map (map pos) (findingLines t k) in
+    let last = map pos (totalLine (findingLines t k)) in
+    let whole : textOf (map (map pos) (linesFor t k)) ≡ textOf above ++ lineText last =
+    ap textOf (map-append (map pos) (findingLines t k) (totalLine (findingLines t k) ∷ [])) ∙ text-behind above last in
+    let line : Line8 (totalLine (findingLines t k)) = total-line-8 t k acc in
+    let eight-long : length last ≡ 8 = length-map (totalLine (findingLines t k)) pos ∙ line .long in
+    let long : length (lineText last) ≡ 49 = line-text-length last (line .range) ∙ ap (λ (n : ℕ). 6 * n + 1) eight-long in
+    let seam : length (textOf above) ≡ length (textOf above ++ lineText last) - 49 = omega (arith, length-append (textOf above) (lineText last)) in
+    rw (whole, last-line t)
+    (ap lineOf (drop-at (textOf above) (lineText last) (length (textOf above ++ lineText last) - 49) seam)
+    ∙ printed-reads-back last eight-long (line .range))

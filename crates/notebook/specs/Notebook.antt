@@ -1,0 +1,95 @@
+-- The starred entries of the trainer's notebook, one table of inputs and results under one statement of the definitions: a table text with what is asked of
+-- it, its report or a step, and the numbers that the definitions give. Assumes nothing.
+use Prim.Native.Nat.{ℕ}
+use mathlib.Core.Path.{_≡_, refl}
+use mathlib.Core.List.{List, [], _∷_, _++_}
+use lib.IntN.{ℤ, pos, negsuc}
+use lib.Count.{trailingZeros}
+use Rattle.table.specs.Table.{Table, tableOf}
+use Rattle.machine.specs.State.{State, Frame, free, thread}
+use Rattle.machine.specs.Step.{step, after, wrap}
+use Rattle.table.specs.declared.Verdict.{Verdict}
+use Rattle.table.specs.declared.Verdict.the-variants.{Accepted, Refused}
+use Rattle.report.specs.Report.{reportLines, textOf}
+use Rattle.lines.specs.Line.{numbersOf}
+use Rattle.lines.specs.Field.{digitsFrom, decimalOf, signedOf, spacedOf, fieldOf, decimalText, signedText, fieldText}
+use Rattle.lines.specs.Line.{fieldsOf, allInField, lineText, pieces}
+use Rattle.table.specs.Fields.{unused}
+use Rattle.table.specs.Header.{headerOk, lengthOk, leading, leadingOk}
+use Rattle.table.specs.Handles.{things, handleFieldsOk, sameAbove, handleOrderOk, parameterOk, handleOk}
+use Rattle.table.specs.Routines.{routineOk, sumOk}
+use Rattle.table.specs.Statements.{ownHandle, ownOfKind, ownStatement, argumentOk, argumentsOk, namingOk, pointOk, operationOk, statementOk, badStatement, endOk}
+use Rattle.table.specs.Naming.{namedBy, gather, namesOf, namesIn, isNamed, walk, reached, isAcyclic}
+use Rattle.table.specs.Verdict.{namingVerdict, statementVerdict, declarationVerdict, numbersVerdict, textOk, verdict, readingOf}
+use Rattle.sets.specs.Set.{with, lowest}
+use Rattle.report.specs.Cases.{Case, row, asComputed}
+use Rattle.report.specs.Notebook.{notebook}
+
+-- what is asked of a table: its report, or what a step of a thread makes of a state
+pub data Question : Type 0 where
+  report : Question
+  stepped : State → ℕ → Question
+
+pub record Entry : Type 0 where
+  pub lines : List (List ℤ)
+  pub question : Question
+  pub result : List (List ℤ)
+
+abbrev pub nextOf : List Frame → List ℤ
+nextOf [] = []
+nextOf (f ∷ fs) = pos (f .next) ∷ []
+
+-- the report's lines, or the thread's accumulator and next statement after the step
+unfoldable pub answer : Table → Question → List (List ℤ)
+answer t report = reportLines t
+answer t (stepped state n) = let new = thread (after state (step t state n)) n in (new .accumulator ∷ nextOf (new .frames)) ∷ []
+
+-- an entry's input is a table text: its lines as bytes
+abbrev pub textIn : Entry → List ℕ
+textIn e = textOf (e .lines)
+
+-- what is said of a text: the answer, or "50, number, line, five zeros"
+abbrev pub said : Verdict → List (List ℤ) → List (List ℤ)
+said Accepted ls = ls
+said (Refused number line) ls = (pos 50 ∷ pos number ∷ pos line ∷ pos 0 ∷ pos 0 ∷ pos 0 ∷ pos 0 ∷ pos 0 ∷ []) ∷ []
+
+unfoldable pub answers : List Entry → List (List (List ℤ))
+unfolding answer asComputed step wrap with lowest digitsFrom decimalOf signedOf spacedOf fieldOf decimalText signedText fieldText fieldsOf allInField lineText pieces unused headerOk lengthOk leading leadingOk things handleFieldsOk sameAbove handleOrderOk parameterOk handleOk routineOk sumOk ownHandle ownOfKind ownStatement argumentOk argumentsOk namingOk pointOk operationOk statementOk badStatement endOk namedBy gather namesOf namesIn isNamed walk reached isAcyclic namingVerdict statementVerdict declarationVerdict numbersVerdict textOk verdict readingOf textOf
+answers [] = []
+answers (e ∷ es) = said (verdict (textIn e)) (answer (tableOf (numbersOf (textIn e))) (e .question)) ∷ answers es
+
+abbrev pub results : List Entry → List (List (List ℤ))
+results [] = []
+results (e ∷ es) = e .result ∷ results es
+
+-- the entries about the report
+abbrev pub reported : List Case → List Entry
+reported [] = []
+reported (c ∷ cs) = record { lines = c .lines; question = report; result = c .report } ∷ reported cs
+
+-- thread 0 alone in routine 0, at statement 0 with this accumulator
+abbrev pub at-first : ℤ → State
+at-first a = record { threads = record { accumulator = a; frames = record { routine = 0; next = 0; values = [] } ∷ [] } ∷ []; cells = pos 0 ∷ []; locks = [] }
+
+-- "2,147,483,647 ADD 1 gives -2,147,483,648"
+abbrev pub add-wraps : Entry
+add-wraps = record {
+  lines = row 1 1 0 0 1 2 0 0 ∷ row 3 2 0 0 0 0 0 0 ∷ row 4 4 1 0 0 0 0 0 ∷ row 4 12 0 0 0 0 0 0 ∷ [];
+  question = stepped (at-first (pos 2147483647)) 0;
+  result = (negsuc 2147483647 ∷ pos 1 ∷ []) ∷ [];
+}
+
+-- "JUMPZ at 0 jumps, at -1 goes on"
+abbrev pub jumps : ℤ → ℕ → Entry
+jumps a next = record {
+  lines = row 1 1 0 0 1 3 0 0 ∷ row 3 3 0 0 0 0 0 0 ∷ row 4 11 2 0 0 0 0 0 ∷ row 4 12 0 0 0 0 0 0 ∷ row 4 12 0 0 0 0 0 0 ∷ [];
+  question = stepped (at-first a) 0;
+  result = (a ∷ pos next ∷ []) ∷ [];
+}
+
+abbrev pub entries : List Entry
+entries = reported notebook ++ (add-wraps ∷ jumps (pos 0) 2 ∷ jumps (negsuc 0) 1 ∷ [])
+
+pub notebook-holds : answers entries ≡ results entries
+unfolding answers trailingZeros
+notebook-holds = refl

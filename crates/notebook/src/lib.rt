@@ -1,0 +1,1 @@
+// The trainer's notebook: see specs/. No code runs here.
