@@ -5,3 +5,4 @@ pub mod PrintLaws
 pub mod Found
 pub mod FoundLaws
 pub mod ReportedLaws
+pub mod SetsLaws
