@@ -6,3 +6,4 @@ pub mod Found
 pub mod FoundLaws
 pub mod ReportedLaws
 pub mod SetsLaws
+pub mod LoadLaws

@@ -4,12 +4,17 @@ mod print;
 
 ghost use mathlib.Core.Path.{_≡_};
 ghost use mathlib.Core.Bool.{true};
+ghost use mathlib.Core.List.{List};
+ghost use Prim.Native.Nat.{ℕ};
 ghost use lib.ListN.{length};
 ghost use Rattle.table.specs.Table.{tableOf};
 ghost use Rattle.table.specs.Accepted.{Accepted};
+ghost use Rattle.machine.specs.State.{start};
+ghost use Rattle.machine.specs.Step.{run};
+ghost use Rattle.machine.specs.Words.{Safe};
 ghost use Rattle.report.specs.Report.{reportText};
 ghost use Rattle.analysis.specs.Found.{Found};
-ghost use Rattle.analysis.specs.Reported.{answerOf, printedOver, reportAnswer, reportedInto, countsNothing, loadable};
+ghost use Rattle.analysis.specs.Reported.{tableIn, answerOf, printedOver, reportAnswer, reportedInto, countsNothing, loadable};
 use table::Verdict;
 
 // What is found of a table: the shared cells; for each cell the locks common to all its accesses; for each statement the cells that it reads
@@ -139,9 +144,11 @@ fn is_clean(numbers: &[i32]) -> bool
     (unguarded == 0) & (strays == 0)
 }
 
-// Whether a table may be loaded: its text is accepted, and its report counts no unguarded cell and no stray GIVE.
+// Whether a table may be loaded: its text is accepted, and its report counts no unguarded cell and no stray GIVE. If so it is safe after every
+// list of thread numbers.
 pub fn may_load(text: &[u8]) -> bool
-    ensures { λ b. ⌜ b ≡ loadable (now (text .entry)) ⌝ }
+    ensures answer { λ b. ⌜ b ≡ loadable (now (text .entry)) ⌝ }
+    ensures safe { λ b. ⌜ (b ≡ true → (ns : List ℕ) → Safe (tableIn (now (text .entry))) (run (tableIn (now (text .entry))) (start (tableIn (now (text .entry)))) ns)) ⌝ }
 {
     let reading = table::read(text);
     let verdict = reading.verdict;

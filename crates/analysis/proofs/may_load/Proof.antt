@@ -1,3 +1,5 @@
+use mathlib.Core.Path.{sym}
+use Rattle.analysis.specs.LoadLaws.{loadable-safe}
 use mathlib.Core.Path.{_∙_}
 use Rattle.analysis.specs.ReportedLaws.{read-facts, accepted-loads, refused-stays}
 use borrow.Author.Needs.{needs}
@@ -30,11 +32,13 @@ enum-told-2 c = search needs
 
 -- src/lib.rt:143:1
 returns : tie.Need-returns
-returns c = c .is-clean .ensures ∙ accepted-loads _ _ (c .before .before .before .before .before .read .ensures) (c .before .before .before .enum-told .given .1)
+returns c = let answer = c .is-clean .ensures ∙ accepted-loads _ _ (c .before .before .before .before .before .read .ensures) (c .before .before .before .enum-told .given .1) in
+    (answer, λ yes. loadable-safe _ (sym answer ∙ yes))
 
 -- src/lib.rt:143:1
 returns-2 : tie.Need-returns-2
-returns-2 c = refused-stays _ _ (c .before .before .read .ensures) _ _ (c .enum-told2 .given .1)
+returns-2 c = let answer = refused-stays _ _ (c .before .before .read .ensures) _ _ (c .enum-told2 .given .1) in
+    (answer, λ yes. loadable-safe _ (sym answer ∙ yes))
 
 pub may-load-spec : {M : Type 1} → statement M
 may-load-spec =
