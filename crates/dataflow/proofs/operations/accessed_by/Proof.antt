@@ -1,0 +1,151 @@
+use borrow.Author.Needs.{needs}
+use Rattle.dataflow.proofs.operations.accessed_by.Statement.{statement}
+use Rattle.dataflow.proofs.operations.accessed_by.Tie as tie
+use Rattle.dataflow.proofs.operations.accessed_by.Reads as reads
+use Rattle.dataflow.proofs.operations.accessed_by.Lts as lts
+use Rattle.dataflow.proofs.parts.set_at.Reads as set-at-reads
+
+-- src/operations.rt:95:25
+enum-known-statement : tie.Need-enum-known-statement
+enum-known-statement c = search needs
+
+-- src/operations.rt:95:54
+set-at-requires : tie.Need-set-at-requires
+set-at-requires c κs = search needs
+
+-- src/operations.rt:96:26
+enum-known-statement-2 : tie.Need-enum-known-statement-2
+enum-known-statement-2 c = search needs
+
+-- src/operations.rt:96:44
+set-at-requires-2 : tie.Need-set-at-requires-2
+set-at-requires-2 c κs = search needs
+
+-- src/operations.rt:97:30
+enum-told : tie.Need-enum-told
+enum-told c = search needs
+
+-- src/operations.rt:98:30
+enum-told-2 : tie.Need-enum-told-2
+enum-told-2 c = search needs
+
+-- src/operations.rt:99:31
+enum-told-3 : tie.Need-enum-told-3
+enum-told-3 c = search needs
+
+-- src/operations.rt:100:31
+enum-told-4 : tie.Need-enum-told-4
+enum-told-4 c = search needs
+
+-- src/operations.rt:101:52
+enum-told-5 : tie.Need-enum-told-5
+enum-told-5 c = search needs
+
+-- src/operations.rt:105:14
+enum-told-6 : tie.Need-enum-told-6
+enum-told-6 c = search needs
+
+-- src/operations.rt:109:14
+enum-told-7 : tie.Need-enum-told-7
+enum-told-7 c = search needs
+
+-- src/operations.rt:110:31
+enum-told-8 : tie.Need-enum-told-8
+enum-told-8 c = search needs
+
+-- src/operations.rt:111:35
+enum-told-9 : tie.Need-enum-told-9
+enum-told-9 c = search needs
+
+-- src/operations.rt:112:30
+enum-told-10 : tie.Need-enum-told-10
+enum-told-10 c = search needs
+
+-- src/operations.rt:91:1
+returns : tie.Need-returns
+returns c = ?
+
+-- src/operations.rt:91:1
+returns-2 : tie.Need-returns-2
+returns-2 c = ?
+
+-- src/operations.rt:91:1
+returns-3 : tie.Need-returns-3
+returns-3 c = ?
+
+-- src/operations.rt:91:1
+returns-4 : tie.Need-returns-4
+returns-4 c = ?
+
+-- src/operations.rt:91:1
+returns-5 : tie.Need-returns-5
+returns-5 c = ?
+
+-- src/operations.rt:91:1
+returns-6 : tie.Need-returns-6
+returns-6 c = ?
+
+-- src/operations.rt:91:1
+returns-7 : tie.Need-returns-7
+returns-7 c = ?
+
+-- src/operations.rt:91:1
+returns-8 : tie.Need-returns-8
+returns-8 c = ?
+
+-- src/operations.rt:91:1
+returns-9 : tie.Need-returns-9
+returns-9 c = ?
+
+-- src/operations.rt:91:1
+returns-10 : tie.Need-returns-10
+returns-10 c = ?
+
+-- src/operations.rt:91:1
+returns-11 : tie.Need-returns-11
+returns-11 c = ?
+
+-- src/operations.rt:91:1
+returns-12 : tie.Need-returns-12
+returns-12 c = ?
+
+-- src/operations.rt:91:1
+returns-13 : tie.Need-returns-13
+returns-13 c = ?
+
+-- src/operations.rt:91:1
+returns-14 : tie.Need-returns-14
+returns-14 c = ?
+
+pub accessed-by-spec : {M : Type 1} → statement M
+accessed-by-spec =
+    tie.close
+    (tie.spec
+    enum-known-statement
+    set-at-requires
+    enum-known-statement-2
+    set-at-requires-2
+    enum-told
+    enum-told-2
+    enum-told-3
+    enum-told-4
+    enum-told-5
+    enum-told-6
+    enum-told-7
+    enum-told-8
+    enum-told-9
+    enum-told-10
+    returns
+    returns-2
+    returns-3
+    returns-4
+    returns-5
+    returns-6
+    returns-7
+    returns-8
+    returns-9
+    returns-10
+    returns-11
+    returns-12
+    returns-13
+    returns-14)
