@@ -1,2 +1,5 @@
 pub mod Questions
 pub mod EdgeLaws
+pub mod PartLaws
+pub mod NamingLaws
+pub mod StartLaws

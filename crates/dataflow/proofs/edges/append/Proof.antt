@@ -1,3 +1,5 @@
+-- `dataflow::edges::append` meets its contract. Assumes nothing.
+use Rattle.dataflow.specs.EdgeLaws.{appended-one, appended-full, appended-from-large, appended-to-large}
 use borrow.Author.Needs.{needs}
 use Rattle.dataflow.proofs.edges.append.Statement.{statement}
 use Rattle.dataflow.proofs.edges.append.Tie as tie
@@ -34,19 +36,19 @@ add-result c = search needs
 
 -- src/edges.rt:37:17
 returns : tie.Need-returns
-returns c = ?
+returns c = appended-one _ _ _ _ _ (c .before .before .if1 .taken)
 
 -- src/edges.rt:29:1
 returns-2 : tie.Need-returns-2
-returns-2 c = ?
+returns-2 c = appended-to-large _ _ _ _ _ (c .if3 .left)
 
 -- src/edges.rt:29:1
 returns-3 : tie.Need-returns-3
-returns-3 c = ?
+returns-3 c = appended-from-large _ _ _ _ _ (c .if2 .left)
 
 -- src/edges.rt:29:1
 returns-4 : tie.Need-returns-4
-returns-4 c = ?
+returns-4 c = appended-full _ _ _ _ _ (c .if1 .left)
 
 pub append-spec : {M : Type 1} → statement M
 append-spec =

@@ -1,3 +1,8 @@
+-- `dataflow::edges::append_call` meets its contract. Assumes nothing.
+use mathlib.Core.Path.{sym, _∙_}
+use native.Mathlib.Omega.{arith}
+use Rattle.dataflow.specs.EdgeLaws.{appended-same, appended-none, appended-to-large}
+use Rattle.dataflow.specs.NamingLaws.{call-called, call-started, call-neither}
 use borrow.Author.Needs.{needs}
 use Rattle.dataflow.proofs.edges.append_call.Statement.{statement}
 use Rattle.dataflow.proofs.edges.append_call.Tie as tie
@@ -32,19 +37,19 @@ enum-told-2 c = search needs
 
 -- src/edges.rt:168:1
 returns : tie.Need-returns
-returns c = ?
+returns c = let a = c .before .before .before .before .before .before .before .before in appended-same _ _ (call-called (a .args .statement) _ (a .args .base) (a .args .s) (sym (c .before .before .before .before .before .before .before .naming-of .ensures) ∙ c .before .before .before .before .before .naming .given .1)) (c .append .ensures)
 
 -- src/edges.rt:168:1
 returns-2 : tie.Need-returns-2
-returns-2 c = ?
+returns-2 c = let a = c .before .before .before .before .before in appended-same _ _ (call-called (a .args .statement) _ (a .args .base) (a .args .s) (sym (c .before .before .before .before .naming-of .ensures) ∙ c .before .before .naming .given .1)) (appended-to-large _ _ _ _ _ (omega (arith, c .if1 .left)))
 
 -- src/edges.rt:168:1
 returns-3 : tie.Need-returns-3
-returns-3 c = ?
+returns-3 c = let a = c .before .before .before in appended-same _ _ (call-started (a .args .statement) _ (a .args .base) (a .args .s) (sym (c .before .before .naming-of .ensures) ∙ c .enum-told .given .1)) appended-none
 
 -- src/edges.rt:168:1
 returns-4 : tie.Need-returns-4
-returns-4 c = ?
+returns-4 c = let a = c .before .before .before in appended-same _ _ (call-neither (a .args .statement) (a .args .base) (a .args .s) (sym (c .before .before .naming-of .ensures) ∙ c .enum-told2 .given .1)) appended-none
 
 pub append-call-spec : {M : Type 1} → statement M
 append-call-spec =

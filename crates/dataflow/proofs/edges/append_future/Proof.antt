@@ -1,3 +1,5 @@
+-- `dataflow::edges::append_future` meets its contract. Assumes nothing.
+use Rattle.dataflow.specs.EdgeLaws.{appended-both}
 use borrow.Author.Needs.{needs}
 use Rattle.dataflow.proofs.edges.append_future.Statement.{statement}
 use Rattle.dataflow.proofs.edges.append_future.Tie as tie
@@ -25,7 +27,7 @@ append-call-requires c κs = search needs
 
 -- src/edges.rt:194:1
 returns : tie.Need-returns
-returns c = ?
+returns c = appended-both (c .before .before .before .before .before .before .append-nexts .ensures) (appended-both (c .before .before .before .append .ensures) (c .append-call .ensures))
 
 pub append-future-spec : {M : Type 1} → statement M
 append-future-spec =

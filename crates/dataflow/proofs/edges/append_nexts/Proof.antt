@@ -1,3 +1,7 @@
+-- `dataflow::edges::append_nexts` meets its contract. Assumes nothing.
+use Rattle.dataflow.specs.Questions.{asList}
+use Rattle.dataflow.specs.EdgeLaws.{appended-same, appended-none, appended-both}
+use Rattle.dataflow.specs.NamingLaws.{next-edges}
 use borrow.Author.Needs.{needs}
 use Rattle.dataflow.proofs.edges.append_nexts.Statement.{statement}
 use Rattle.dataflow.proofs.edges.append_nexts.Tie as tie
@@ -36,15 +40,18 @@ append-requires-3 c κs = search needs
 
 -- src/edges.rt:146:1
 returns : tie.Need-returns
-returns c = ?
+unfolding asList
+returns c = let a = c .before .before .before in appended-same _ _ (next-edges (a .args .s) (a .args .statement) _ _ (c .enum-told .given .1) (c .before .before .nexts-of .ensures)) appended-none
 
 -- src/edges.rt:146:1
 returns-2 : tie.Need-returns-2
-returns-2 c = ?
+unfolding asList
+returns-2 c = let a = c .before .before .before .before .before .before .before in appended-same _ _ (next-edges (a .args .s) (a .args .statement) _ _ (c .before .before .before .before .next .given .1) (c .before .before .before .before .before .before .nexts-of .ensures)) (c .append .ensures)
 
 -- src/edges.rt:146:1
 returns-3 : tie.Need-returns-3
-returns-3 c = ?
+unfolding asList
+returns-3 c = let a = c .before .before .before .before .before .before .before .before .before .before in appended-same _ _ (next-edges (a .args .s) (a .args .statement) _ _ (c .before .before .before .before .before .before .before .next2 .given .1) (c .before .before .before .before .before .before .before .before .before .nexts-of .ensures)) (appended-both (c .before .before .before .append2 .ensures) (c .append3 .ensures))
 
 pub append-nexts-spec : {M : Type 1} → statement M
 append-nexts-spec =

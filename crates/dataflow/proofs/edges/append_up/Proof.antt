@@ -1,3 +1,7 @@
+-- `dataflow::edges::append_up` meets its contract. Assumes nothing.
+use mathlib.Core.Path.{sym, _∙_}
+use Rattle.dataflow.specs.EdgeLaws.{appended-same, appended-none}
+use Rattle.dataflow.specs.NamingLaws.{up-called, up-started, up-neither}
 use borrow.Author.Needs.{needs}
 use Rattle.dataflow.proofs.edges.append_up.Statement.{statement}
 use Rattle.dataflow.proofs.edges.append_up.Tie as tie
@@ -32,19 +36,23 @@ enum-told c = search needs
 
 -- src/edges.rt:127:1
 returns : tie.Need-returns
-returns c = ?
+returns c = let a = c .before .before .before .before .before .before .before in appended-same _ _ (up-called (a .args .statement) _ (a .args .starts) (a .args .c) (sym (c .before .before .before .before .before .before .naming-of .ensures) ∙ c .before .before .before .before .naming .given .1)) (c .append .ensures)
 
 -- src/edges.rt:127:1
 returns-2 : tie.Need-returns-2
-returns-2 c = ?
+returns-2 c = let a = c .before .before .before .before .before .before .before .before in
+    let e = up-started (a .args .statement) _ (a .args .starts) (a .args .c) (sym (c .before .before .before .before .before .before .before .naming-of .ensures) ∙ c .before .before .before .before .before .naming2 .given .1) in
+    appended-same _ _ (rw (c .before .before .before .if1 .taken) at e) (c .append2 .ensures)
 
 -- src/edges.rt:127:1
 returns-3 : tie.Need-returns-3
-returns-3 c = ?
+returns-3 c = let a = c .before .before .before .before .before in
+    let e = up-started (a .args .statement) _ (a .args .starts) (a .args .c) (sym (c .before .before .before .before .naming-of .ensures) ∙ c .before .before .naming2 .given .1) in
+    appended-same _ _ (rw (c .if1 .left) at e) appended-none
 
 -- src/edges.rt:127:1
 returns-4 : tie.Need-returns-4
-returns-4 c = ?
+returns-4 c = let a = c .before .before .before in appended-same _ _ (up-neither (a .args .statement) (a .args .starts) (a .args .c) (sym (c .before .before .naming-of .ensures) ∙ c .enum-told .given .1)) appended-none
 
 pub append-up-spec : {M : Type 1} → statement M
 append-up-spec =

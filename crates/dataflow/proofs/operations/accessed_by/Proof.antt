@@ -1,3 +1,5 @@
+-- `dataflow::operations::accessed_by` meets its contract: one operation an arm. Assumes nothing.
+use Rattle.report.specs.Operations.{accessed}
 use borrow.Author.Needs.{needs}
 use Rattle.dataflow.proofs.operations.accessed_by.Statement.{statement}
 use Rattle.dataflow.proofs.operations.accessed_by.Tie as tie
@@ -63,59 +65,73 @@ enum-told-10 c = search needs
 
 -- src/operations.rt:91:1
 returns : tie.Need-returns
-returns c = ?
+unfolding accessed
+returns c = rw (c .before .before .statement .given .1, c .if1 .taken)
 
 -- src/operations.rt:91:1
 returns-2 : tie.Need-returns-2
-returns-2 c = ?
+unfolding accessed
+returns-2 c = rw (c .before .before .before .statement .given .1, c .before .if1 .left) (c .set-at .ensures)
 
 -- src/operations.rt:91:1
 returns-3 : tie.Need-returns-3
-returns-3 c = ?
+unfolding accessed
+returns-3 c = rw (c .before .before .before .statement2 .given .1, c .before .if2 .taken) (c .set-at2 .ensures)
 
 -- src/operations.rt:91:1
 returns-4 : tie.Need-returns-4
-returns-4 c = ?
+unfolding accessed
+returns-4 c = rw (c .before .before .statement2 .given .1, c .if2 .left)
 
 -- src/operations.rt:91:1
 returns-5 : tie.Need-returns-5
-returns-5 c = ?
+unfolding accessed
+returns-5 c = rw (c .enum-told .given .1)
 
 -- src/operations.rt:91:1
 returns-6 : tie.Need-returns-6
-returns-6 c = ?
+unfolding accessed
+returns-6 c = rw (c .enum-told2 .given .1)
 
 -- src/operations.rt:91:1
 returns-7 : tie.Need-returns-7
-returns-7 c = ?
+unfolding accessed
+returns-7 c = rw (c .enum-told3 .given .1)
 
 -- src/operations.rt:91:1
 returns-8 : tie.Need-returns-8
-returns-8 c = ?
+unfolding accessed
+returns-8 c = rw (c .enum-told4 .given .1)
 
 -- src/operations.rt:91:1
 returns-9 : tie.Need-returns-9
-returns-9 c = ?
+unfolding accessed
+returns-9 c = rw (c .enum-told5 .given .1)
 
 -- src/operations.rt:91:1
 returns-10 : tie.Need-returns-10
-returns-10 c = ?
+unfolding accessed
+returns-10 c = rw (c .enum-told6 .given .1)
 
 -- src/operations.rt:91:1
 returns-11 : tie.Need-returns-11
-returns-11 c = ?
+unfolding accessed
+returns-11 c = rw (c .enum-told7 .given .1)
 
 -- src/operations.rt:91:1
 returns-12 : tie.Need-returns-12
-returns-12 c = ?
+unfolding accessed
+returns-12 c = rw (c .enum-told8 .given .1)
 
 -- src/operations.rt:91:1
 returns-13 : tie.Need-returns-13
-returns-13 c = ?
+unfolding accessed
+returns-13 c = rw (c .enum-told9 .given .1)
 
 -- src/operations.rt:91:1
 returns-14 : tie.Need-returns-14
-returns-14 c = ?
+unfolding accessed
+returns-14 c = rw (c .enum-told10 .given .1)
 
 pub accessed-by-spec : {M : Type 1} → statement M
 accessed-by-spec =

@@ -1,3 +1,6 @@
+-- `dataflow::operations::naming_of` meets its contract: one operation an arm. Assumes nothing.
+use Rattle.report.specs.Layout.{named}
+use Rattle.report.specs.Operations.{byNaming}
 use borrow.Author.Needs.{needs}
 use Rattle.dataflow.proofs.operations.naming_of.Statement.{statement}
 use Rattle.dataflow.proofs.operations.naming_of.Tie as tie
@@ -54,51 +57,63 @@ enum-told-10 c = search needs
 
 -- src/operations.rt:26:1
 returns : tie.Need-returns
-returns c = ?
+unfolding byNaming named
+returns c = rw (c .enum-told .given .1)
 
 -- src/operations.rt:26:1
 returns-2 : tie.Need-returns-2
-returns-2 c = ?
+unfolding byNaming named
+returns-2 c = rw (c .enum-told2 .given .1)
 
 -- src/operations.rt:26:1
 returns-3 : tie.Need-returns-3
-returns-3 c = ?
+unfolding byNaming named
+returns-3 c = rw (c .enum-told3 .given .1)
 
 -- src/operations.rt:26:1
 returns-4 : tie.Need-returns-4
-returns-4 c = ?
+unfolding byNaming named
+returns-4 c = rw (c .enum-told4 .given .1)
 
 -- src/operations.rt:26:1
 returns-5 : tie.Need-returns-5
-returns-5 c = ?
+unfolding byNaming named
+returns-5 c = rw (c .enum-told5 .given .1)
 
 -- src/operations.rt:26:1
 returns-6 : tie.Need-returns-6
-returns-6 c = ?
+unfolding byNaming named
+returns-6 c = rw (c .enum-told6 .given .1)
 
 -- src/operations.rt:26:1
 returns-7 : tie.Need-returns-7
-returns-7 c = ?
+unfolding byNaming named
+returns-7 c = rw (c .enum-told7 .given .1)
 
 -- src/operations.rt:26:1
 returns-8 : tie.Need-returns-8
-returns-8 c = ?
+unfolding byNaming named
+returns-8 c = rw (c .before .statement .given .1)
 
 -- src/operations.rt:26:1
 returns-9 : tie.Need-returns-9
-returns-9 c = ?
+unfolding byNaming named
+returns-9 c = rw (c .before .statement2 .given .1)
 
 -- src/operations.rt:26:1
 returns-10 : tie.Need-returns-10
-returns-10 c = ?
+unfolding byNaming named
+returns-10 c = rw (c .enum-told8 .given .1)
 
 -- src/operations.rt:26:1
 returns-11 : tie.Need-returns-11
-returns-11 c = ?
+unfolding byNaming named
+returns-11 c = rw (c .enum-told9 .given .1)
 
 -- src/operations.rt:26:1
 returns-12 : tie.Need-returns-12
-returns-12 c = ?
+unfolding byNaming named
+returns-12 c = rw (c .enum-told10 .given .1)
 
 pub naming-of-spec : {M : Type 1} → statement M
 naming-of-spec =

@@ -1,3 +1,5 @@
+-- `dataflow::operations::routine_in` meets its contract. Assumes nothing.
+use Rattle.dataflow.specs.Questions.{routineIn}
 use borrow.Author.Needs.{needs}
 use Rattle.dataflow.proofs.operations.routine_in.Statement.{statement}
 use Rattle.dataflow.proofs.operations.routine_in.Tie as tie
@@ -18,15 +20,18 @@ enum-told c = search needs
 
 -- src/operations.rt:52:1
 returns : tie.Need-returns
-returns c = ?
+unfolding routineIn
+returns c = rw (c .before .naming .given .1)
 
 -- src/operations.rt:52:1
 returns-2 : tie.Need-returns-2
-returns-2 c = ?
+unfolding routineIn
+returns-2 c = rw (c .before .naming2 .given .1)
 
 -- src/operations.rt:52:1
 returns-3 : tie.Need-returns-3
-returns-3 c = ?
+unfolding routineIn
+returns-3 c = rw (c .enum-told .given .1)
 
 pub routine-in-spec : {M : Type 1} → statement M
 routine-in-spec =

@@ -1,3 +1,6 @@
+-- `dataflow::starts::effect_at` meets its contract. Assumes nothing.
+use Rattle.dataflow.specs.NamingLaws.{named-is}
+use Rattle.dataflow.specs.Questions.{effectAt}
 use borrow.Author.Needs.{needs}
 use Rattle.dataflow.proofs.starts.effect_at.Statement.{statement}
 use Rattle.dataflow.proofs.starts.effect_at.Tie as tie
@@ -31,7 +34,8 @@ accessed-by-requires c κs = search needs
 
 -- src/starts.rt:71:1
 returns : tie.Need-returns
-returns c = ?
+unfolding effectAt
+returns c = rw (c .accessed-by .ensures, c .before .set-at .ensures, c .before .before .routine-in .ensures, c .before .before .before .naming-of .ensures, named-is, c .before .before .before .before .statement-at .ensures)
 
 pub effect-at-spec : {M : Type 1} → statement M
 effect-at-spec =

@@ -1,3 +1,7 @@
+-- `dataflow::starts::flow_start` meets its contract. Assumes nothing.
+use mathlib.Core.Path.{sym, ap, _∙_}
+use borrow.Author.Tests.{eq-eqb, ne-eqb}
+use Rattle.report.specs.Flow.{startOf}
 use borrow.Author.Needs.{needs}
 use Rattle.dataflow.proofs.starts.flow_start.Statement.{statement}
 use Rattle.dataflow.proofs.starts.flow_start.Tie as tie
@@ -16,11 +20,13 @@ one-requires c κs = search needs
 
 -- src/starts.rt:26:1
 returns : tie.Need-returns
-returns c = ?
+unfolding startOf
+returns c = rw (← c .before .before .before .declaration-at .ensures, eq-eqb _ _ (c .before .if1 .taken)) (c .one .ensures)
 
 -- src/starts.rt:26:1
 returns-2 : tie.Need-returns-2
-returns-2 c = ?
+unfolding startOf
+returns-2 c = rw (← c .before .before .declaration-at .ensures, ne-eqb _ _ (c .if1 .left))
 
 pub flow-start-spec : {M : Type 1} → statement M
 flow-start-spec = tie.close (tie.spec declaration-at-requires one-requires returns returns-2)

@@ -1,3 +1,10 @@
+-- `dataflow::starts::future_start` meets its contract. Assumes nothing.
+use native.Mathlib.Omega.{arith}
+use denote.Ref.{now}
+use borrow.Author.Tests.{lt-ltb, le-ltb}
+use Rattle.table.specs.LookupLaws.{statements-length}
+use Rattle.dataflow.specs.Questions.{startAt}
+use Rattle.dataflow.specs.PartLaws.{statements-counted}
 use borrow.Author.Needs.{needs}
 use Rattle.dataflow.proofs.starts.future_start.Statement.{statement}
 use Rattle.dataflow.proofs.starts.future_start.Tie as tie
@@ -12,15 +19,17 @@ counts-of-requires c κs = search needs
 
 -- src/starts.rt:112:9
 nexts-effect-requires : tie.Need-nexts-effect-requires
-nexts-effect-requires c κs = ?
+nexts-effect-requires c κs = let a = c .before .before .before .before .before .before .before .before in omega (arith, statements-counted (now (a .args .numbers)) _ (c .before .before .counts-of .ensures), c .if1 .taken, a .pre .statements-most)
 
 -- src/starts.rt:112:9
 returns : tie.Need-returns
-returns c = ?
+unfolding startAt
+returns c = let f = now (c .before .before .before .before .before .before .before .before .before .args .numbers) in rw (lt-ltb _ _ (omega (arith, statements-counted f _ (c .before .before .before .counts-of .ensures), statements-length f, c .before .if1 .taken))) (c .nexts-effect .ensures)
 
 -- src/starts.rt:97:1
 returns-2 : tie.Need-returns-2
-returns-2 c = ?
+unfolding startAt
+returns-2 c = let f = now (c .before .before .before .before .before .before .before .before .args .numbers) in rw (le-ltb _ _ (omega (arith, statements-counted f _ (c .before .before .counts-of .ensures), statements-length f, c .if1 .left)))
 
 pub future-start-spec : {M : Type 1} → statement M
 future-start-spec = tie.close (tie.spec counts-of-requires nexts-effect-requires returns returns-2)

@@ -1,3 +1,10 @@
+-- `dataflow::starts::nexts_effect` meets its contract. Assumes nothing.
+use mathlib.Core.Path.{ap, ap₂, _∙_}
+use Prim.Native.Nat.{ℕ}
+use Rattle.sets.specs.Set.{union}
+use Rattle.report.specs.Over.{unionAt}
+use Rattle.dataflow.specs.Questions.{asList}
+use Rattle.dataflow.specs.StartLaws.{nexts-effect-is}
 use borrow.Author.Needs.{needs}
 use Rattle.dataflow.proofs.starts.nexts_effect.Statement.{statement}
 use Rattle.dataflow.proofs.starts.nexts_effect.Tie as tie
@@ -54,15 +61,22 @@ union-requires-3 c κs = search needs
 
 -- src/starts.rt:80:1
 returns : tie.Need-returns
-returns c = ?
+unfolding asList unionAt
+returns c = let a = c .before .before .before .before .before .before in nexts-effect-is (a .args .writes) _ _ _ (a .args .s) _ _ (c .enum-told .given .1) (c .before .before .nexts-of .ensures) (c .before .before .before .statement-at .ensures)
 
 -- src/starts.rt:80:1
 returns-2 : tie.Need-returns-2
-returns-2 c = ?
+unfolding asList unionAt
+returns-2 c = let a = c .before .before .before .before .before .before .before .before .before in
+    c .union .ensures ∙ ap (λ (x : ℕ). union x 0) (c .before .effect-at .ensures)
+    ∙ nexts-effect-is (a .args .writes) _ _ _ (a .args .s) _ _ (c .before .before .before .next .given .1) (c .before .before .before .before .before .nexts-of .ensures) (c .before .before .before .before .before .before .statement-at .ensures)
 
 -- src/starts.rt:80:1
 returns-3 : tie.Need-returns-3
-returns-3 c = ?
+unfolding asList unionAt
+returns-3 c = let a = c .before .before .before .before .before .before .before .before .before .before .before in
+    c .union3 .ensures ∙ ap₂ (λ (x y : ℕ). union x y) (c .before .before .before .effect-at2 .ensures) (c .before .union2 .ensures ∙ ap (λ (x : ℕ). union x 0) (c .before .before .effect-at3 .ensures))
+    ∙ nexts-effect-is (a .args .writes) _ _ _ (a .args .s) _ _ (c .before .before .before .before .before .next2 .given .1) (c .before .before .before .before .before .before .before .nexts-of .ensures) (c .before .before .before .before .before .before .before .before .statement-at .ensures)
 
 pub nexts-effect-spec : {M : Type 1} → statement M
 nexts-effect-spec =

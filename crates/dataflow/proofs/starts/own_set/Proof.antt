@@ -1,3 +1,6 @@
+-- `dataflow::starts::own_set` meets its contract. Assumes nothing.
+use mathlib.Core.Path.{_∙_}
+use Rattle.dataflow.specs.Questions.{ownSet}
 use borrow.Author.Needs.{needs}
 use Rattle.dataflow.proofs.starts.own_set.Statement.{statement}
 use Rattle.dataflow.proofs.starts.own_set.Tie as tie
@@ -21,11 +24,13 @@ accessed-by-requires c κs = search needs
 
 -- src/starts.rt:34:1
 returns : tie.Need-returns
-returns c = ?
+unfolding ownSet
+returns c = rw (c .before .if1 .taken, ← c .before .before .statement-at .ensures) (c .given-by .ensures)
 
 -- src/starts.rt:34:1
 returns-2 : tie.Need-returns-2
-returns-2 c = ?
+unfolding ownSet
+returns-2 c = rw (c .before .if1 .left, ← c .before .before .statement-at .ensures) (c .accessed-by .ensures)
 
 pub own-set-spec : {M : Type 1} → statement M
 own-set-spec =
