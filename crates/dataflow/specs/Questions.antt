@@ -66,9 +66,13 @@ edgesFor q t = joinedFrom 0 (length (t .statements)) (edgesAt q t)
 unfoldable pub ownSet : Bool → Bool → List ℕ → Statement → ℕ
 ownSet locks w flow σ = cond locks (given (λ (h : ℕ). getD flow h 0) σ) (accessed w (λ (h : ℕ). getD flow h 0) 0 σ)
 
+-- those of statement s
+abbrev pub ownAt : Bool → Bool → List ℕ → Table → ℕ → ℕ
+ownAt locks w flow t s = ownSet locks w flow (statement t s)
+
 -- the union of these over the statements of routine r
 unfoldable pub inRoutine : Bool → Bool → List ℕ → Table → ℕ → ℕ
-inRoutine locks w flow t r = unionFrom (routine t r .first) (routine t r .count) (λ (s : ℕ). ownSet locks w flow (statement t s))
+inRoutine locks w flow t r = unionFrom (routine t r .first) (routine t r .count) (ownAt locks w flow t)
 
 -- the effect of statement s
 unfoldable pub effectAt : Bool → List ℕ → List ℕ → Table → ℕ → ℕ

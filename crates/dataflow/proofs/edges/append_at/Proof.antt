@@ -1,3 +1,10 @@
+-- `dataflow::edges::append_at` meets its contract: one question an arm. Assumes nothing.
+use native.Mathlib.Omega.{arith}
+use denote.Ref.{now}
+use Rattle.dataflow.specs.Questions.{edgesAt}
+use Rattle.dataflow.specs.PartLaws.{statements-counted}
+use Rattle.table.specs.LookupLaws.{statements-length}
+use mathlib.Core.Path.{sym, _∙_}
 use borrow.Author.Needs.{needs}
 use Rattle.dataflow.proofs.edges.append_at.Statement.{statement}
 use Rattle.dataflow.proofs.edges.append_at.Tie as tie
@@ -56,15 +63,18 @@ append-future-requires c κs = ?
 
 -- src/edges.rt:213:1
 returns : tie.Need-returns
-returns c = ?
+unfolding edgesAt
+returns c = rw (c .before .before .before .enum-told .given .1, ← c .before .before .before .before .before .before .statement-at .ensures) (c .append-flow .ensures)
 
 -- src/edges.rt:213:1
 returns-2 : tie.Need-returns-2
-returns-2 c = ?
+unfolding edgesAt
+returns-2 c = rw (c .before .before .before .enum-told2 .given .1, ← c .before .before .before .before .before .owner-of .ensures .0, ← c .before .before .before .before .before .before .statement-at .ensures) (c .append-up .ensures)
 
 -- src/edges.rt:213:1
 returns-3 : tie.Need-returns-3
-returns-3 c = ?
+unfolding edgesAt
+returns-3 c = rw (c .before .before .before .enum-told3 .given .1, ← c .before .before .before .before .before .owner-of .ensures .0, ← c .before .before .before .before .before .before .statement-at .ensures) (c .append-up2 .ensures)
 
 -- src/edges.rt:213:1
 returns-4 : tie.Need-returns-4

@@ -1,3 +1,7 @@
+-- `dataflow::edges::append_flow` meets its contract: one operation an arm. Assumes nothing.
+use Rattle.report.specs.Layout.{oneEach}
+use Rattle.report.specs.Flow.{passing, flowEdges}
+use Rattle.dataflow.specs.EdgeLaws.{appended-none}
 use borrow.Author.Needs.{needs}
 use Rattle.dataflow.proofs.edges.append_flow.Statement.{statement}
 use Rattle.dataflow.proofs.edges.append_flow.Tie as tie
@@ -68,51 +72,63 @@ enum-told-9 c = search needs
 
 -- src/edges.rt:72:1
 returns : tie.Need-returns
-returns c = ?
+unfolding flowEdges
+returns c = rw (c .enum-told .given .1) appended-none
 
 -- src/edges.rt:72:1
 returns-2 : tie.Need-returns-2
-returns-2 c = ?
+unfolding flowEdges
+returns-2 c = rw (c .enum-told2 .given .1) appended-none
 
 -- src/edges.rt:72:1
 returns-3 : tie.Need-returns-3
-returns-3 c = ?
+unfolding flowEdges
+returns-3 c = rw (c .enum-told3 .given .1) appended-none
 
 -- src/edges.rt:72:1
 returns-4 : tie.Need-returns-4
-returns-4 c = ?
+unfolding flowEdges
+returns-4 c = rw (c .enum-told4 .given .1) appended-none
 
 -- src/edges.rt:72:1
 returns-5 : tie.Need-returns-5
-returns-5 c = ?
+unfolding flowEdges
+returns-5 c = rw (c .enum-told5 .given .1) appended-none
 
 -- src/edges.rt:72:1
 returns-6 : tie.Need-returns-6
-returns-6 c = ?
+unfolding flowEdges
+returns-6 c = rw (c .enum-told6 .given .1) appended-none
 
 -- src/edges.rt:72:1
 returns-7 : tie.Need-returns-7
-returns-7 c = ?
+unfolding flowEdges oneEach
+returns-7 c = rw (c .before .before .before .before .statement .given .1) (c .append .ensures)
 
 -- src/edges.rt:72:1
 returns-8 : tie.Need-returns-8
-returns-8 c = ?
+unfolding flowEdges oneEach passing
+returns-8 c = rw (c .before .before .before .before .statement2 .given .1) (c .append-passing .ensures)
 
 -- src/edges.rt:72:1
 returns-9 : tie.Need-returns-9
-returns-9 c = ?
+unfolding flowEdges oneEach passing
+returns-9 c = rw (c .before .before .before .before .statement3 .given .1) (c .append-passing2 .ensures)
 
 -- src/edges.rt:72:1
 returns-10 : tie.Need-returns-10
-returns-10 c = ?
+unfolding flowEdges
+returns-10 c = rw (c .enum-told7 .given .1) appended-none
 
 -- src/edges.rt:72:1
 returns-11 : tie.Need-returns-11
-returns-11 c = ?
+unfolding flowEdges
+returns-11 c = rw (c .enum-told8 .given .1) appended-none
 
 -- src/edges.rt:72:1
 returns-12 : tie.Need-returns-12
-returns-12 c = ?
+unfolding flowEdges
+returns-12 c = rw (c .enum-told9 .given .1) appended-none
 
 pub append-flow-spec : {M : Type 1} → statement M
 append-flow-spec =

@@ -42,13 +42,13 @@ returns c = let a = c .before .before .before .before .before .before .before in
 returns-2 : tie.Need-returns-2
 returns-2 c = let a = c .before .before .before .before .before .before .before .before in
     let e = up-started (a .args .statement) _ (a .args .starts) (a .args .c) (sym (c .before .before .before .before .before .before .before .naming-of .ensures) ∙ c .before .before .before .before .before .naming2 .given .1) in
-    appended-same _ _ (rw (c .before .before .before .if1 .taken) at e) (c .append2 .ensures)
+    appended-same _ _ e (rw (c .before .before .before .if1 .taken) (c .append2 .ensures))
 
 -- src/edges.rt:127:1
 returns-3 : tie.Need-returns-3
 returns-3 c = let a = c .before .before .before .before .before in
     let e = up-started (a .args .statement) _ (a .args .starts) (a .args .c) (sym (c .before .before .before .before .naming-of .ensures) ∙ c .before .before .naming2 .given .1) in
-    appended-same _ _ (rw (c .if1 .left) at e) appended-none
+    appended-same _ _ e (rw (c .if1 .left) appended-none)
 
 -- src/edges.rt:127:1
 returns-4 : tie.Need-returns-4

@@ -1,6 +1,7 @@
 -- `dataflow::parts::entry_at` meets its contract. Assumes nothing.
 use mathlib.Core.Path.{sym}
 use lib.ListN.{List·getD-eq-default}
+use denote.Ref.{now}
 use borrow.Author.Needs.{needs}
 use Rattle.dataflow.proofs.parts.entry_at.Statement.{statement}
 use Rattle.dataflow.proofs.parts.entry_at.Tie as tie
@@ -21,7 +22,7 @@ returns c = search needs
 
 -- src/parts.rt:15:1
 returns-2 : tie.Need-returns-2
-returns-2 c = sym (List·getD-eq-default _ 0 (c .if1 .left))
+returns-2 c = sym (List·getD-eq-default (now (c .before .args .list)) 0 (c .if1 .left))
 
 pub entry-at-spec : {M : Type 1} → statement M
 entry-at-spec = tie.close (tie.spec mul-result shared-slice-read-result returns returns-2)

@@ -1,6 +1,9 @@
 -- `dataflow::starts::future_start` meets its contract. Assumes nothing.
 use native.Mathlib.Omega.{arith}
 use denote.Ref.{now}
+use Prim.Native.Nat.{_<_, _≤_}
+use lib.ListN.{length}
+use Rattle.table.specs.Table.{tableOf}
 use borrow.Author.Tests.{lt-ltb, le-ltb}
 use Rattle.table.specs.LookupLaws.{statements-length}
 use Rattle.dataflow.specs.Questions.{startAt}
@@ -24,12 +27,16 @@ nexts-effect-requires c κs = let a = c .before .before .before .before .before 
 -- src/starts.rt:112:9
 returns : tie.Need-returns
 unfolding startAt
-returns c = let f = now (c .before .before .before .before .before .before .before .before .before .args .numbers) in rw (lt-ltb _ _ (omega (arith, statements-counted f _ (c .before .before .before .counts-of .ensures), statements-length f, c .before .if1 .taken))) (c .nexts-effect .ensures)
+returns c = let f = now (c .before .before .before .before .before .before .before .before .before .args .numbers) in
+    let h : c .before .before .before .before .before .before .before .before .before .args .p < length (tableOf f .statements) = omega (arith, statements-counted f _ (c .before .before .before .counts-of .ensures), statements-length f, c .before .if1 .taken) in
+    rw (lt-ltb _ _ h) (c .nexts-effect .ensures)
 
 -- src/starts.rt:97:1
 returns-2 : tie.Need-returns-2
 unfolding startAt
-returns-2 c = let f = now (c .before .before .before .before .before .before .before .before .args .numbers) in rw (le-ltb _ _ (omega (arith, statements-counted f _ (c .before .before .counts-of .ensures), statements-length f, c .if1 .left)))
+returns-2 c = let f = now (c .before .before .before .before .before .before .before .before .args .numbers) in
+    let h : length (tableOf f .statements) ≤ c .before .before .before .before .before .before .before .before .args .p = omega (arith, statements-counted f _ (c .before .before .counts-of .ensures), statements-length f, c .if1 .left) in
+    rw (le-ltb _ _ h)
 
 pub future-start-spec : {M : Type 1} → statement M
 future-start-spec = tie.close (tie.spec counts-of-requires nexts-effect-requires returns returns-2)

@@ -2,11 +2,10 @@
 use mathlib.Core.Path.{ap, _∙_, refl}
 use native.Mathlib.Omega.{arith}
 use denote.Ref.{now}
-use Prim.Native.Nat.{ℕ, _-_}
-use Rattle.table.specs.Table.{tableOf, statement}
+use Rattle.table.specs.Table.{tableOf}
 use Rattle.table.specs.declared.Routine.{Routine}
 use Rattle.report.specs.Over.{unionFrom}
-use Rattle.dataflow.specs.Questions.{ownSet, inRoutine}
+use Rattle.dataflow.specs.Questions.{ownAt, inRoutine}
 use Rattle.dataflow.specs.StartLaws.{Uniting, uniting-start, uniting-next, uniting-done}
 use Rattle.dataflow.proofs.starts.in_routine.Statement.{statement}
 use Rattle.dataflow.proofs.starts.in_routine.Tie as tie
@@ -17,7 +16,7 @@ use Rattle.dataflow.proofs.starts.own_set.Reads as own-set-reads
 use Rattle.sets.proofs.union.Reads as union-reads
 
 abbrev Inv-loop : tie.InvT-loop
-Inv-loop numbers first handle counts flow locks writes r begin s₀ all₀ s all = Uniting (λ (i : ℕ). ownSet locks writes flow (statement (tableOf numbers) i)) begin s₀ s all
+Inv-loop numbers first handle counts flow locks writes r begin s₀ all₀ s all = Uniting (ownAt locks writes flow (tableOf numbers)) begin s₀ s all
 
 abbrev μ-loop : tie.MeasureT-loop
 μ-loop numbers first handle counts flow locks writes r begin s₀ all₀ s all = s
@@ -59,7 +58,7 @@ returns : tie.Need-returns Inv-loop μ-loop
 unfolding inRoutine
 returns c = let a = c .before .before .before .before .before .before .before .before in
     uniting-done _ (c .before .loop .inv) (c .loop-test .left) refl
-    ∙ ap (λ (x : Routine). unionFrom (x .first) (x .count) (λ (s : ℕ). ownSet (a .args .locks) (a .args .writes) (now (a .args .flow)) (statement (tableOf (now (a .args .numbers))) s))) (c .before .before .before .routine-at .ensures .0)
+    ∙ ap (λ (x : Routine). unionFrom (x .first) (x .count) (ownAt (a .args .locks) (a .args .writes) (now (a .args .flow)) (tableOf (now (a .args .numbers))))) (c .before .before .before .routine-at .ensures .0)
 
 pub in-routine-spec : {M : Type 1} → statement M
 in-routine-spec =

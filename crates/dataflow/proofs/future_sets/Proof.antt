@@ -1,0 +1,42 @@
+use borrow.Author.Needs.{needs}
+use Rattle.dataflow.proofs.future_sets.Statement.{statement}
+use Rattle.dataflow.proofs.future_sets.Tie as tie
+use Rattle.dataflow.proofs.future_sets.Reads as reads
+use Rattle.dataflow.proofs.future_sets.Lts as lts
+use Rattle.dataflow.proofs.answer.Reads as answer-reads
+use Rattle.table.proofs.counts_of.Reads as counts-of-reads
+
+-- src/lib.rt:174:9
+counts-of-requires : tie.Need-counts-of-requires
+counts-of-requires c κs = search needs
+
+-- src/lib.rt:175:13
+add-n : tie.Need-add-n
+add-n c = ?
+
+-- src/lib.rt:185:9
+array-borrow-prefix-r : tie.Need-array-borrow-prefix-r
+array-borrow-prefix-r c = ?
+
+-- src/lib.rt:185:9
+slice-aggregate-answer : tie.Need-slice-aggregate-answer
+slice-aggregate-answer c = ?
+
+-- src/lib.rt:176:5
+answer-requires : tie.Need-answer-requires
+answer-requires c κs = search needs
+
+-- src/lib.rt:160:1
+returns : tie.Need-returns
+returns c = ?
+
+pub future-sets-spec : {M : Type 1} → statement M
+future-sets-spec =
+    tie.close
+    (tie.spec
+    counts-of-requires
+    add-n
+    array-borrow-prefix-r
+    slice-aggregate-answer
+    answer-requires
+    returns)
