@@ -7,7 +7,8 @@ use native.Mathlib.Numerals.{add-one}
 use native.Mathlib.Omega.{arith}
 use lib.ListN.{length, getD, set, take, length-append, length-set}
 use lib.Seq.{take-suc-set}
-use Rattle.report.specs.Over.{joinedFrom, Edge, froms, tos}
+use Rattle.sets.specs.Least.{least}
+use Rattle.report.specs.Over.{joinedFrom, Edge, froms, tos, leastAlong}
 use Rattle.report.specs.OverLaws.{joined-last}
 
 -- the first n places of the two lists are the edges' ends
@@ -111,3 +112,22 @@ growing-next {part} {i = i} g l a = record { so-far = appended-same _ _ next (ap
 pub growing-done : {part : ℕ → List Edge} {end : ℕ} {from to from′ to′ : List ℕ} {n n′ i : ℕ}
     → Growing part end from to n from′ to′ n′ i → end ≤ i → Appended from to n from′ to′ n′ (joinedFrom 0 end part)
 growing-done {part} {end} {i = i} g l = let e : i ≡ end = omega (arith, g .inside) in appended-same _ _ (ap {B = List Edge} (λ (j : ℕ). joinedFrom 0 j part) e) (g .so-far)
+
+-- ---- the lists as the solver takes them
+
+pub record Ready (from to : List ℕ) (n : ℕ) (es : List Edge) : Type 0 where
+  pub holds : Holds from to n es
+  pub from-room : n ≤ length from
+  pub to-room : n ≤ length to
+
+pub ready : {from to from′ to′ : List ℕ} {n : ℕ} {es : List Edge} → length from ≡ 2048 → length to ≡ 2048 → Appended from to 0 from′ to′ n es → Fit es
+    → Ready from′ to′ n es
+unfolding froms tos
+ready {es = es} a b p fit =
+    let h = p .then [] (record { count = refl; from-long = a; to-long = b; from-is = refl; to-is = refl }) fit in
+    record { holds = h; from-room = omega (arith, h .count, h .from-long, fit .room); to-room = omega (arith, h .count, h .to-long, fit .room) }
+
+pub solved : {from to : List ℕ} {n : ℕ} {es : List Edge} {s s′ : List ℕ} → Holds from to n es → s ≡ s′
+    → least (take n from) (take n to) s ≡ leastAlong es s′
+unfolding leastAlong
+solved h e = rw (h .from-is, h .to-is, e)

@@ -3,3 +3,5 @@ pub mod EdgeLaws
 pub mod PartLaws
 pub mod NamingLaws
 pub mod StartLaws
+pub mod FitLaws
+pub mod AnswerLaws

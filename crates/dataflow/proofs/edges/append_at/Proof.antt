@@ -59,7 +59,9 @@ counts-of-requires c κs = search needs
 
 -- src/edges.rt:236:13
 append-future-requires : tie.Need-append-future-requires
-append-future-requires c κs = ?
+append-future-requires c κs = let a = c .before .before .before .before .before .before .before .before .before .before in
+    let f = now (a .args .numbers) in
+    (omega (arith, a .pre .1, a .pre .0 .statements-most), (omega (arith, statements-counted f _ (c .before .before .counts-of .ensures), a .pre .0 .statements-most), omega (arith, c .before .before .before .before .before .owner-of .ensures .1)))
 
 -- src/edges.rt:213:1
 returns : tie.Need-returns
@@ -78,7 +80,9 @@ returns-3 c = rw (c .before .before .before .enum-told3 .given .1, ← c .before
 
 -- src/edges.rt:213:1
 returns-4 : tie.Need-returns-4
-returns-4 c = ?
+unfolding edgesAt
+returns-4 c = let f = now (c .before .before .before .before .before .before .before .before .before .before .before .args .numbers) in
+    rw (c .before .before .before .before .enum-told4 .given .1, ← (statements-counted f _ (c .before .before .before .counts-of .ensures) ∙ sym (statements-length f)), ← c .before .before .before .before .before .before .owner-of .ensures .0, ← c .before .before .before .before .before .before .before .statement-at .ensures) (c .append-future .ensures)
 
 pub append-at-spec : {M : Type 1} → statement M
 append-at-spec =

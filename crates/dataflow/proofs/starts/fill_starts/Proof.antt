@@ -45,15 +45,15 @@ loop-less c = search needs
 
 -- src/starts.rt:158:5
 loop-again : tie.Need-loop-again Inv-loop μ-loop
-loop-again c = ?
+loop-again c = filled-next _ _ _ _ _ (c .before .before .loop .inv) (omega (arith, c .before .before .loop .inv .long, c .before .loop-test .taken)) (c .start-at .ensures)
 
 -- src/starts.rt:143:1
 same-length : tie.Need-same-length Inv-loop μ-loop
-same-length c = ?
+same-length c = search needs
 
 -- src/starts.rt:143:1
 returns : tie.Need-returns Inv-loop μ-loop
-returns c = ?
+returns c = filled-all _ _ _ _ (c .before .loop .inv) (omega (arith, c .before .loop .inv .long, c .loop-test .left))
 
 pub fill-starts-spec : {M : Type 1} → statement M
 fill-starts-spec =
