@@ -99,9 +99,9 @@ module _ (t : Table) where
 -- ---- the used part, with zeros behind it
 
 zeros-left : (n m : ℕ) → drop {A = ℕ} n (replicate m 0) ≡ replicate (m - n) 0
-zeros-left zero m = refl
-zeros-left (suc n) zero = refl
-zeros-left (suc n) (suc m) = zeros-left n m
+zeros-left zero m = let e : m - 0 ≡ m = omega arith in rw e
+zeros-left (suc n) zero = let e : 0 - suc n ≡ 0 = omega arith in rw e
+zeros-left (suc n) (suc m) = let e : suc m - suc n ≡ m - n = omega arith in rw e (zeros-left n m)
 
 pub part-length : (size n : ℕ) → n ≤ size → n ≡ length (take {A = ℕ} n (replicate size 0))
 part-length size n h = sym (length-take-le n (replicate size 0) (omega (arith, length-replicate {A = ℕ} size 0)))

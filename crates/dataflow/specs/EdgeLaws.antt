@@ -5,7 +5,7 @@ use mathlib.Core.List.{List, [], _∷_, _++_, map, List·Memᴰ, List·Memᴰ·h
 use native.Mathlib.Nat.{zero-add}
 use native.Mathlib.Numerals.{add-one}
 use native.Mathlib.Omega.{arith}
-use lib.ListN.{length, getD, set, take, length-append, length-set}
+use lib.ListN.{length, getD, set, take, replicate, length-append, length-set, length-replicate}
 use lib.Seq.{take-suc-set}
 use Rattle.sets.specs.Least.{least}
 use Rattle.report.specs.Over.{joinedFrom, Edge, froms, tos, leastAlong}
@@ -120,11 +120,12 @@ pub record Ready (from to : List ℕ) (n : ℕ) (es : List Edge) : Type 0 where
   pub from-room : n ≤ length from
   pub to-room : n ≤ length to
 
-pub ready : {from to from′ to′ : List ℕ} {n : ℕ} {es : List Edge} → length from ≡ 2048 → length to ≡ 2048 → Appended from to 0 from′ to′ n es → Fit es
-    → Ready from′ to′ n es
+-- lists of zeros that a question's edges were filled into
+pub ready : {from to : List ℕ} {n : ℕ} {es : List Edge} → Appended (replicate 2048 0) (replicate 2048 0) 0 from to n es → Fit es → Ready from to n es
 unfolding froms tos
-ready {es = es} a b p fit =
-    let h = p .then [] (record { count = refl; from-long = a; to-long = b; from-is = refl; to-is = refl }) fit in
+ready p fit =
+    let long : length (replicate {A = ℕ} 2048 0) ≡ 2048 = length-replicate {A = ℕ} 2048 0 in
+    let h = p .then [] (record { count = refl; from-long = long; to-long = long; from-is = refl; to-is = refl }) fit in
     record { holds = h; from-room = omega (arith, h .count, h .from-long, fit .room); to-room = omega (arith, h .count, h .to-long, fit .room) }
 
 pub solved : {from to : List ℕ} {n : ℕ} {es : List Edge} {s s′ : List ℕ} → Holds from to n es → s ≡ s′

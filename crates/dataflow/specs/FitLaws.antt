@@ -1,7 +1,7 @@
 -- The edges of every question fit into lists of 2,048: at most four a statement, and every number small. Assumes nothing.
 use Prim.Native.Nat.{ℕ, zero, suc, _+_, _*_, _≤_, _<_}
 use mathlib.Core.Path.{_≡_, refl, sym, ap, _∙_, subst}
-use mathlib.Core.Bool.{Bool, true, false, cond}
+use mathlib.Core.Bool.{Bool, true, false, not, cond}
 use mathlib.Core.Logic.{_⊎_, inl, inr}
 use mathlib.Core.List.{List, [], _∷_, _++_, List·Memᴰ, List·Memᴰ·append-cases, List·Memᴰ·eq-of-singleton}
 use native.Mathlib.Nat.{mul-suc}
@@ -15,7 +15,7 @@ use Rattle.table.specs.declared.Statement.{Statement}
 use Rattle.table.specs.declared.Statement.the-variants.{Read, Write, Set, Add, Take, Give, Point, Call, Start, Jump, JumpZero, Return}
 use Rattle.report.specs.Over.{joinedFrom, Edge}
 use Rattle.report.specs.OverLaws.{Within, joined-from, within-below}
-use Rattle.report.specs.Layout.{named, ownerOf, oneEach}
+use Rattle.report.specs.Layout.{named, isIn, ownerOf, oneEach}
 use Rattle.report.specs.OneEach.{statement-below}
 use Rattle.report.specs.Operations.{nexts, byNaming}
 use Rattle.report.specs.Flow.{passing, flowEdges}
@@ -32,8 +32,8 @@ record Few (m : ℕ) (es : List Edge) : Type 0 where
 few-none : {m : ℕ} → Few m []
 few-none = record { few = omega arith; small = λ e i. elim i [ ] }
 
-few-one : {m : ℕ} (f t : ℕ) → f < 65536 → t < 65536 → Few (m + 1) (edge f t ∷ [])
-few-one f t p q = record { few = omega arith; small = λ e i. subst (λ (d : Edge). (d .from < 65536) × (d .to < 65536)) (sym (List·Memᴰ·eq-of-singleton i)) (p, q) }
+few-one : (m f t : ℕ) → f < 65536 → t < 65536 → Few (m + 1) (edge f t ∷ [])
+few-one m f t p q = record { few = omega arith; small = λ e i. subst (λ (d : Edge). (d .from < 65536) × (d .to < 65536)) (sym (List·Memᴰ·eq-of-singleton i)) (p, q) }
 
 few-both : {m n : ℕ} (a b : List Edge) → Few m a → Few n b → Few (m + n) (a ++ b)
 few-both a b p q = record { few = omega (arith, length-append a b, p .few, q .few); small = λ e i. go e (List·Memᴰ·append-cases a i) }
@@ -62,18 +62,18 @@ few-joined m from n f h = record {
 
 few-naming : {m : ℕ} (σ : Statement) (a b : List Edge) → Few m a → Few m b → Few m (byNaming a b [] σ)
 unfolding byNaming
-few-naming (Read h) a b p q = few-none
-few-naming (Write h) a b p q = few-none
-few-naming (Set n) a b p q = few-none
-few-naming (Add n) a b p q = few-none
-few-naming (Take h) a b p q = few-none
-few-naming (Give h) a b p q = few-none
-few-naming (Point h g) a b p q = few-none
-few-naming (Call q d) a b p q = p
-few-naming (Start q d) a b p q = q
-few-naming (Jump z) a b p q = few-none
-few-naming (JumpZero z) a b p q = few-none
-few-naming Return a b p q = few-none
+few-naming (Read h) a b u v = few-none
+few-naming (Write h) a b u v = few-none
+few-naming (Set n) a b u v = few-none
+few-naming (Add n) a b u v = few-none
+few-naming (Take h) a b u v = few-none
+few-naming (Give h) a b u v = few-none
+few-naming (Point h g) a b u v = few-none
+few-naming (Call q d) a b u v = u
+few-naming (Start q d) a b u v = v
+few-naming (Jump z) a b u v = few-none
+few-naming (JumpZero z) a b u v = few-none
+few-naming Return a b u v = few-none
 
 module _ (t : Table) (acc : Accepted t) where
   -- ---- the numbers of a statement
@@ -98,7 +98,7 @@ module _ (t : Table) (acc : Accepted t) where
 
   owner-small : (s : ℕ) → ownerOf t s < 512
   unfolding ownerOf
-  owner-small s = omega (arith, acc .routines-most, until-range _ 0 (length (t .routines)) .1)
+  owner-small s = omega (arith, acc .routines-most, until-range (λ (r : ℕ). not (isIn t s r)) 0 (length (t .routines)) .1)
 
   -- ---- flow
 
@@ -110,7 +110,7 @@ module _ (t : Table) (acc : Accepted t) where
       (few-joined 1 0 (routine t q .parameters) _
       (λ j w.
       let l : j < routine t q .parameters = within-below w in
-      few-one (getD (passed a) j 0) (routine t q .handle + j) (omega (arith, p .argument j l .own .there, acc .handles-most))
+      few-one 0 (getD (passed a) j 0) (routine t q .handle + j) (omega (arith, p .argument j l .own .there, acc .handles-most))
       (omega (arith, facts .parameters-among, facts .handles-there, acc .handles-most))))
 
   few-flow : (r s : ℕ) (σ : Statement) → Operands t r σ → Few 4 (flowEdges t (oneEach t) 0 s σ)
@@ -121,7 +121,7 @@ module _ (t : Table) (acc : Accepted t) where
   few-flow r s (Add n) o = few-none
   few-flow r s (Take h) o = few-none
   few-flow r s (Give h) o = few-none
-  few-flow r s (Point h g) o = few-more 4 (omega arith) (few-one {m = 0} (g .number) (h .number) (omega (arith, o .1 .there, acc .handles-most)) (omega (arith, o .0 .there, acc .handles-most)))
+  few-flow r s (Point h g) o = few-more 4 (omega arith) (few-one 0 (g .number) (h .number) (omega (arith, o .1 .there, acc .handles-most)) (omega (arith, o .0 .there, acc .handles-most)))
   few-flow r s (Call q d) o = few-passing r q d o
   few-flow r s (Start q d) o = few-passing r q d o
   few-flow r s (Jump z) o = few-none
@@ -133,7 +133,7 @@ module _ (t : Table) (acc : Accepted t) where
   few-up : (starts : Bool) (c : ℕ) (r : ℕ) (σ : Statement) → Operands t r σ → c < 512 → Few 1 (upEdges starts c σ)
   unfolding upEdges
   few-up starts c r σ o l =
-      let one : Few 1 (edge (named σ) c ∷ []) = few-one {m = 0} (named σ) c (omega (arith, named-small r σ o)) (omega arith) in
+      let one : Few 1 (edge (named σ) c ∷ []) = few-one 0 (named σ) c (omega (arith, named-small r σ o)) (omega arith) in
       few-naming σ _ _ one (go starts one)
     where
       go : (b : Bool) → Few 1 (edge (named σ) c ∷ []) → Few 1 (cond b (edge (named σ) c ∷ []) [])
@@ -144,7 +144,7 @@ module _ (t : Table) (acc : Accepted t) where
 
   module _ (s r : ℕ) (l : s < 512) (b : r < length (t .routines)) where
     on : Few 2 (edge (s + 1) s ∷ [])
-    on = few-one {m = 1} (s + 1) s (omega arith) (omega arith)
+    on = few-one 1 (s + 1) s (omega arith) (omega arith)
 
     target-small : (z : ℕ) → InRoutine t r z → z < 65536
     target-small z i = omega (arith, statement-below t acc r z b i, acc .statements-most)
@@ -160,22 +160,22 @@ module _ (t : Table) (acc : Accepted t) where
     few-next (Point h g) o = on
     few-next (Call q d) o = on
     few-next (Start q d) o = on
-    few-next (Jump z) o = few-one {m = 1} (z .statement) s (target-small (z .statement) o) (omega arith)
-    few-next (JumpZero z) o = few-both {m = 1} {n = 1} (edge (z .statement) s ∷ []) (edge (s + 1) s ∷ []) (few-one {m = 0} (z .statement) s (target-small (z .statement) o) (omega arith)) (few-one {m = 0} (s + 1) s (omega arith) (omega arith))
+    few-next (Jump z) o = few-one 1 (z .statement) s (target-small (z .statement) o) (omega arith)
+    few-next (JumpZero z) o = few-both {m = 1} {n = 1} (edge (z .statement) s ∷ []) (edge (s + 1) s ∷ []) (few-one 0 (z .statement) s (target-small (z .statement) o) (omega arith)) (few-one 0 (s + 1) s (omega arith) (omega arith))
     few-next Return o = few-none
 
     few-call : (σ : Statement) → Operands t r σ → Few 1 (callEdges (length (t .statements)) s σ)
     unfolding callEdges
     few-call σ o =
         few-naming σ _ _
-        (few-one {m = 0} s (length (t .statements) + named σ) (omega arith) (omega (arith, named-small r σ o, acc .statements-most))) few-none
+        (few-one 0 s (length (t .statements) + named σ) (omega arith) (omega (arith, named-small r σ o, acc .statements-most))) few-none
 
     few-future : (σ : Statement) → Operands t r σ
         → Few 4 (nextEdges s σ ++ ((edge (length (t .statements) + ownerOf t s) s ∷ []) ++ callEdges (length (t .statements)) s σ))
     few-future σ o =
         few-both {m = 2} {n = 2} (nextEdges s σ) _ (few-next σ o)
         (few-both {m = 1} {n = 1} (edge (length (t .statements) + ownerOf t s) s ∷ []) _
-        (few-one {m = 0} (length (t .statements) + ownerOf t s) s (omega (arith, owner-small s, acc .statements-most)) (omega arith)) (few-call σ o))
+        (few-one 0 (length (t .statements) + ownerOf t s) s (omega (arith, owner-small s, acc .statements-most)) (omega arith)) (few-call σ o))
 
   -- ---- every question
 

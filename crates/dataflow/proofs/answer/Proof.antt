@@ -1,6 +1,5 @@
 -- `dataflow::answer` meets its contract. Assumes nothing.
 use mathlib.Core.Path.{sym, _∙_}
-use lib.ListN.{length-replicate}
 use lib.Seq.{length-take-le}
 use Rattle.dataflow.specs.EdgeLaws.{ready, solved}
 use Rattle.dataflow.specs.FitLaws.{edges-fit}
@@ -24,19 +23,19 @@ fill-starts-requires c κs = search needs
 
 -- src/lib.rt:73:22
 array-share-prefix-from : tie.Need-array-share-prefix-from
-array-share-prefix-from c = (ready (length-replicate 2048 0) (length-replicate 2048 0) (c .before .before .before .before .before .fill-edges .ensures) (edges-fit _ (c .before .before .before .before .before .before .before .before .before .before .before .before .before .before .pre .1) _)) .from-room
+array-share-prefix-from c = (ready (c .before .before .before .before .before .fill-edges .ensures) (edges-fit _ (c .before .before .before .before .before .before .before .before .before .before .before .before .before .before .pre .1) _)) .from-room
 
 -- src/lib.rt:73:22
 slice-aggregate-solve : tie.Need-slice-aggregate-solve
-slice-aggregate-solve c = sym (length-take-le _ _ ((ready (length-replicate 2048 0) (length-replicate 2048 0) (c .before .before .before .before .before .before .fill-edges .ensures) (edges-fit _ (c .before .before .before .before .before .before .before .before .before .before .before .before .before .before .before .pre .1) _)) .from-room))
+slice-aggregate-solve c = sym (length-take-le _ _ ((ready (c .before .before .before .before .before .before .fill-edges .ensures) (edges-fit _ (c .before .before .before .before .before .before .before .before .before .before .before .before .before .before .before .pre .1) _)) .from-room))
 
 -- src/lib.rt:73:34
 array-share-prefix-to : tie.Need-array-share-prefix-to
-array-share-prefix-to c = (ready (length-replicate 2048 0) (length-replicate 2048 0) (c .before .before .before .before .before .before .fill-edges .ensures) (edges-fit _ (c .before .before .before .before .before .before .before .before .before .before .before .before .before .before .before .pre .1) _)) .to-room
+array-share-prefix-to c = (ready (c .before .before .before .before .before .before .fill-edges .ensures) (edges-fit _ (c .before .before .before .before .before .before .before .before .before .before .before .before .before .before .before .pre .1) _)) .to-room
 
 -- src/lib.rt:73:34
 slice-aggregate-solve-2 : tie.Need-slice-aggregate-solve-2
-slice-aggregate-solve-2 c = sym (length-take-le _ _ ((ready (length-replicate 2048 0) (length-replicate 2048 0) (c .before .before .before .before .before .before .before .fill-edges .ensures) (edges-fit _ (c .before .before .before .before .before .before .before .before .before .before .before .before .before .before .before .before .pre .1) _)) .to-room))
+slice-aggregate-solve-2 c = sym (length-take-le _ _ ((ready (c .before .before .before .before .before .before .before .fill-edges .ensures) (edges-fit _ (c .before .before .before .before .before .before .before .before .before .before .before .before .before .before .before .before .pre .1) _)) .to-room))
 
 -- src/lib.rt:73:44
 order-of-requires : tie.Need-order-of-requires
@@ -52,7 +51,7 @@ same-length c = search needs
 
 -- src/lib.rt:44:1
 returns : tie.Need-returns
-returns c = c .before .before .solve .ensures ∙ solved ((ready (length-replicate 2048 0) (length-replicate 2048 0) (c .before .before .before .before .before .before .before .before .before .before .before .fill-edges .ensures) (edges-fit _ (c .before .before .before .before .before .before .before .before .before .before .before .before .before .before .before .before .before .before .before .before .pre .1) _)) .holds) (c .before .before .before .before .before .before .before .before .before .fill-starts .ensures)
+returns c = c .before .before .solve .ensures ∙ solved ((ready (c .before .before .before .before .before .before .before .before .before .before .before .fill-edges .ensures) (edges-fit _ (c .before .before .before .before .before .before .before .before .before .before .before .before .before .before .before .before .before .before .before .before .pre .1) _)) .holds) (c .before .before .before .before .before .before .before .before .before .fill-starts .ensures)
 
 pub answer-spec : {M : Type 1} → statement M
 answer-spec =
