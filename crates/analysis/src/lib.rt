@@ -46,20 +46,59 @@ fn summary_of(numbers: &[i32]) -> Summary
     let handles = counts.handles;
     let routines = counts.routines;
     let statements = counts.statements;
-    let flow = [0u64; 128];
-    let reads = [0u64; 32];
-    let writes = [0u64; 32];
-    let held = [0u64; 512];
-    let later_reads = [0u64; 544];
-    let later_writes = [0u64; 544];
+    let places = statements + routines;
+    let flow = dataflow::flow_sets(numbers, &first[..], &handle[..], &parameters[..]);
+    let reads = dataflow::effect_sets(
+        numbers,
+        &first[..],
+        &handle[..],
+        &parameters[..],
+        &flow[..handles],
+        false,
+    );
+    let writes = dataflow::effect_sets(
+        numbers,
+        &first[..],
+        &handle[..],
+        &parameters[..],
+        &flow[..handles],
+        true,
+    );
+    let given = dataflow::given_sets(numbers, &first[..], &handle[..], &parameters[..], &flow[..handles]);
+    let held = lockset::held_sets(
+        numbers,
+        &first[..],
+        &handle[..],
+        &parameters[..],
+        &flow[..handles],
+        &given[..routines],
+    );
+    let later_reads = dataflow::future_sets(
+        numbers,
+        &first[..],
+        &handle[..],
+        &parameters[..],
+        &flow[..handles],
+        &reads[..routines],
+        false,
+    );
+    let later_writes = dataflow::future_sets(
+        numbers,
+        &first[..],
+        &handle[..],
+        &parameters[..],
+        &flow[..handles],
+        &writes[..routines],
+        true,
+    );
     findings::summary_from(
         numbers,
         &flow[..handles],
         &reads[..routines],
         &writes[..routines],
         &held[..statements],
-        &later_reads[..statements],
-        &later_writes[..statements],
+        &later_reads[..places],
+        &later_writes[..places],
     )
 }
 
