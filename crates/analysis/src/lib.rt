@@ -64,7 +64,13 @@ fn summary_of(numbers: &[i32]) -> Summary
         &flow[..handles],
         true,
     );
-    let given = dataflow::given_sets(numbers, &first[..], &handle[..], &parameters[..], &flow[..handles]);
+    let given = dataflow::given_sets(
+        numbers,
+        &first[..],
+        &handle[..],
+        &parameters[..],
+        &flow[..handles],
+    );
     let held = lockset::held_sets(
         numbers,
         &first[..],
