@@ -1,0 +1,35 @@
+-- What the report's code finds of a table: the sets it is given, and the lists it makes of them, are those of the definitions. Assumes nothing.
+use mathlib.Core.Path.{_≡_}
+use mathlib.Core.Bool.{Bool}
+use mathlib.Core.List.{List}
+use Prim.Native.Nat.{ℕ, _<_}
+use lib.IntN.{ℤ}
+use lib.ListN.{length}
+use Rattle.table.specs.Table.{Table, tableOf}
+use Rattle.report.specs.Layout.{Layout, oneEach}
+use Rattle.report.specs.Operations.{reading, writing}
+use Rattle.report.specs.Findings.{Sets, setsOf, sharedCells, commonLocks, ownAccess, isStray}
+use Rattle.report.specs.Report.{bit}
+use Rattle.analysis.specs.Steps.{entry}
+use Rattle.analysis.specs.declared.Summary.{Summary}
+
+-- the sets of a table with one copy of each routine
+abbrev pub setsIn : Table → Sets
+setsIn t = setsOf t (oneEach t)
+
+-- lists that are the sets of a table's numbers
+pub record Known (f : List ℤ) (flow reads writes held laterReads laterWrites : List ℕ) : Type 0 where
+  pub flow-is : flow ≡ setsIn (tableOf f) .flow
+  pub reads-is : reads ≡ setsIn (tableOf f) .reads
+  pub writes-is : writes ≡ setsIn (tableOf f) .writes
+  pub held-is : held ≡ setsIn (tableOf f) .held
+  pub later-reads-is : laterReads ≡ setsIn (tableOf f) .futureReads
+  pub later-writes-is : laterWrites ≡ setsIn (tableOf f) .futureWrites
+
+-- what is found of a table
+pub record Found (t : Table) (r : Summary) : Type 0 where
+  pub shared-is : r .shared ≡ sharedCells t (oneEach t) (setsIn t)
+  pub common-is : (x : ℕ) → x < t .cells → entry (r .common) x ≡ commonLocks t (oneEach t) (setsIn t) x
+  pub reads-is : (p : ℕ) → p < length (t .statements) → entry (r .reads) p ≡ ownAccess t (oneEach t) (setsIn t) reading p
+  pub writes-is : (p : ℕ) → p < length (t .statements) → entry (r .writes) p ≡ ownAccess t (oneEach t) (setsIn t) writing p
+  pub strays-is : (p : ℕ) → p < length (t .statements) → entry (r .strays) p ≡ bit (isStray t (oneEach t) (setsIn t) p)

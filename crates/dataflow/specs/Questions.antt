@@ -1,0 +1,90 @@
+-- The four questions that least sets along edges answer: the edges of each, and the sets that it begins with, over the table's own numbers.
+-- The crate's promises cite the report's definitions; these are the same, as the code goes through them. Assumes nothing.
+use Prim.Native.Nat.{ℕ, _+_}
+use mathlib.Core.Bool.{Bool, true, false, cond}
+use mathlib.Core.List.{List, [], _∷_, _++_, map}
+use lib.Dec.{ltb}
+use lib.ListN.{length, getD}
+use Rattle.table.specs.Table.{Table, routine, statement}
+use Rattle.table.specs.declared.Statement.{Statement}
+use Rattle.report.specs.Over.{joinedFrom, unionFrom, unionAt, Edge}
+use Rattle.report.specs.Layout.{named, ownerOf, oneEach}
+use Rattle.report.specs.Operations.{nexts, byNaming, accessed, given}
+use Rattle.report.specs.Flow.{startOf, flowEdges}
+use Rattle.dataflow.specs.declared.Question.{Question}
+use Rattle.dataflow.specs.declared.Question.the-variants.{Flow, Effects, Gives, Futures}
+use Rattle.dataflow.specs.declared.operations.Naming.{Naming}
+use Rattle.dataflow.specs.declared.operations.Naming.the-variants.{Called, Started, Neither}
+use Rattle.dataflow.specs.declared.operations.Nexts.{Nexts}
+use Rattle.dataflow.specs.declared.operations.Nexts.the-variants.{Zero, One, Two}
+
+-- the statements that may come after one, in order
+unfoldable pub asList : Nexts → List ℕ
+asList Zero = []
+asList (One a) = a ∷ []
+asList (Two a b) = a ∷ b ∷ []
+
+-- the routine that is named, 0 if none is
+unfoldable pub routineIn : Naming → ℕ
+routineIn (Called q) = q
+routineIn (Started q) = q
+routineIn Neither = 0
+
+abbrev pub edge : ℕ → ℕ → Edge
+edge f t = record { from = f; to = t }
+
+-- ---- edges
+
+-- from the routine that a CALL names, or also a START, to the routine c that it stands in
+unfoldable pub upEdges : Bool → ℕ → Statement → List Edge
+upEdges starts c σ = byNaming (edge (named σ) c ∷ []) (cond starts (edge (named σ) c ∷ []) []) [] σ
+
+-- to statement s from what may come next
+unfoldable pub nextEdges : ℕ → Statement → List Edge
+nextEdges s σ = map (λ (n : ℕ). edge n s) (nexts s σ)
+
+-- from a CALL, statement s, to the place of the CALLs of the routine that it names; these places stand from `base` on
+unfoldable pub callEdges : ℕ → ℕ → Statement → List Edge
+callEdges base s σ = byNaming (edge s (base + named σ) ∷ []) [] [] σ
+
+-- those of statement s
+unfoldable pub edgesAt : Question → Table → ℕ → List Edge
+edgesAt Flow t s = flowEdges t (oneEach t) 0 s (statement t s)
+edgesAt Effects t s = upEdges true (ownerOf t s) (statement t s)
+edgesAt Gives t s = upEdges false (ownerOf t s) (statement t s)
+edgesAt Futures t s =
+    nextEdges s (statement t s)
+    ++ ((edge (length (t .statements) + ownerOf t s) s ∷ []) ++ callEdges (length (t .statements)) s (statement t s))
+
+-- those of all statements
+unfoldable pub edgesFor : Question → Table → List Edge
+edgesFor q t = joinedFrom 0 (length (t .statements)) (edgesAt q t)
+
+-- ---- starts
+
+-- the locks that a statement itself may give up, or the cells that it reads or writes
+unfoldable pub ownSet : Bool → Bool → List ℕ → Statement → ℕ
+ownSet locks w flow σ = cond locks (given (λ (h : ℕ). getD flow h 0) σ) (accessed w (λ (h : ℕ). getD flow h 0) 0 σ)
+
+-- those of statement s
+abbrev pub ownAt : Bool → Bool → List ℕ → Table → ℕ → ℕ
+ownAt locks w flow t s = ownSet locks w flow (statement t s)
+
+-- the union of these over the statements of routine r
+unfoldable pub inRoutine : Bool → Bool → List ℕ → Table → ℕ → ℕ
+inRoutine locks w flow t r = unionFrom (routine t r .first) (routine t r .count) (ownAt locks w flow t)
+
+-- the effect of statement s
+unfoldable pub effectAt : Bool → List ℕ → List ℕ → Table → ℕ → ℕ
+effectAt w flow effect t s = accessed w (λ (h : ℕ). getD flow h 0) (getD effect (named (statement t s)) 0) (statement t s)
+
+-- the effects of the statements that may come after statement s
+unfoldable pub nextsEffect : Bool → List ℕ → List ℕ → Table → ℕ → ℕ
+nextsEffect w flow effect t s = unionAt (nexts s (statement t s)) (effectAt w flow effect t)
+
+-- what the set at place p begins with
+unfoldable pub startAt : Question → Bool → List ℕ → List ℕ → Table → ℕ → ℕ
+startAt Flow w flow effect t p = startOf t p
+startAt Effects w flow effect t p = inRoutine false w flow t p
+startAt Gives w flow effect t p = inRoutine true w flow t p
+startAt Futures w flow effect t p = cond (ltb p (length (t .statements))) (nextsEffect w flow effect t p) 0

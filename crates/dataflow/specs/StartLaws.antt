@@ -1,0 +1,50 @@
+-- The sets that a question begins with, as loops make them. Assumes nothing.
+use Prim.Native.Nat.{ℕ, suc, _+_, _-_, _≤_, _<_}
+use mathlib.Core.Path.{_≡_, refl, sym, ap, ap₂, _∙_}
+use mathlib.Core.Bool.{Bool}
+use mathlib.Core.List.{List}
+use native.Mathlib.Omega.{arith}
+use Rattle.sets.specs.Set.{union}
+use Rattle.table.specs.Table.{Table, statement}
+use Rattle.table.specs.declared.Statement.{Statement}
+use Rattle.report.specs.Over.{unionFrom, unionAt}
+use Rattle.report.specs.Operations.{nexts}
+use Rattle.dataflow.specs.declared.operations.Nexts.{Nexts}
+use Rattle.dataflow.specs.Questions.{asList, effectAt, nextsEffect}
+
+-- ---- a union that grows from its last set down
+
+pub record Uniting (f : ℕ → ℕ) (begin end s all : ℕ) : Type 0 where
+  pub is : all ≡ unionFrom s (end - s) f
+  pub low : begin ≤ s
+  pub high : s ≤ end
+
+pub uniting-start : (f : ℕ → ℕ) (begin end : ℕ) → begin ≤ end → Uniting f begin end end 0
+unfolding unionFrom
+uniting-start f begin end h = let z : end - end ≡ 0 = omega arith in record { is = rw z; low = h; high = omega arith }
+
+pub uniting-next : {f : ℕ → ℕ} {begin end s all x y : ℕ} → Uniting f begin end s all → begin < s → x ≡ f (s - 1) → y ≡ union x all
+    → Uniting f begin end (s - 1) y
+unfolding unionFrom
+uniting-next {f} {begin} {end} {s} {all} {x} {y} u b ex ey =
+    let more : end - (s - 1) ≡ suc (end - s) = omega (arith, u .low, u .high) in
+    let next : s - 1 + 1 ≡ s = omega arith in
+    record {
+      is = rw (more, next) (ey ∙ ap₂ (λ (a c : ℕ). union a c) ex (u .is));
+      low = omega arith;
+      high = omega (arith, u .high);
+    }
+
+pub uniting-done : {f : ℕ → ℕ} {begin end s all : ℕ} (count : ℕ) → Uniting f begin end s all → s ≤ begin → end ≡ begin + count
+    → all ≡ unionFrom begin count f
+uniting-done {f} {begin} {end} {s} count u h e =
+    let same : s ≡ begin = omega (arith, u .low) in
+    let left : end - s ≡ count = omega (arith, u .low) in
+    u .is ∙ ap₂ (λ (a n : ℕ). unionFrom a n f) same left
+
+-- ---- the effects of what may come next, by the cases of what that is
+
+pub nexts-effect-is : (w : Bool) (flow effect : List ℕ) (t : Table) (s : ℕ) {σ : Statement} (r r′ : Nexts) → r ≡ r′ → asList r ≡ nexts s σ → σ ≡ statement t s
+    → unionAt (asList r′) (effectAt w flow effect t) ≡ nextsEffect w flow effect t s
+unfolding nextsEffect
+nexts-effect-is w flow effect t s r r′ e h p = ap (λ (l : List ℕ). unionAt l (effectAt w flow effect t)) (ap asList (sym e) ∙ h ∙ ap (nexts s) p)

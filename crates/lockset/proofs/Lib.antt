@@ -1,0 +1,3 @@
+pub mod StepLaws
+pub mod WayLaws
+pub mod TableLaws

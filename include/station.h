@@ -1,0 +1,61 @@
+/* The check and the engine for station tables, as proved functions.
+ *
+ * Link libstation.a (`rt staticlib station` writes it to target/staticlib/). No function allocates, keeps a pointer or
+ * touches anything but what is lent to it. Each takes every text, schedule and buffer length; the buffers of one call
+ * must not overlap. What each answers and leaves in each buffer is proved: docs/C_INTERFACE.md.
+ */
+#ifndef STATION_H
+#define STATION_H
+
+#include <stdbool.h>
+#include <stddef.h>
+#include <stdint.h>
+
+/* number: 0, or the refusal 1 to 13; line: the line that goes with it, counted from 0 at the header;
+ * bytes: how many bytes of a report were written. */
+struct station_answer {
+    uint32_t number, line;
+    size_t bytes;
+};
+
+/* The exports, on numbers only: bytes + 2^32 * (line + 2^16 * number). */
+uint64_t station_report_packed(const uint8_t *text, size_t text_length, uint8_t *out, size_t out_length);
+uint64_t station_run_packed(const uint8_t *text, size_t text_length, const uint8_t *schedule, size_t schedule_length,
+                            uint8_t *answers, size_t answers_length, int32_t *cells, size_t cells_length);
+bool station_may_load_text(const uint8_t *text, size_t text_length);
+
+/* A slice of no bytes may come with no address; the exports want one. */
+static inline const void *station_address(const void *address) {
+    static const uint64_t nothing = 0;
+    return address ? address : &nothing;
+}
+
+static inline struct station_answer station_unpacked(uint64_t packed) {
+    struct station_answer answer = {(uint32_t)(packed >> 48), (uint32_t)(packed >> 32 & 0xffff), (size_t)(packed & 0xffffffff)};
+    return answer;
+}
+
+/* The report of a table text into `out`. Accepted: number 0, and `bytes` bytes of out are the report, those behind
+ * unchanged. Refused: 1 to 12 as the text breaks the rules, then 13 where out is shorter than the report; out unchanged. */
+static inline struct station_answer station_report(const uint8_t *text, size_t text_length, uint8_t *out, size_t out_length) {
+    return station_unpacked(station_report_packed(station_address(text), text_length, (uint8_t *)station_address(out), out_length));
+}
+
+/* Steps a table by a schedule, each byte a thread number. Accepted: answers has one byte for each step, 0 where it ran
+ * and 14 to 19 where it was refused, and cells the final values, places behind unchanged. Refused: 1 to 12, then 13
+ * where answers is shorter than the schedule or cells shorter than the table's cells; both buffers unchanged. */
+static inline struct station_answer station_run(const uint8_t *text, size_t text_length, const uint8_t *schedule,
+                                                size_t schedule_length, uint8_t *answers, size_t answers_length,
+                                                int32_t *cells, size_t cells_length) {
+    return station_unpacked(station_run_packed(station_address(text), text_length, station_address(schedule), schedule_length,
+                                               (uint8_t *)station_address(answers), answers_length,
+                                               (int32_t *)station_address(cells), cells_length));
+}
+
+/* Whether the table may be loaded: the text is accepted and its report counts no unguarded cell and no stray GIVE. If
+ * so, no order of steps has two threads before conflicting accesses of one cell: docs/GUARANTEE.md. */
+static inline bool station_may_load(const uint8_t *text, size_t text_length) {
+    return station_may_load_text(station_address(text), text_length);
+}
+
+#endif
