@@ -122,7 +122,8 @@ fn after_call(
     requires { ⌜ Ready (now numbers) (now first) all ⌝ }
     ensures { λ x. ⌜ x ≡ union (atReturns (tableOf (now (numbers .entry))) (oneEach (tableOf (now (numbers .entry)))) (leaving all (now (out .entry))) r) (minus (leaving all (now (out .entry)) s) (getD (now (given .entry)) r 0)) ⌝ }
 {
-    let kept = sets::difference(held_at(out, all, s), set_at(given, r));
+    let held = held_at(out, all, s);
+    let kept = sets::difference(held, set_at(given, r));
     sets::union(at_returns(numbers, first, out, all, r), kept)
 }
 
