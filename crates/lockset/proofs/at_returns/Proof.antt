@@ -1,4 +1,4 @@
--- `lockset::at_returns` meets its contract. Assumes nothing.
+-- `lockset::at_returns` meets its contract. Its loop has met the sets from statement s on. Assumes nothing.
 use mathlib.Core.Path.{_∙_}
 use Prim.Native.Nat.{_-_}
 use native.Mathlib.Omega.{arith}

@@ -1,4 +1,4 @@
--- `lockset::held_after` meets its contract. Assumes nothing.
+-- `lockset::held_after` meets its contract. Each arm is one law of `WayLaws`. Assumes nothing.
 use mathlib.Core.Path.{_∙_}
 use Rattle.lockset.proofs.WayLaws.{after-take, after-give, after-call, after-other}
 use borrow.Author.Needs.{needs}

@@ -1,4 +1,4 @@
--- `lockset::held_sets` meets its contract. Assumes nothing.
+-- `lockset::held_sets` meets its contract. The part of the array that is lent has a set for each statement; behind it the zeros stay. Assumes nothing.
 use mathlib.Core.Path.{sym, ap, ap₂, _∙_}
 use mathlib.Core.List.{List, _++_}
 use Prim.Native.Nat.{ℕ, _-_}

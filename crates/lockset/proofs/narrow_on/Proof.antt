@@ -1,4 +1,4 @@
--- `lockset::narrow_on` meets its contract. Assumes nothing.
+-- `lockset::narrow_on` meets its contract. Each arm is one law of `WayLaws`. Assumes nothing.
 use mathlib.Core.Path.{_∙_}
 use Rattle.lockset.proofs.StepLaws.{became-as, became-same, became-then}
 use Rattle.lockset.proofs.WayLaws.{on-jump, on-jump-zero, on-return, on-other}

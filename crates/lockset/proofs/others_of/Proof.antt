@@ -1,4 +1,4 @@
--- `lockset::others_of` meets its contract. Assumes nothing.
+-- `lockset::others_of` meets its contract. Its loop has marked the statements below s. Assumes nothing.
 use mathlib.Core.Path.{refl}
 use Prim.Native.Nat.{_-_}
 use native.Mathlib.Omega.{arith}

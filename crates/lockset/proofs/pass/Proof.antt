@@ -1,4 +1,4 @@
--- `lockset::pass` meets its contract. Assumes nothing.
+-- `lockset::pass` meets its contract. Its loop has gone the ways of the statements below s. Assumes nothing.
 use mathlib.Core.Path.{_∙_}
 use native.Mathlib.Omega.{arith}
 use borrow.Author.Needs.{needs}

@@ -1,5 +1,4 @@
--- `lockset::settle` meets its contract. Assumes nothing.
-use native.Mathlib.Omega.{arith}
+-- `lockset::settle` meets its contract. What is left of the passes gives the whole; with every pass the room falls, or the loop ends. Assumes nothing.
 use Prim.Native.Nat.{_+_}
 use Rattle.sets.specs.Least.{room}
 use Rattle.table.specs.Table.{tableOf}

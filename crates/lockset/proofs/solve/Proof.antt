@@ -1,6 +1,6 @@
 -- `lockset::solve` meets its contract. Assumes nothing.
 use Rattle.lockset.proofs.WayLaws.{held-is}
-use mathlib.Core.Path.{sym, _∙_}
+use mathlib.Core.Path.{sym}
 use Rattle.table.specs.LookupLaws.{statements-length}
 use borrow.Author.Needs.{needs}
 use Rattle.lockset.proofs.solve.Statement.{statement}
