@@ -1,12 +1,15 @@
 -- What the report's code finds of a table: the sets it is given, and the lists it makes of them, are those of the definitions. Assumes nothing.
 use mathlib.Core.Path.{_≡_}
-use mathlib.Core.Bool.{Bool}
+use mathlib.Core.Bool.{true}
 use mathlib.Core.List.{List}
 use Prim.Native.Nat.{ℕ, _<_}
-use lib.IntN.{ℤ}
-use lib.ListN.{length}
+use lib.IntN.{ℤ, pos}
+use lib.ListN.{length, getD}
+use Rattle.lines.specs.Field.{inField}
 use Rattle.table.specs.Table.{Table, tableOf}
-use Rattle.report.specs.Layout.{Layout, oneEach}
+use Rattle.table.specs.Accepted.{Accepted}
+use Rattle.table.specs.LayoutLaws.{Laid}
+use Rattle.report.specs.Layout.{oneEach}
 use Rattle.report.specs.Operations.{reading, writing}
 use Rattle.report.specs.Findings.{Sets, setsOf, sharedCells, commonLocks, ownAccess, isStray}
 use Rattle.report.specs.Report.{bit}
@@ -33,3 +36,13 @@ pub record Found (t : Table) (r : Summary) : Type 0 where
   pub reads-is : (p : ℕ) → p < length (t .statements) → entry (r .reads) p ≡ ownAccess t (oneEach t) (setsIn t) reading p
   pub writes-is : (p : ℕ) → p < length (t .statements) → entry (r .writes) p ≡ ownAccess t (oneEach t) (setsIn t) writing p
   pub strays-is : (p : ℕ) → p < length (t .statements) → entry (r .strays) p ≡ bit (isStray t (oneEach t) (setsIn t) p)
+
+-- an accepted table's numbers, and where its routines' statements and handles stand
+pub record Base (f : List ℤ) (first handle counts : List ℕ) : Type 0 where
+  pub laid : Laid f first handle counts
+  pub accepted : Accepted (tableOf f)
+
+-- the numbers of an accepted text: each is in the range of a field
+pub record AcceptedNumbers (f : List ℤ) : Type 0 where
+  pub accepted : Accepted (tableOf f)
+  pub in-field : (i : ℕ) → inField (getD f i (pos 0)) ≡ true

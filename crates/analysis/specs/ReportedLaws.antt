@@ -10,6 +10,7 @@ use lib.IntN.{ℤ, pos}
 use lib.ListN.{length, drop}
 use borrow.Author.Tests.{lt-ltb, le-ltb}
 use Rattle.lines.specs.Line.{numbersOf}
+use Rattle.lines.specs.LineLaws.{numbers-in-field}
 use Rattle.table.specs.Header.{cells, statements}
 use Rattle.table.specs.Table.{tableOf, countsOf}
 use Rattle.table.specs.LookupLaws.{cells-is, statements-length}
@@ -26,7 +27,7 @@ use Rattle.report.specs.ReportLaws.{unguarded-total, stray-total}
 use Rattle.report.specs.ReportTextLaws.{report-length}
 use Rattle.analysis.specs.Reported.{tableIn, turnedDown, answerOf, reportAnswer, printedOver, reportedInto, isNone, countsNothing, loadable}
 use Rattle.analysis.specs.Steps.{foldFrom, hasMark, unguardedMark, putAt, reportBy, AllFitting}
-use Rattle.analysis.specs.Found.{Found}
+use Rattle.analysis.specs.Found.{Found, AcceptedNumbers}
 use Rattle.analysis.specs.FoundLaws.{strays-counted, unguarded-found, report-is, all-fitting}
 use Rattle.analysis.specs.declared.Answer.{Answer}
 use Rattle.analysis.specs.declared.Summary.{Summary}
@@ -48,8 +49,8 @@ module _ (text : List ℕ) (r : Reading) (e : r ≡ readingOf text) where
   unfolding readingOf
   read-numbers v = ap (λ (x : Reading). x .numbers) e ∙ ap (λ v. numbersFor v (numbersOf text)) (read-accepted v)
 
-  pub read-facts : r .verdict ≡ Accepted → Facts.Accepted (tableOf (r .numbers))
-  read-facts v = rw (read-numbers v) (accepted text (read-accepted v))
+  pub read-facts : r .verdict ≡ Accepted → AcceptedNumbers (r .numbers)
+  read-facts v = rw (read-numbers v) (record { accepted = accepted text (read-accepted v); in-field = numbers-in-field text })
 
   -- ---- the answers
 

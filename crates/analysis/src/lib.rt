@@ -1,6 +1,7 @@
 // The report of a table text, and whether the table may be loaded.
 mod findings;
 mod print;
+mod stages;
 
 ghost use mathlib.Core.Path.{_≡_};
 ghost use mathlib.Core.Bool.{true};
@@ -8,12 +9,11 @@ ghost use mathlib.Core.List.{List};
 ghost use Prim.Native.Nat.{ℕ};
 ghost use lib.ListN.{length};
 ghost use Rattle.table.specs.Table.{tableOf};
-ghost use Rattle.table.specs.Accepted.{Accepted};
 ghost use Rattle.machine.specs.State.{start};
 ghost use Rattle.machine.specs.Step.{run};
 ghost use Rattle.machine.specs.Words.{Safe};
 ghost use Rattle.report.specs.Report.{reportText};
-ghost use Rattle.analysis.specs.Found.{Found};
+ghost use Rattle.analysis.specs.Found.{AcceptedNumbers};
 ghost use Rattle.analysis.specs.Reported.{tableIn, answerOf, printedOver, reportAnswer, reportedInto, countsNothing, loadable};
 use table::Verdict;
 
@@ -34,87 +34,13 @@ pub struct Answer {
     pub bytes: usize,
 }
 
-// What is found of an accepted table.
-fn summary_of(numbers: &[i32]) -> Summary
-    requires { ⌜ Accepted (tableOf (now numbers)) ⌝ }
-    ensures { λ r. ⌜ Found (tableOf (now (numbers .entry))) r ⌝ }
-{
-    let first = table::first_statements(numbers);
-    let handle = table::first_handles(numbers);
-    let parameters = table::parameter_counts(numbers);
-    let counts = table::counts_of(numbers);
-    let handles = counts.handles;
-    let routines = counts.routines;
-    let statements = counts.statements;
-    let places = statements + routines;
-    let flow = dataflow::flow_sets(numbers, &first[..], &handle[..], &parameters[..]);
-    let reads = dataflow::effect_sets(
-        numbers,
-        &first[..],
-        &handle[..],
-        &parameters[..],
-        &flow[..handles],
-        false,
-    );
-    let writes = dataflow::effect_sets(
-        numbers,
-        &first[..],
-        &handle[..],
-        &parameters[..],
-        &flow[..handles],
-        true,
-    );
-    let given = dataflow::given_sets(
-        numbers,
-        &first[..],
-        &handle[..],
-        &parameters[..],
-        &flow[..handles],
-    );
-    let held = lockset::held_sets(
-        numbers,
-        &first[..],
-        &handle[..],
-        &parameters[..],
-        &flow[..handles],
-        &given[..routines],
-    );
-    let later_reads = dataflow::future_sets(
-        numbers,
-        &first[..],
-        &handle[..],
-        &parameters[..],
-        &flow[..handles],
-        &reads[..routines],
-        false,
-    );
-    let later_writes = dataflow::future_sets(
-        numbers,
-        &first[..],
-        &handle[..],
-        &parameters[..],
-        &flow[..handles],
-        &writes[..routines],
-        true,
-    );
-    findings::summary_from(
-        numbers,
-        &flow[..handles],
-        &reads[..routines],
-        &writes[..routines],
-        &held[..statements],
-        &later_reads[..places],
-        &later_writes[..places],
-    )
-}
-
 // Writes the report of an accepted table to the start of `out`, the places behind it stay; if it does not fit, 13 and no byte is written.
 fn report_of(numbers: &[i32], out: &mut [u8]) -> Answer
-    requires { ⌜ Accepted (tableOf (now numbers)) ⌝ }
+    requires { ⌜ AcceptedNumbers (now numbers) ⌝ }
     ensures answer { λ r. ⌜ r ≡ answerOf (reportText (tableOf (now (numbers .entry)))) (length (now (out .entry))) ⌝ }
     ensures buffer { λ _. ⌜ now (out .exit) ≡ printedOver (reportText (tableOf (now (numbers .entry)))) (now (out .entry)) ⌝ }
 {
-    let summary = summary_of(numbers);
+    let summary = stages::summary_of(numbers);
     let counts = table::counts_of(numbers);
     let cells = counts.cells;
     let count = counts.statements;
@@ -175,10 +101,10 @@ pub fn report(text: &[u8], out: &mut [u8]) -> Answer
 
 // Whether the report of an accepted table counts no unguarded cell and no stray GIVE.
 fn is_clean(numbers: &[i32]) -> bool
-    requires { ⌜ Accepted (tableOf (now numbers)) ⌝ }
+    requires { ⌜ AcceptedNumbers (now numbers) ⌝ }
     ensures { λ b. ⌜ b ≡ countsNothing (tableOf (now (numbers .entry))) ⌝ }
 {
-    let summary = summary_of(numbers);
+    let summary = stages::summary_of(numbers);
     let counts = table::counts_of(numbers);
     let cells = counts.cells;
     let count = counts.statements;

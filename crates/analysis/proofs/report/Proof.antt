@@ -1,44 +1,33 @@
+-- `analysis::report` meets its contract. Assumes nothing.
 use mathlib.Core.Path.{_∙_}
 use Rattle.analysis.specs.ReportedLaws.{read-facts, accepted-answer, accepted-written, refused-answer, refused-written}
 use borrow.Author.Needs.{needs}
 use Rattle.analysis.proofs.report.Statement.{statement}
 use Rattle.analysis.proofs.report.Tie as tie
-use Rattle.analysis.proofs.report.Reads as reads
-use Rattle.analysis.proofs.report.Lts as lts
-use Rattle.analysis.proofs.report_of.Reads as report-of-reads
-use Rattle.table.proofs.read.Reads as read-reads
 
--- src/lib.rt:111:9
 read-requires : tie.Need-read-requires
 read-requires c κs = search needs
 
--- src/lib.rt:115:17
 enum-told : tie.Need-enum-told
 enum-told c = search needs
 
--- src/lib.rt:116:23
 slice-aggregate-report-of : tie.Need-slice-aggregate-report-of
 slice-aggregate-report-of c = search needs
 
--- src/lib.rt:116:13
 report-of-requires : tie.Need-report-of-requires
 report-of-requires c κs = read-facts _ _ (c .before .before .before .before .before .read .ensures) (c .before .before .before .enum-told .given .1)
 
--- src/lib.rt:118:28
 enum-known-verdict : tie.Need-enum-known-verdict
 enum-known-verdict c = search needs
 
--- src/lib.rt:107:1
 same-length : tie.Need-same-length
 same-length c = search needs
 
--- src/lib.rt:107:1
 returns : tie.Need-returns
 returns c = let e = c .before .before .before .before .before .before .before .before .read .ensures in
     let v = c .before .before .before .before .before .before .enum-told .given .1 in
     (c .before .before .report-of .ensures .0 ∙ accepted-answer _ _ e v _, c .before .before .report-of .ensures .1 ∙ accepted-written _ _ e v _)
 
--- src/lib.rt:107:1
 returns-2 : tie.Need-returns-2
 returns-2 c = let e = c .before .before .before .read .ensures in
     let v = c .before .verdict .given .1 in

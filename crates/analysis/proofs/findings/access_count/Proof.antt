@@ -1,3 +1,4 @@
+-- `analysis::findings::access_count` meets its contract. Assumes nothing.
 use borrow.Author.Needs.{needs}
 use native.Mathlib.Omega.{arith}
 use Prim.Native.Nat.{_+_, _≤_}
@@ -5,11 +6,6 @@ use Rattle.analysis.specs.Steps.{hasMark}
 use Rattle.analysis.specs.FoldLaws.{Folding, folding-start, folding-next, folding-done}
 use Rattle.analysis.proofs.findings.access_count.Statement.{statement}
 use Rattle.analysis.proofs.findings.access_count.Tie as tie
-use Rattle.analysis.proofs.findings.access_count.Reads as reads
-use Rattle.analysis.proofs.findings.access_count.Lts as lts
-use Rattle.analysis.proofs.findings.mark.Reads as mark-reads
-use Rattle.analysis.proofs.findings.set_at.Reads as set-at-reads
-use Rattle.sets.proofs.has.Reads as has-reads
 
 abbrev Inv-loop : tie.InvT-loop
 Inv-loop sets x count n₀ s₀ n s = Folding _+_ 0 count (hasMark sets x) n s × (n + s ≤ count)
@@ -17,40 +13,31 @@ Inv-loop sets x count n₀ s₀ n s = Folding _+_ 0 count (hasMark sets x) n s �
 abbrev μ-loop : tie.MeasureT-loop
 μ-loop sets x count n₀ s₀ n s = s
 
--- src/findings.rt:141:5
 loop-holds : tie.Need-loop-holds Inv-loop μ-loop
 loop-holds c = (folding-start _ _ _ _, omega arith)
 
--- src/findings.rt:142:9
 sub-s : tie.Need-sub-s Inv-loop μ-loop
 sub-s c = search needs
 
--- src/findings.rt:143:28
 set-at-requires : tie.Need-set-at-requires Inv-loop μ-loop
 set-at-requires c κs = tt
 
--- src/findings.rt:143:18
 has-requires : tie.Need-has-requires Inv-loop μ-loop
 has-requires c κs = tt
 
--- src/findings.rt:143:13
 mark-requires : tie.Need-mark-requires Inv-loop μ-loop
 mark-requires c κs = tt
 
--- src/findings.rt:143:13
 add-n : tie.Need-add-n Inv-loop μ-loop
 add-n c = search needs
 
--- src/findings.rt:141:5
 loop-less : tie.Need-loop-less Inv-loop μ-loop
 loop-less c = search needs
 
--- src/findings.rt:141:5
 loop-again : tie.Need-loop-again Inv-loop μ-loop
 unfolding hasMark
 loop-again c = (rw (c .mark .ensures .0, c .before .has .ensures, c .before .before .set-at .ensures) (folding-next _ _ _ _ _ _ (c .before .before .before .before .loop .inv .0) (c .before .before .before .loop-test .taken)), omega arith)
 
--- src/findings.rt:136:1
 returns : tie.Need-returns Inv-loop μ-loop
 returns c = (folding-done _ _ _ _ _ _ (c .before .loop .inv .0) (c .loop-test .left), omega arith)
 

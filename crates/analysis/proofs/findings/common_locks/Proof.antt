@@ -1,14 +1,10 @@
+-- `analysis::findings::common_locks` meets its contract. Assumes nothing.
 use borrow.Author.Needs.{needs}
-use native.Mathlib.Omega.{arith}
 use Rattle.sets.specs.Set.{inter}
 use Rattle.analysis.specs.Steps.{heldAt}
 use Rattle.analysis.specs.FoldLaws.{Folding, folding-start, folding-next, folding-done}
 use Rattle.analysis.proofs.findings.common_locks.Statement.{statement}
 use Rattle.analysis.proofs.findings.common_locks.Tie as tie
-use Rattle.analysis.proofs.findings.common_locks.Reads as reads
-use Rattle.analysis.proofs.findings.common_locks.Lts as lts
-use Rattle.analysis.proofs.findings.held_at.Reads as held-at-reads
-use Rattle.sets.proofs.intersection.Reads as intersection-reads
 
 abbrev Inv-loop : tie.InvT-loop
 Inv-loop reads writes held all x count common₀ s₀ common s = Folding inter all count (heldAt reads writes held all x) common s
@@ -16,31 +12,24 @@ Inv-loop reads writes held all x count common₀ s₀ common s = Folding inter a
 abbrev μ-loop : tie.MeasureT-loop
 μ-loop reads writes held all x count common₀ s₀ common s = s
 
--- src/findings.rt:115:5
 loop-holds : tie.Need-loop-holds Inv-loop μ-loop
 loop-holds c = folding-start _ _ _ _
 
--- src/findings.rt:116:9
 sub-s : tie.Need-sub-s Inv-loop μ-loop
 sub-s c = search needs
 
--- src/findings.rt:117:37
 held-at-requires : tie.Need-held-at-requires Inv-loop μ-loop
 held-at-requires c κs = tt
 
--- src/findings.rt:117:9
 intersection-requires : tie.Need-intersection-requires Inv-loop μ-loop
 intersection-requires c κs = tt
 
--- src/findings.rt:115:5
 loop-less : tie.Need-loop-less Inv-loop μ-loop
 loop-less c = search needs
 
--- src/findings.rt:115:5
 loop-again : tie.Need-loop-again Inv-loop μ-loop
 loop-again c = rw (c .intersection .ensures, c .before .held-at .ensures) (folding-next _ _ _ _ _ _ (c .before .before .before .loop .inv) (c .before .before .loop-test .taken))
 
--- src/findings.rt:110:1
 returns : tie.Need-returns Inv-loop μ-loop
 returns c = folding-done _ _ _ _ _ _ (c .before .loop .inv) (c .loop-test .left)
 

@@ -1,14 +1,10 @@
+-- `analysis::findings::shared_cells` meets its contract. Assumes nothing.
 use borrow.Author.Needs.{needs}
-use native.Mathlib.Omega.{arith}
 use Rattle.sets.specs.Set.{union}
 use Rattle.analysis.specs.Steps.{sharedBy}
 use Rattle.analysis.specs.FoldLaws.{Folding, folding-start, folding-next, folding-done}
 use Rattle.analysis.proofs.findings.shared_cells.Statement.{statement}
 use Rattle.analysis.proofs.findings.shared_cells.Tie as tie
-use Rattle.analysis.proofs.findings.shared_cells.Reads as reads
-use Rattle.analysis.proofs.findings.shared_cells.Lts as lts
-use Rattle.analysis.proofs.findings.shared_at.Reads as shared-at-reads
-use Rattle.sets.proofs.union.Reads as union-reads
 
 abbrev Inv-loop : tie.InvT-loop
 Inv-loop numbers reads writes later-reads later-writes count shared₀ s₀ shared s = Folding union 0 count (sharedBy numbers reads writes later-reads later-writes) shared s
@@ -16,31 +12,24 @@ Inv-loop numbers reads writes later-reads later-writes count shared₀ s₀ shar
 abbrev μ-loop : tie.MeasureT-loop
 μ-loop numbers reads writes later-reads later-writes count shared₀ s₀ shared s = s
 
--- src/findings.rt:95:5
 loop-holds : tie.Need-loop-holds Inv-loop μ-loop
 loop-holds c = folding-start _ _ _ _
 
--- src/findings.rt:96:9
 sub-s : tie.Need-sub-s Inv-loop μ-loop
 sub-s c = search needs
 
--- src/findings.rt:97:30
 shared-at-requires : tie.Need-shared-at-requires Inv-loop μ-loop
 shared-at-requires c κs = tt
 
--- src/findings.rt:97:9
 union-requires : tie.Need-union-requires Inv-loop μ-loop
 union-requires c κs = tt
 
--- src/findings.rt:95:5
 loop-less : tie.Need-loop-less Inv-loop μ-loop
 loop-less c = search needs
 
--- src/findings.rt:95:5
 loop-again : tie.Need-loop-again Inv-loop μ-loop
 loop-again c = rw (c .union .ensures, c .before .shared-at .ensures) (folding-next _ _ _ _ _ _ (c .before .before .before .loop .inv) (c .before .before .loop-test .taken))
 
--- src/findings.rt:83:1
 returns : tie.Need-returns Inv-loop μ-loop
 returns c = folding-done _ _ _ _ _ _ (c .before .loop .inv) (c .loop-test .left)
 

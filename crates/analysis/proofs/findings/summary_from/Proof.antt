@@ -1,3 +1,4 @@
+-- `analysis::findings::summary_from` meets its contract. Assumes nothing.
 use Rattle.analysis.specs.Steps.{sharedBy}
 use mathlib.Core.Path.{_≡_, ap, ap₂, _∙_}
 use denote.Ref.{now}
@@ -11,52 +12,34 @@ use Rattle.analysis.specs.FoundLaws.{found}
 use borrow.Author.Needs.{needs}
 use Rattle.analysis.proofs.findings.summary_from.Statement.{statement}
 use Rattle.analysis.proofs.findings.summary_from.Tie as tie
-use Rattle.analysis.proofs.findings.summary_from.Reads as reads
-use Rattle.analysis.proofs.findings.summary_from.Lts as lts
-use Rattle.analysis.proofs.findings.common_sets.Reads as common-sets-reads
-use Rattle.analysis.proofs.findings.own_accesses.Reads as own-accesses-reads
-use Rattle.analysis.proofs.findings.shared_cells.Reads as shared-cells-reads
-use Rattle.analysis.proofs.findings.stray_marks.Reads as stray-marks-reads
-use Rattle.sets.proofs.firsts.Reads as firsts-reads
-use Rattle.table.proofs.counts_of.Reads as counts-of-reads
 
--- src/findings.rt:239:9
 counts-of-requires : tie.Need-counts-of-requires
 counts-of-requires c κs = search needs
 
--- src/findings.rt:241:9
 firsts-requires : tie.Need-firsts-requires
 firsts-requires c κs = search needs
 
--- src/findings.rt:242:21
 own-accesses-requires : tie.Need-own-accesses-requires
 own-accesses-requires c κs = search needs
 
--- src/findings.rt:243:22
 own-accesses-requires-2 : tie.Need-own-accesses-requires-2
 own-accesses-requires-2 c κs = search needs
 
--- src/findings.rt:245:17
 shared-cells-requires : tie.Need-shared-cells-requires
 shared-cells-requires c κs = search needs
 
--- src/findings.rt:246:29
 slice-aggregate-common-sets : tie.Need-slice-aggregate-common-sets
 slice-aggregate-common-sets c = search needs
 
--- src/findings.rt:246:45
 slice-aggregate-common-sets-2 : tie.Need-slice-aggregate-common-sets-2
 slice-aggregate-common-sets-2 c = search needs
 
--- src/findings.rt:246:17
 common-sets-requires : tie.Need-common-sets-requires
 common-sets-requires c κs = search needs
 
--- src/findings.rt:249:17
 stray-marks-requires : tie.Need-stray-marks-requires
 stray-marks-requires c κs = search needs
 
--- src/findings.rt:226:1
 returns : tie.Need-returns
 unfolding countsOf
 returns c = let start = c .before .before .before .before .before .before .before .before .before .before .before .before .before .before .before in

@@ -1,3 +1,4 @@
+-- `analysis::findings::unguarded_count` meets its contract. Assumes nothing.
 use borrow.Author.Needs.{needs}
 use native.Mathlib.Omega.{arith}
 use Prim.Native.Nat.{_+_, _≤_}
@@ -6,12 +7,6 @@ use Rattle.analysis.specs.Steps.{unguardedMark}
 use Rattle.analysis.specs.FoldLaws.{Folding, folding-start, folding-next, folding-done}
 use Rattle.analysis.proofs.findings.unguarded_count.Statement.{statement}
 use Rattle.analysis.proofs.findings.unguarded_count.Tie as tie
-use Rattle.analysis.proofs.findings.unguarded_count.Reads as reads
-use Rattle.analysis.proofs.findings.unguarded_count.Lts as lts
-use Rattle.analysis.proofs.findings.mark.Reads as mark-reads
-use Rattle.analysis.proofs.findings.set_at.Reads as set-at-reads
-use Rattle.sets.proofs.has.Reads as has-reads
-use Rattle.sets.proofs.is_empty.Reads as is-empty-reads
 
 abbrev Inv-loop : tie.InvT-loop
 Inv-loop shared common count n₀ x₀ n x = Folding _+_ 0 count (unguardedMark shared common) n x × (n + x ≤ count)
@@ -19,44 +14,34 @@ Inv-loop shared common count n₀ x₀ n x = Folding _+_ 0 count (unguardedMark 
 abbrev μ-loop : tie.MeasureT-loop
 μ-loop shared common count n₀ x₀ n x = x
 
--- src/findings.rt:154:5
 loop-holds : tie.Need-loop-holds Inv-loop μ-loop
 loop-holds c = (folding-start _ _ _ _, omega arith)
 
--- src/findings.rt:155:9
 sub-x : tie.Need-sub-x Inv-loop μ-loop
 sub-x c = search needs
 
--- src/findings.rt:156:18
 has-requires : tie.Need-has-requires Inv-loop μ-loop
 has-requires c κs = tt
 
--- src/findings.rt:156:56
 set-at-requires : tie.Need-set-at-requires Inv-loop μ-loop
 set-at-requires c κs = tt
 
--- src/findings.rt:156:41
 is-empty-requires : tie.Need-is-empty-requires Inv-loop μ-loop
 is-empty-requires c κs = tt
 
--- src/findings.rt:156:13
 mark-requires : tie.Need-mark-requires Inv-loop μ-loop
 mark-requires c κs = tt
 
--- src/findings.rt:156:13
 add-n : tie.Need-add-n Inv-loop μ-loop
 add-n c = search needs
 
--- src/findings.rt:154:5
 loop-less : tie.Need-loop-less Inv-loop μ-loop
 loop-less c = search needs
 
--- src/findings.rt:154:5
 loop-again : tie.Need-loop-again Inv-loop μ-loop
 unfolding unguardedMark isUnguarded
 loop-again c = (rw (c .mark .ensures .0, c .before .is-empty .ensures, c .before .before .set-at .ensures, c .before .before .before .has .ensures) (folding-next _ _ _ _ _ _ (c .before .before .before .before .before .loop .inv .0) (c .before .before .before .before .loop-test .taken)), omega arith)
 
--- src/findings.rt:149:1
 returns : tie.Need-returns Inv-loop μ-loop
 returns c = (folding-done _ _ _ _ _ _ (c .before .loop .inv .0) (c .loop-test .left), omega arith)
 

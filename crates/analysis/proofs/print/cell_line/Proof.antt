@@ -1,55 +1,39 @@
+-- `analysis::print::cell_line` meets its contract. Assumes nothing.
 use mathlib.Core.Bool.{_&&_}
-use denote.Ref.{now}
 use Rattle.report.specs.Findings.{isUnguarded}
 use Rattle.analysis.specs.Steps.{cellNumbers}
-use Rattle.analysis.proofs.Numbers.{back, back-flag, CellSmall, cell-small}
+use Rattle.analysis.proofs.Numbers.{back, back-flag, cell-small}
 use borrow.Author.Needs.{needs}
 use Rattle.analysis.proofs.print.cell_line.Statement.{statement}
 use Rattle.analysis.proofs.print.cell_line.Tie as tie
-use Rattle.analysis.proofs.print.cell_line.Reads as reads
-use Rattle.analysis.proofs.print.cell_line.Lts as lts
-use Rattle.analysis.proofs.print.as_field.Reads as as-field-reads
-use Rattle.analysis.proofs.print.flag.Reads as flag-reads
-use Rattle.sets.proofs.has.Reads as has-reads
-use Rattle.sets.proofs.is_empty.Reads as is-empty-reads
 
--- src/print.rt:36:9
 as-field-requires : tie.Need-as-field-requires
 as-field-requires c κs = cell-small _ _ _ _ _ (c .pre) .cell
 
--- src/print.rt:37:9
 as-field-requires-2 : tie.Need-as-field-requires-2
 as-field-requires-2 c κs = cell-small _ _ _ _ _ (c .before .pre) .reads
 
--- src/print.rt:38:9
 as-field-requires-3 : tie.Need-as-field-requires-3
 as-field-requires-3 c κs = cell-small _ _ _ _ _ (c .before .before .pre) .writes
 
--- src/print.rt:39:14
 has-requires : tie.Need-has-requires
 has-requires c κs = search needs
 
--- src/print.rt:39:9
 flag-requires : tie.Need-flag-requires
 flag-requires c κs = search needs
 
--- src/print.rt:40:9
 as-field-requires-4 : tie.Need-as-field-requires-4
 as-field-requires-4 c κs = cell-small _ _ _ _ _ (c .before .before .before .before .before .pre) .locks
 
--- src/print.rt:41:14
 has-requires-2 : tie.Need-has-requires-2
 has-requires-2 c κs = search needs
 
--- src/print.rt:41:37
 is-empty-requires : tie.Need-is-empty-requires
 is-empty-requires c κs = search needs
 
--- src/print.rt:41:9
 flag-requires-2 : tie.Need-flag-requires-2
 flag-requires-2 c κs = search needs
 
--- src/print.rt:30:1
 returns : tie.Need-returns
 unfolding cellNumbers isUnguarded
 returns c = let a = c .before .before .before .before .before .before .before .before .before .args in

@@ -1,7 +1,8 @@
+-- `analysis::print::print_strays` meets its contract. Assumes nothing.
 use borrow.Author.Needs.{needs}
 use native.Mathlib.Omega.{arith}
-use mathlib.Core.Path.{_≡_, refl, sym, ap, _∙_}
-use mathlib.Core.List.{List, _∷_, []}
+use mathlib.Core.Path.{_≡_, sym, ap, _∙_}
+use mathlib.Core.List.{_∷_, []}
 use Prim.Native.Nat.{ℕ, _-_}
 use Rattle.sets.specs.Set.{has}
 use Rattle.report.specs.Report.{strayLine}
@@ -10,12 +11,6 @@ use Rattle.analysis.specs.PrintLaws.{Writing, writing-start, writing-len
 use Rattle.analysis.proofs.Numbers.{back, stray-small}
 use Rattle.analysis.proofs.print.print_strays.Statement.{statement}
 use Rattle.analysis.proofs.print.print_strays.Tie as tie
-use Rattle.analysis.proofs.print.print_strays.Reads as reads
-use Rattle.analysis.proofs.print.print_strays.Lts as lts
-use Rattle.analysis.proofs.findings.set_at.Reads as set-at-reads
-use Rattle.analysis.proofs.print.as_field.Reads as as-field-reads
-use Rattle.lines.proofs.print_line.Reads as print-line-reads
-use Rattle.sets.proofs.has.Reads as has-reads
 
 abbrev Inv-loop : tie.InvT-loop
 Inv-loop out₀ at marks count place₀ s₀ out place s = Writing (straysBy marks) count at out₀ out place s
@@ -30,39 +25,30 @@ marked c = marked-line _ _ (ap (λ (x : ℕ). has x 0) (sym (c .before .before .
 unmarked : (c : tie.Else1 Inv-loop μ-loop) → straysBy (c .before .before .before .before .before .before .before .args .marks .now) (c .before .before .before .before .loop .s) ≡ []
 unmarked c = unmarked-line _ _ (ap (λ (x : ℕ). has x 0) (sym (c .before .before .set-at .ensures)) ∙ sym (c .before .has .ensures) ∙ c .if1 .left)
 
--- src/print.rt:86:5
 loop-holds : tie.Need-loop-holds Inv-loop μ-loop
 loop-holds c = writing-start _ _ _ _ (c .before .before .pre)
 
--- src/print.rt:88:9
 add-s : tie.Need-add-s Inv-loop μ-loop
 add-s c = search needs
 
--- src/print.rt:89:22
 set-at-requires : tie.Need-set-at-requires Inv-loop μ-loop
 set-at-requires c κs = tt
 
--- src/print.rt:89:12
 has-requires : tie.Need-has-requires Inv-loop μ-loop
 has-requires c κs = tt
 
--- src/print.rt:90:48
 as-field-requires : tie.Need-as-field-requires Inv-loop μ-loop
 as-field-requires c κs = stray-small _ (writing-eight (c .before .before .before .before .before .loop .inv) (c .before .before .before .before .loop-test .taken) _ (marked (c .before)))
 
--- src/print.rt:90:13
 print-line-requires : tie.Need-print-line-requires Inv-loop μ-loop
 print-line-requires c κs = tt
 
--- src/print.rt:91:13
 add-place : tie.Need-add-place Inv-loop μ-loop
 add-place c = record { fits = omega (arith, writing-room (c .before .before .before .before .before .before .before .before .before .loop .inv) (c .before .before .before .before .before .before .before .before .loop-test .taken) _ (marked (c .before .before .before .before .before))) }
 
--- src/print.rt:86:5
 loop-less : tie.Need-loop-less Inv-loop μ-loop
 loop-less c = omega arith
 
--- src/print.rt:86:5
 loop-again : tie.Need-loop-again Inv-loop μ-loop
 unfolding strayLine
 loop-again c = let inv = c .before .before .before .before .before .before .before .before .before .loop .inv in
@@ -70,19 +56,15 @@ loop-again c = let inv = c .before .before .before .before .before .before .befo
     let small = stray-small _ (writing-eight inv (c .before .before .before .before .before .before .before .before .loop-test .taken) _ e) in
     rw (c .before .before .print-line .ensures .1, back (c .before .before .before .before .before .before .before .before .before .loop .s) (c .before .before .before .as-field .ensures) small) (writing-line inv (c .before .before .before .before .before .before .before .before .loop-test .taken) _ e)
 
--- src/print.rt:86:5
 loop-less-2 : tie.Need-loop-less-2 Inv-loop μ-loop
 loop-less-2 c = omega arith
 
--- src/print.rt:86:5
 loop-again-2 : tie.Need-loop-again-2 Inv-loop μ-loop
 loop-again-2 c = writing-none (c .before .before .before .before .loop .inv) (c .before .before .before .loop-test .taken) (unmarked c)
 
--- src/print.rt:79:1
 same-length : tie.Need-same-length Inv-loop μ-loop
 same-length c = writing-length (c .before .loop .inv)
 
--- src/print.rt:79:1
 returns : tie.Need-returns Inv-loop μ-loop
 returns c = (writing-place (c .before .loop .inv) (c .loop-test .left), writing-done (c .before .loop .inv) (c .loop-test .left))
 

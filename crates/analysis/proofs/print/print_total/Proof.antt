@@ -1,31 +1,23 @@
+-- `analysis::print::print_total` meets its contract. Assumes nothing.
 use Rattle.analysis.specs.Steps.{totalNumbers}
 use Rattle.analysis.specs.PrintLaws.{put-line}
 use Rattle.analysis.proofs.Numbers.{back, total-small}
 use borrow.Author.Needs.{needs}
 use Rattle.analysis.proofs.print.print_total.Statement.{statement}
 use Rattle.analysis.proofs.print.print_total.Tie as tie
-use Rattle.analysis.proofs.print.print_total.Reads as reads
-use Rattle.analysis.proofs.print.print_total.Lts as lts
-use Rattle.analysis.proofs.print.as_field.Reads as as-field-reads
-use Rattle.lines.proofs.print_line.Reads as print-line-reads
 
--- src/print.rt:106:13
 as-field-requires : tie.Need-as-field-requires
 as-field-requires c κs = total-small _ _ (c .before .before .pre .0) .0
 
--- src/print.rt:107:13
 as-field-requires-2 : tie.Need-as-field-requires-2
 as-field-requires-2 c κs = total-small _ _ (c .before .before .before .pre .0) .1
 
--- src/print.rt:101:5
 print-line-requires : tie.Need-print-line-requires
 print-line-requires c κs = search needs
 
--- src/print.rt:97:1
 same-length : tie.Need-same-length
 same-length c = search needs
 
--- src/print.rt:97:1
 returns : tie.Need-returns
 unfolding totalNumbers
 returns c = let a = c .before .before .before .before .before .before .before .args in
