@@ -9,7 +9,9 @@ ghost use Rattle.station.specs.Packed.{packed, packedAnswer, packedOutco
 fn pack(number: u32, line: usize, bytes: usize) -> u64
     ensures { λ r. ⌜ r ≡ packed number line bytes ⌝ }
 {
-    number as u64 % 65_536 * 281_474_976_710_656 + line as u64 % 65_536 * 4_294_967_296 + bytes as u64 % 4_294_967_296
+    number as u64 % 65_536 * 281_474_976_710_656
+        + line as u64 % 65_536 * 4_294_967_296
+        + bytes as u64 % 4_294_967_296
 }
 
 // The report of a table text into `out`: `analysis::report`.
@@ -24,7 +26,12 @@ pub extern "C" fn station_report_packed(text: &[u8], out: &mut [u8]) -> u64
 
 // A run of a table text by a schedule: `engine::run`.
 #[no_mangle]
-pub extern "C" fn station_run_packed(text: &[u8], schedule: &[u8], answers: &mut [u8], cells: &mut [i32]) -> u64
+pub extern "C" fn station_run_packed(
+    text: &[u8],
+    schedule: &[u8],
+    answers: &mut [u8],
+    cells: &mut [i32],
+) -> u64
     ensures outcome { λ r. ⌜ r ≡ packedOutcome (outcomeOf (now (text .entry)) (now (schedule .entry)) (now (answers .entry)) (now (cells .entry))) ⌝ }
     ensures answered { λ _. ⌜ now (answers .exit) ≡ answersLeft (now (text .entry)) (now (schedule .entry)) (now (answers .entry)) (now (cells .entry)) ⌝ }
     ensures left { λ _. ⌜ now (cells .exit) ≡ cellsLeft (now (text .entry)) (now (schedule .entry)) (now (answers .entry)) (now (cells .entry)) ⌝ }

@@ -1,6 +1,5 @@
 // Steps a table by a schedule and prints a line a step: 55, thread, answer, five zeros; or line 50 on refusal. The first argument names a file with the
 // table text, the second a file with the schedule, each byte a thread number.
-ghost use Prim.Native.Nat.{_≤_};
 use libc::STDOUT_FILENO;
 
 // Prints the line that begins with these three numbers.
@@ -44,26 +43,35 @@ fn step_through(text: &[u8], schedule: &[u8]) {
     }
 }
 
-// Fills the buffer from the file that argument `i` names: how many bytes it has.
-fn load(i: usize, buffer: &mut [u8; 65536]) -> usize
-    ensures { λ r. ⌜ r ≤ 65536 ⌝ }
-{
+// Opens the file that argument `i` names; below 0 if it cannot be opened, which is said on standard error.
+fn open_argument(i: usize) -> i32 {
     let mut path = io::buffer();
     let n = os::arg(i, &mut path);
     let file = os::open_read(&path[..n]);
     if file < 0 {
         os::fail(&path[..n]);
-        return 0;
     }
-    let count = io::read_full(file, &mut buffer[..]);
+    file
+}
+
+fn with_table(text: &[u8]) {
+    let file = open_argument(2);
+    if file < 0 {
+        return;
+    }
+    let mut schedule = io::large_buffer();
+    let count = io::read_full(file, &mut schedule);
     libc::close(file);
-    if count <= 65536 { count } else { 65536 }
+    step_through(text, &schedule[..count]);
 }
 
 fn main() {
+    let file = open_argument(1);
+    if file < 0 {
+        return;
+    }
     let mut text = io::large_buffer();
-    let mut schedule = io::large_buffer();
-    let n = load(1, &mut text);
-    let k = load(2, &mut schedule);
-    step_through(&text[..n], &schedule[..k]);
+    let count = io::read_full(file, &mut text);
+    libc::close(file);
+    with_table(&text[..count]);
 }
