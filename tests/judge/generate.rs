@@ -1,0 +1,206 @@
+//! Random table texts, most of them accepted, some damaged, and schedules for them.
+
+pub struct Random(pub u64);
+
+impl Random {
+    pub fn next(&mut self) -> u64 {
+        self.0 ^= self.0 << 13;
+        self.0 ^= self.0 >> 7;
+        self.0 ^= self.0 << 17;
+        self.0
+    }
+
+    pub fn below(&mut self, n: usize) -> usize {
+        (self.next() >> 11) as usize % n.max(1)
+    }
+
+    pub fn one_in(&mut self, n: usize) -> bool {
+        self.below(n) == 0
+    }
+}
+
+fn line(out: &mut Vec<u8>, numbers: &[i64]) {
+    for j in 0..8 {
+        out.extend(format!("{:>6}", numbers.get(j).copied().unwrap_or(0)).bytes());
+    }
+    out.push(b'\n');
+}
+
+/// Handles of a routine: (kind, parameter, start).
+type Own = Vec<(i64, bool, i64)>;
+
+/// A table text that keeps the rules: routines name higher ones only.
+pub fn table(r: &mut Random, largest: bool) -> Vec<u8> {
+    let routines = if largest { 1 + r.below(32) } else { 1 + r.below(5) };
+    let cells = if largest { 1 + r.below(64) } else { 1 + r.below(3) };
+    let locks = if largest { r.below(17) } else { r.below(3) };
+    let mut budget = if largest { 128 } else { 24 };
+    let mut own: Vec<Own> = vec![];
+    for q in 0..routines {
+        let mut mine: Own = vec![];
+        let parameters = if q == 0 { 0 } else { r.below(5) };
+        let locals = r.below(9 - parameters);
+        for k in 0..(parameters + locals).min(budget) {
+            let lock = locks > 0 && r.one_in(2);
+            let start = r.below(if lock { locks } else { cells }) as i64;
+            mine.push((1 + lock as i64, k < parameters, if k < parameters { 0 } else { start }));
+        }
+        budget -= mine.len();
+        own.push(mine);
+    }
+    let bases: Vec<usize> = (0..routines).map(|q| own[..q].iter().map(|h| h.len()).sum()).collect();
+    let mut bodies: Vec<Vec<Vec<i64>>> = vec![];
+    let mut room = if largest { 512 } else { 60 };
+    for q in 0..routines {
+        let left = routines - q;
+        let most = (room / left).min(if largest { 40 } else { 10 }).max(1);
+        let count = 1 + r.below(most);
+        room -= count;
+        bodies.push(vec![vec![]; count]);
+    }
+    let firsts: Vec<usize> = (0..routines).map(|q| bodies[..q].iter().map(|b| b.len()).sum()).collect();
+    for q in 0..routines {
+        let count = bodies[q].len();
+        for s in 0..count {
+            bodies[q][s] = if s + 1 == count {
+                if r.one_in(4) { vec![10, (firsts[q] + r.below(count)) as i64] } else { vec![12] }
+            } else {
+                statement(r, q, routines, &own, &bases, firsts[q], count)
+            };
+        }
+    }
+    // Every routine but 0 is to be named: by a statement that names none yet, where the arguments can be had.
+    for q in 1..routines {
+        if bodies.iter().flatten().any(|l| l[0] / 2 == 4 && l[1] == q as i64) {
+            continue;
+        }
+        let mut places = vec![];
+        for caller in 0..q {
+            for s in 0..bodies[caller].len() - 1 {
+                if bodies[caller][s][0] / 2 != 4 {
+                    places.push((caller, s));
+                }
+            }
+        }
+        for _ in 0..20 {
+            if places.is_empty() {
+                break;
+            }
+            let (caller, s) = places[r.below(places.len())];
+            if let Some(l) = naming(r, caller, q, &own, &bases) {
+                bodies[caller][s] = l;
+                break;
+            }
+        }
+    }
+    let mut out = vec![];
+    let handles: usize = own.iter().map(|h| h.len()).sum();
+    let statements: usize = bodies.iter().map(|b| b.len()).sum();
+    line(&mut out, &[1, cells as i64, locks as i64, handles as i64, routines as i64, statements as i64]);
+    for (q, mine) in own.iter().enumerate() {
+        for &(kind, parameter, start) in mine {
+            line(&mut out, &[2, q as i64, kind, !parameter as i64, start]);
+        }
+    }
+    for b in &bodies {
+        line(&mut out, &[3, b.len() as i64]);
+    }
+    for b in &bodies {
+        for s in b {
+            let mut numbers = vec![4];
+            numbers.extend(s);
+            line(&mut out, &numbers);
+        }
+    }
+    out
+}
+
+fn pick(r: &mut Random, mine: &Own, base: usize, kind: i64) -> Option<i64> {
+    let all: Vec<usize> = (0..mine.len()).filter(|&k| mine[k].0 == kind).collect();
+    if all.is_empty() {
+        None
+    } else {
+        Some((base + all[r.below(all.len())]) as i64)
+    }
+}
+
+fn naming(r: &mut Random, q: usize, callee: usize, own: &[Own], bases: &[usize]) -> Option<Vec<i64>> {
+    let mut l = vec![8 + r.below(2) as i64, callee as i64];
+    for h in own[callee].iter().filter(|h| h.1) {
+        l.push(pick(r, &own[q], bases[q], h.0)?);
+    }
+    Some(l)
+}
+
+fn statement(r: &mut Random, q: usize, routines: usize, own: &[Own], bases: &[usize], first: usize, count: usize) -> Vec<i64> {
+    let set = vec![3, r.below(3) as i64 - 1];
+    let cell = pick(r, &own[q], bases[q], 1);
+    let lock = pick(r, &own[q], bases[q], 2);
+    match r.below(14) {
+        0 | 1 => cell.map_or(set, |h| vec![1, h]),
+        2 | 3 => cell.map_or(set, |h| vec![2, h]),
+        4 => vec![4, r.below(2_000_000) as i64 % 1_099_999 - 99_999],
+        5 | 6 => lock.map_or(set, |h| vec![5, h]),
+        7 | 8 => lock.map_or(set, |h| vec![6, h]),
+        9 => {
+            let kind = 1 + r.below(2) as i64;
+            match (pick(r, &own[q], bases[q], kind), pick(r, &own[q], bases[q], kind)) {
+                (Some(h), Some(g)) => vec![7, h, g],
+                _ => set,
+            }
+        }
+        10 | 11 if q + 1 < routines => {
+            let callee = q + 1 + r.below(routines - q - 1);
+            naming(r, q, callee, own, bases).unwrap_or(set)
+        }
+        12 => vec![10 + r.below(2) as i64, (first + r.below(count)) as i64],
+        13 => vec![11, (first + r.below(count)) as i64],
+        _ => set,
+    }
+}
+
+/// One change: a field, a byte, the length, or two lines exchanged.
+pub fn damage(r: &mut Random, text: &mut Vec<u8>) {
+    if text.len() < 49 {
+        return;
+    }
+    let lines = text.len() / 49;
+    match r.below(9) {
+        8 => {
+            // another routine named by some CALL or START
+            let naming: Vec<usize> = (0..lines).filter(|&i| matches!(&text[49 * i..49 * i + 12], b"     4     8" | b"     4     9")).collect();
+            if !naming.is_empty() {
+                let i = naming[r.below(naming.len())];
+                text[49 * i + 12..49 * i + 18].copy_from_slice(format!("{:>6}", r.below(4)).as_bytes());
+            }
+        }
+        0..=4 => {
+            let (i, j) = (r.below(lines), r.below(8));
+            let values = [0i64, 1, 2, 3, 4, -1, 7, 12, 13, 64, 65, 512, 999_999, -99_999, r.below(40) as i64];
+            let field = format!("{:>6}", values[r.below(values.len())]);
+            text[49 * i + 6 * j..49 * i + 6 * j + 6].copy_from_slice(field.as_bytes());
+        }
+        5 => {
+            let at = r.below(text.len());
+            text[at] = [b' ', b'0', b'-', b'+', b'\n', b'\t', b'9', r.below(256) as u8][r.below(8)];
+        }
+        6 => match r.below(4) {
+            0 => text.truncate(text.len() - 49),
+            1 => text.push(b' '),
+            2 => text.extend_from_within(text.len() - 49..),
+            _ => text.truncate(r.below(text.len())),
+        },
+        _ => {
+            let (i, k) = (49 * r.below(lines), 49 * r.below(lines));
+            for b in 0..49 {
+                text.swap(i + b, k + b);
+            }
+        }
+    }
+}
+
+pub fn schedule(r: &mut Random) -> Vec<u8> {
+    let threads = 1 + r.below(20);
+    let length = r.below(200);
+    (0..length).map(|_| if r.one_in(50) { r.below(256) as u8 } else { r.below(threads) as u8 }).collect()
+}

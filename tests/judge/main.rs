@@ -1,0 +1,165 @@
+//! Holds the static library to an independent reading of document 01, on random texts, schedules and buffer lengths.
+//!
+//!     judge compare SEED COUNT     COUNT texts, each with a report, a run and the loader's question
+//!     judge explore SEED COUNT     every order of steps of COUNT small tables: a clean one never races
+mod document;
+mod generate;
+use document::{findings, read, report, State, Table};
+use generate::Random;
+use std::collections::HashSet;
+
+extern "C" {
+    fn station_report_packed(text: *const u8, text_length: usize, out: *mut u8, out_length: usize) -> u64;
+    fn station_run_packed(text: *const u8, text_length: usize, schedule: *const u8, schedule_length: usize, answers: *mut u8, answers_length: usize, cells: *mut i32, cells_length: usize) -> u64;
+    fn station_may_load_text(text: *const u8, text_length: usize) -> bool;
+}
+
+fn packed(number: u32, line: u32, bytes: usize) -> u64 {
+    (number as u64) << 48 | (line as u64) << 32 | bytes as u64
+}
+
+const GUARD: usize = 16;
+
+/// A buffer of `length` places between guards, all filled with `fill`; `call` gets the part between.
+fn guarded<T: Copy + PartialEq + std::fmt::Debug>(length: usize, fill: T, call: impl FnOnce(&mut [T])) -> Vec<T> {
+    let mut whole = vec![fill; length + 2 * GUARD];
+    call(&mut whole[GUARD..GUARD + length]);
+    assert!(whole[..GUARD].iter().chain(&whole[GUARD + length..]).all(|&x| x == fill), "a byte outside the lent buffer changed");
+    whole[GUARD..GUARD + length].to_vec()
+}
+
+/// The length a buffer is given: mostly enough, sometimes too short.
+fn length_near(r: &mut Random, needed: usize) -> usize {
+    match r.below(5) {
+        0 => r.below(needed + 1),
+        1 => needed.saturating_sub(1),
+        2 => needed,
+        _ => needed + r.below(100),
+    }
+}
+
+fn compare_report(r: &mut Random, text: &[u8], want: &Result<Table, (u32, u32)>, count: &mut [usize; 20]) {
+    let bytes = want.as_ref().map_or(vec![], report);
+    let length = length_near(r, bytes.len());
+    let mut said = 0;
+    let out = guarded(length, 0xa5u8, |out| said = unsafe { station_report_packed(text.as_ptr(), text.len(), out.as_mut_ptr(), out.len()) });
+    let mut expected = vec![0xa5u8; length];
+    let answer = match want {
+        Err((number, line)) => packed(*number, *line, 0),
+        Ok(_) if length < bytes.len() => packed(13, 0, 0),
+        Ok(_) => {
+            expected[..bytes.len()].copy_from_slice(&bytes);
+            packed(0, 0, bytes.len())
+        }
+    };
+    assert_eq!(said, answer, "report's answer on\n{}", String::from_utf8_lossy(text));
+    assert_eq!(out, expected, "report's bytes on\n{}", String::from_utf8_lossy(text));
+    count[(answer >> 48) as usize] += 1;
+}
+
+fn compare_run(r: &mut Random, text: &[u8], want: &Result<Table, (u32, u32)>, count: &mut [usize; 20]) {
+    let schedule = generate::schedule(r);
+    let cells_needed = want.as_ref().map_or(3, |t| t.cells);
+    let (answers_length, cells_length) = (length_near(r, schedule.len()), length_near(r, cells_needed));
+    let mut said = 0;
+    let mut cells = vec![];
+    let answers = guarded(answers_length, 0xa5u8, |answers| {
+        cells = guarded(cells_length, 0x5a5a5a5ai32, |cells| {
+            said = unsafe { station_run_packed(text.as_ptr(), text.len(), schedule.as_ptr(), schedule.len(), answers.as_mut_ptr(), answers.len(), cells.as_mut_ptr(), cells.len()) }
+        });
+    });
+    let (mut expected, mut expected_cells) = (vec![0xa5u8; answers_length], vec![0x5a5a5a5ai32; cells_length]);
+    let answer = match want {
+        Err((number, line)) => packed(*number, *line, 0),
+        Ok(t) if answers_length < schedule.len() || cells_length < t.cells => packed(13, 0, 0),
+        Ok(t) => {
+            let mut state = State::start(t);
+            for (i, &n) in schedule.iter().enumerate() {
+                expected[i] = state.step(t, n as usize, true);
+                count[expected[i] as usize] += 1;
+            }
+            expected_cells[..t.cells].copy_from_slice(&state.cells);
+            packed(0, 0, 0)
+        }
+    };
+    assert_eq!(said, answer, "run's answer on\n{}", String::from_utf8_lossy(text));
+    assert_eq!(answers, expected, "run's answers to {schedule:?} on\n{}", String::from_utf8_lossy(text));
+    assert_eq!(cells, expected_cells, "run's cells after {schedule:?} on\n{}", String::from_utf8_lossy(text));
+}
+
+fn compare(seed: u64, texts: usize) {
+    let mut r = Random(seed * 2 + 88172645463325252);
+    let (mut reports, mut steps, mut loads) = ([0; 20], [0; 20], 0);
+    for i in 0..texts {
+        let mut text = generate::table(&mut r, i % 50 == 0);
+        if r.one_in(3) {
+            for _ in 0..1 + r.below(2) {
+                generate::damage(&mut r, &mut text);
+            }
+        }
+        let want = read(&text);
+        compare_report(&mut r, &text, &want, &mut reports);
+        compare_run(&mut r, &text, &want, &mut steps);
+        let may = unsafe { station_may_load_text(text.as_ptr(), text.len()) };
+        assert_eq!(may, want.as_ref().map_or(false, |t| findings(t).clean()), "the loader's question on\n{}", String::from_utf8_lossy(&text));
+        loads += may as usize;
+    }
+    println!("{texts} texts, seed {seed}: refusals 0 to 13 met {:?}; answers to steps 0 and 14 to 19 met {} {:?}; {loads} may be loaded", &reports[..14], steps[0], &steps[14..]);
+    for n in 1..=13 {
+        assert!(reports[n] > 0 || texts < 20000, "refusal {n} was never met");
+    }
+}
+
+/// All states that a table reaches, up to a number: whether one is unsafe, and whether that was all.
+fn explore(t: &Table, most: usize) -> (bool, bool) {
+    let start = State::start(t);
+    let (mut todo, mut seen) = (vec![start.clone()], HashSet::from([start]));
+    while let Some(state) = todo.pop() {
+        if state.unsafe_now(t) {
+            return (true, true);
+        }
+        if state.threads.len() > 5 {
+            return (false, false);
+        }
+        for n in 0..state.threads.len() {
+            let mut next = state.clone();
+            if next.step(t, n, false) == 0 && seen.insert(next.clone()) {
+                todo.push(next);
+            }
+        }
+        if seen.len() > most {
+            return (false, false);
+        }
+    }
+    (false, true)
+}
+
+fn explore_all(seed: u64, tables: usize) {
+    let mut r = Random(seed * 2 + 1181783497276652981);
+    let (mut done, mut clean, mut warned, mut races, mut cut) = (0, 0, 0, 0, 0);
+    while done < tables {
+        let text = generate::table(&mut r, false);
+        let Ok(t) = read(&text) else { continue };
+        done += 1;
+        let may = unsafe { station_may_load_text(text.as_ptr(), text.len()) };
+        let (race, whole) = explore(&t, 3000);
+        assert!(!(may && race), "a clean table races:\n{}", String::from_utf8_lossy(&text));
+        clean += may as usize;
+        if !may {
+            warned += whole as usize;
+            races += race as usize;
+        }
+        cut += !whole as usize;
+    }
+    println!("{tables} tables, every order of steps: {clean} clean, none races; of {warned} with a finding and all states seen, {races} race ({cut} too large to see whole)");
+}
+
+fn main() {
+    let words: Vec<String> = std::env::args().collect();
+    let number = |i: usize| words.get(i).and_then(|w| w.parse().ok()).expect("judge compare|explore SEED COUNT");
+    match words.get(1).map(|w| w.as_str()) {
+        Some("compare") => compare(number(2), number(3) as usize),
+        Some("explore") => explore_all(number(2), number(3) as usize),
+        _ => panic!("judge compare|explore SEED COUNT"),
+    }
+}
