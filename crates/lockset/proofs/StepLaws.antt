@@ -2,7 +2,7 @@
 use mathlib.Core.Path.{_≡_, refl, sym, ap, _∙_, subst}
 use mathlib.Core.Bool.{Bool, true, false}
 use mathlib.Core.List.{List, [], _∷_, _++_}
-use mathlib.Core.Logic.{_⊎_, inl, inr, ⊎-elim}
+use mathlib.Core.Logic.{inl, inr, ⊎-elim}
 use Prim.Native.Nat.{ℕ, zero, suc, _+_, _-_, _^_, _≤_, _<_}
 use native.Mathlib.Nat.{le-refl, lt-of-lt-of-le, lt-of-le-of-lt}
 use native.Mathlib.Omega.{arith}
@@ -10,7 +10,7 @@ use lib.ListN.{length, getD, set, take, drop, replicate}
 use lib.Seq.{set-out, set-getD, getD-set-same, getD-set-other}
 use Rattle.sets.specs.Set.{union, inter, minus}
 use Rattle.sets.specs.Least.{SetList, room, putInto, same, settle, settled}
-use Rattle.sets.specs.InsideLaws.{room-le, room-less, same-true, same-refl}
+use Rattle.sets.specs.InsideLaws.{room-less, same-true, same-refl}
 use Rattle.sets.specs.Rules.{put-length, put-grows, put-sets}
 use Rattle.table.specs.Tabulate.{tabulate}
 use Rattle.table.specs.TabulateLaws.{filled-none, filled-next, filled-all}

@@ -1,8 +1,8 @@
 -- What the ways of a statement come to, by its operation. Assumes nothing.
 use mathlib.Core.Path.{_≡_, refl, sym, ap, _∙_}
-use mathlib.Core.Bool.{Bool, true, false, cond}
-use mathlib.Core.List.{List, [], _∷_, _++_, map}
-use Prim.Native.Nat.{ℕ, zero, suc, _+_, _≤_, _<_}
+use mathlib.Core.Bool.{Bool, false, cond}
+use mathlib.Core.List.{List, [], _∷_, _++_}
+use Prim.Native.Nat.{ℕ, _+_}
 use native.Mathlib.Nat.{zero-add}
 use native.Mathlib.Numerals.{add-one}
 use lib.ListN.{length, getD, replicate, length-replicate}
@@ -47,6 +47,10 @@ not-return (Start q a) m = refl
 not-return (Jump q) m = refl
 not-return (JumpZero q) m = refl
 not-return Return m = absurd (miss (0 ∷ 1 ∷ 2 ∷ 3 ∷ 4 ∷ 5 ∷ 6 ∷ 7 ∷ 8 ∷ 9 ∷ 10 ∷ []) 11 tt m)
+
+pub marked-return : {x : ℕ} {mark : Bool} (all : ℕ) (t : Table) (held : ℕ → ℕ) (s : ℕ) → x ≡ cond mark (held s) all → mark ≡ isReturn (statement t s)
+    → x ≡ atReturn all t held s
+marked-return all t held s e m = e ∙ ap (λ (b : Bool). cond b (held s) all) m
 
 pub at-returns-is : (all : ℕ) (t : Table) (held : ℕ → ℕ) (r : ℕ) → all ≡ allLocks t
     → interFrom all (routine t r .first) (routine t r .count) (atReturn all t held) ≡ atReturns t (oneEach t) held r

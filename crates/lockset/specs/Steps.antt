@@ -4,6 +4,7 @@ use mathlib.Core.Bool.{Bool, true, false, cond}
 use mathlib.Core.List.{List, [], _∷_, map}
 use mathlib.Core.Logic.{_⊎_}
 use Prim.Native.Nat.{ℕ, _-_, _≤_, _<_}
+use lib.Dec.{eqb}
 use lib.IntN.{ℤ}
 use lib.ListN.{length, getD}
 use Rattle.sets.specs.Least.{room, settle, settled}
@@ -19,10 +20,19 @@ use Rattle.report.specs.Layout.{oneEach}
 use Rattle.report.specs.Operations.{nexts, byNaming, isReturn}
 use Rattle.report.specs.Held.{allLocks, entry, heldAfter, waysFrom, allWays}
 
--- what the parts are handed beside a table's numbers: where its routines begin, and all its locks
-pub record Ready (f : List ℤ) (first : List ℕ) (all : ℕ) : Type 0 where
+-- 0 where statement s is a RETURN, 1 elsewhere
+unfoldable pub other : Table → ℕ → ℕ
+other t s = cond (isReturn (statement t s)) 0 1
+
+-- where a table's routines begin
+pub record Placed (f : List ℤ) (first : List ℕ) : Type 0 where
   pub routines-most : routines f ≤ 32
   pub first-is : first ≡ tabulate 33 (firstOf f)
+
+-- what the parts are handed beside a table's numbers: where its routines begin, which statements are no RETURN, and all its locks
+pub record Ready (f : List ℤ) (first others : List ℕ) (all : ℕ) : Type 0 where
+  pub placed : Placed f first
+  pub others-is : (s : ℕ) → eqb (getD others s 0) 0 ≡ isReturn (statement (tableOf f) s)
   pub all-is : all ≡ allLocks (tableOf f)
 
 -- a list became the target; `after` says whether anything changed so far, and `before` whether anything had before

@@ -1,8 +1,9 @@
 // The held sets of a table: the greatest sets of locks before each statement, solved from what is left out of them.
 ghost use mathlib.Core.Path.{_≡_};
-ghost use mathlib.Core.Bool.{false};
+ghost use mathlib.Core.Bool.{cond, false};
 ghost use mathlib.Core.List.{_++_};
 ghost use Prim.Native.Nat.{_+_, _-_, _<_, _≤_};
+ghost use lib.Dec.{eqb};
 ghost use lib.ListN.{length, getD, replicate};
 ghost use Rattle.sets.specs.Set.{union, minus};
 ghost use Rattle.sets.specs.Least.{putInto, settled};
@@ -13,7 +14,7 @@ ghost use Rattle.table.specs.Tabulate.{tabulate};
 ghost use Rattle.report.specs.Greatest.{leaving, narrow, narrowAll};
 ghost use Rattle.report.specs.Layout.{oneEach};
 ghost use Rattle.report.specs.Held.{onlyLock, atReturns, heldSets};
-ghost use Rattle.lockset.specs.Steps.{Ready, Became, atReturn, behind, waysOn, waysInto, waysOf, passOf};
+ghost use Rattle.lockset.specs.Steps.{Placed, Ready, Became, other, behind, waysOn, waysInto, waysOf, passOf};
 use sets::Which;
 use table::Statement;
 
@@ -43,8 +44,8 @@ fn statement_at(numbers: &[i32], s: usize) -> Statement
 }
 
 // The first statement of routine `r`; 0 past the end.
-fn first_of(numbers: &[i32], first: &[usize], all: u64, r: usize) -> usize
-    requires { ⌜ Ready (now numbers) (now first) all ⌝ }
+fn first_of(numbers: &[i32], first: &[usize], r: usize) -> usize
+    requires { ⌜ Placed (now numbers) (now first) ⌝ }
     ensures { λ s. ⌜ s ≡ routine (tableOf (now (numbers .entry))) r .first ⌝ }
 {
     let count = table::counts_of(numbers).routines;
@@ -55,8 +56,8 @@ fn first_of(numbers: &[i32], first: &[usize], all: u64, r: usize) -> usize
 }
 
 // The number behind the last statement of routine `r`; 0 past the end.
-fn end_of(numbers: &[i32], first: &[usize], all: u64, r: usize) -> usize
-    requires { ⌜ Ready (now numbers) (now first) all ⌝ }
+fn end_of(numbers: &[i32], first: &[usize], r: usize) -> usize
+    requires { ⌜ Placed (now numbers) (now first) ⌝ }
     ensures { λ s. ⌜ s ≡ routine (tableOf (now (numbers .entry))) r .first + routine (tableOf (now (numbers .entry))) r .count ⌝ }
 {
     let count = table::counts_of(numbers).routines;
@@ -73,28 +74,58 @@ fn held_at(out: &[u64], all: u64, p: usize) -> u64
     sets::difference(all, set_at(out, p))
 }
 
-// What a RETURN at statement `s` hands back; all locks if it is none.
-fn at_return(numbers: &[i32], out: &[u64], all: u64, s: usize) -> u64
-    ensures { λ r. ⌜ r ≡ atReturn all (tableOf (now (numbers .entry))) (leaving all (now (out .entry))) s ⌝ }
+// 0 where statement `s` is a RETURN, and past the end; 1 elsewhere.
+fn other_at(numbers: &[i32], s: usize) -> u64
+    ensures { λ r. ⌜ r ≡ other (tableOf (now (numbers .entry))) s ⌝ }
 {
     let statement = statement_at(numbers, s);
     match statement {
-        Statement::Return => held_at(out, all, s),
-        _ => all,
+        Statement::Return => 0,
+        _ => 1,
     }
 }
 
+// The statements that are no RETURN: 1 for each of them, 0 for all others.
+fn others_of(numbers: &[i32]) -> [u64; 512]
+    ensures { λ r. ⌜ r ≡ tabulate 512 (other (tableOf (now (numbers .entry)))) ⌝ }
+{
+    let mut others = [0u64; 512];
+    let mut s = 0;
+    while s < 512 {
+        others[s] = other_at(numbers, s);
+        s += 1;
+    }
+    others
+}
+
+// What a RETURN at statement `s` hands back; all locks if it is none.
+fn at_return(others: &[u64], out: &[u64], all: u64, s: usize) -> u64
+    ensures { λ r. ⌜ r ≡ cond (eqb (getD (now (others .entry)) s 0) 0) (leaving all (now (out .entry)) s) all ⌝ }
+{
+    if set_at(others, s) == 0 {
+        return held_at(out, all, s);
+    }
+    all
+}
+
 // The intersection of what is held before the RETURNs of routine `r`; all locks if there is none.
-fn at_returns(numbers: &[i32], first: &[usize], out: &[u64], all: u64, r: usize) -> u64
-    requires { ⌜ Ready (now numbers) (now first) all ⌝ }
+fn at_returns(
+    numbers: &[i32],
+    first: &[usize],
+    others: &[u64],
+    out: &[u64],
+    all: u64,
+    r: usize,
+) -> u64
+    requires { ⌜ Ready (now numbers) (now first) (now others) all ⌝ }
     ensures { λ x. ⌜ x ≡ atReturns (tableOf (now (numbers .entry))) (oneEach (tableOf (now (numbers .entry)))) (leaving all (now (out .entry))) r ⌝ }
 {
-    let start = first_of(numbers, first, all, r);
-    let mut s = end_of(numbers, first, all, r);
+    let start = first_of(numbers, first, r);
+    let mut s = end_of(numbers, first, r);
     let mut meet = all;
     while start < s {
         s -= 1;
-        meet = sets::intersection(at_return(numbers, out, all, s), meet);
+        meet = sets::intersection(at_return(others, out, all, s), meet);
     }
     meet
 }
@@ -113,23 +144,26 @@ fn only_lock(flow: u64) -> u64
 fn after_call(
     numbers: &[i32],
     first: &[usize],
+    others: &[u64],
     given: &[u64],
     out: &[u64],
     all: u64,
     s: usize,
     r: usize,
 ) -> u64
-    requires { ⌜ Ready (now numbers) (now first) all ⌝ }
+    requires { ⌜ Ready (now numbers) (now first) (now others) all ⌝ }
     ensures { λ x. ⌜ x ≡ union (atReturns (tableOf (now (numbers .entry))) (oneEach (tableOf (now (numbers .entry)))) (leaving all (now (out .entry))) r) (minus (leaving all (now (out .entry)) s) (getD (now (given .entry)) r 0)) ⌝ }
 {
-    let kept = sets::difference(held_at(out, all, s), set_at(given, r));
-    sets::union(at_returns(numbers, first, out, all, r), kept)
+    let held = held_at(out, all, s);
+    let kept = sets::difference(held, set_at(given, r));
+    sets::union(at_returns(numbers, first, others, out, all, r), kept)
 }
 
 // What is held behind statement `s`, which is `operation`.
 fn held_after(
     numbers: &[i32],
     first: &[usize],
+    others: &[u64],
     flow: &[u64],
     given: &[u64],
     out: &[u64],
@@ -137,7 +171,7 @@ fn held_after(
     s: usize,
     operation: Statement,
 ) -> u64
-    requires { ⌜ Ready (now numbers) (now first) all ⌝ }
+    requires { ⌜ Ready (now numbers) (now first) (now others) all ⌝ }
     requires { ⌜ statement (tableOf (now numbers)) s ≡ operation ⌝ }
     ensures { λ x. ⌜ x ≡ behind (tableOf (now (numbers .entry))) (now (flow .entry)) (now (given .entry)) s operation 0 .brings (leaving all (now (out .entry))) ⌝ }
 {
@@ -147,7 +181,7 @@ fn held_after(
         Statement::Call {
             routine,
             arguments: _,
-        } => after_call(numbers, first, given, out, all, s, routine),
+        } => after_call(numbers, first, others, given, out, all, s, routine),
         _ => held_at(out, all, s),
     }
 }
@@ -173,6 +207,7 @@ fn narrow_behind(
     out: &mut [u64],
     numbers: &[i32],
     first: &[usize],
+    others: &[u64],
     flow: &[u64],
     given: &[u64],
     all: u64,
@@ -181,11 +216,11 @@ fn narrow_behind(
     to: usize,
     changed: bool,
 ) -> bool
-    requires { ⌜ Ready (now numbers) (now first) all ⌝ }
+    requires { ⌜ Ready (now numbers) (now first) (now others) all ⌝ }
     requires { ⌜ statement (tableOf (now numbers)) s ≡ operation ⌝ }
     ensures { λ r. ⌜ Became (narrow all (behind (tableOf (now (numbers .entry))) (now (flow .entry)) (now (given .entry)) s operation to) (now (out .entry))) (now (out .entry)) (now (out .exit)) changed r ⌝ }
 {
-    let brought = held_after(numbers, first, flow, given, out, all, s, operation);
+    let brought = held_after(numbers, first, others, flow, given, out, all, s, operation);
     narrow_to(out, all, to, brought, changed)
 }
 
@@ -194,6 +229,7 @@ fn narrow_on(
     out: &mut [u64],
     numbers: &[i32],
     first: &[usize],
+    others: &[u64],
     flow: &[u64],
     given: &[u64],
     all: u64,
@@ -201,7 +237,7 @@ fn narrow_on(
     operation: Statement,
     changed: bool,
 ) -> bool
-    requires { ⌜ Ready (now numbers) (now first) all ⌝ }
+    requires { ⌜ Ready (now numbers) (now first) (now others) all ⌝ }
     requires { ⌜ statement (tableOf (now numbers)) s ≡ operation ⌝ }
     requires { ⌜ s < 512 ⌝ }
     ensures { λ r. ⌜ Became (narrowAll all (waysOn (tableOf (now (numbers .entry))) (now (flow .entry)) (now (given .entry)) s operation) (now (out .entry))) (now (out .entry)) (now (out .exit)) changed r ⌝ }
@@ -211,6 +247,7 @@ fn narrow_on(
             out,
             numbers,
             first,
+            others,
             flow,
             given,
             all,
@@ -224,6 +261,7 @@ fn narrow_on(
                 out,
                 numbers,
                 first,
+                others,
                 flow,
                 given,
                 all,
@@ -236,6 +274,7 @@ fn narrow_on(
                 out,
                 numbers,
                 first,
+                others,
                 flow,
                 given,
                 all,
@@ -250,6 +289,7 @@ fn narrow_on(
             out,
             numbers,
             first,
+            others,
             flow,
             given,
             all,
@@ -272,7 +312,7 @@ fn narrow_into(
     operation: Statement,
     changed: bool,
 ) -> bool
-    requires { ⌜ Ready (now numbers) (now first) all ⌝ }
+    requires { ⌜ Placed (now numbers) (now first) ⌝ }
     requires { ⌜ statement (tableOf (now numbers)) s ≡ operation ⌝ }
     ensures { λ r. ⌜ Became (narrowAll all (waysInto (tableOf (now (numbers .entry))) s operation) (now (out .entry))) (now (out .entry)) (now (out .exit)) changed r ⌝ }
 {
@@ -282,18 +322,12 @@ fn narrow_into(
             arguments: _,
         } => {
             let held = held_at(out, all, s);
-            narrow_to(
-                out,
-                all,
-                first_of(numbers, first, all, routine),
-                held,
-                changed,
-            )
+            narrow_to(out, all, first_of(numbers, first, routine), held, changed)
         }
         Statement::Start {
             routine,
             arguments: _,
-        } => narrow_to(out, all, first_of(numbers, first, all, routine), 0, changed),
+        } => narrow_to(out, all, first_of(numbers, first, routine), 0, changed),
         _ => changed,
     }
 }
@@ -303,18 +337,31 @@ fn narrow_from(
     out: &mut [u64],
     numbers: &[i32],
     first: &[usize],
+    others: &[u64],
     flow: &[u64],
     given: &[u64],
     all: u64,
     s: usize,
     changed: bool,
 ) -> bool
-    requires { ⌜ Ready (now numbers) (now first) all ⌝ }
-    requires { ⌜ s < 512 ⌝ }
+    requires { ⌜ Ready (now numbers) (now first) (now others) all ⌝ }
+    requires { ⌜ s < statements (now numbers) ⌝ }
+    requires { ⌜ statements (now numbers) ≤ 512 ⌝ }
     ensures { λ r. ⌜ Became (narrowAll all (waysOf (tableOf (now (numbers .entry))) (now (flow .entry)) (now (given .entry)) s) (now (out .entry))) (now (out .entry)) (now (out .exit)) changed r ⌝ }
 {
-    let operation = statement_at(numbers, s);
-    let more = narrow_on(out, numbers, first, flow, given, all, s, operation, changed);
+    let operation = table::statement_of(numbers, s);
+    let more = narrow_on(
+        out,
+        numbers,
+        first,
+        others,
+        flow,
+        given,
+        all,
+        s,
+        operation,
+        changed,
+    );
     narrow_into(out, numbers, first, all, s, operation, more)
 }
 
@@ -323,34 +370,43 @@ fn pass(
     out: &mut [u64],
     numbers: &[i32],
     first: &[usize],
+    others: &[u64],
     flow: &[u64],
     given: &[u64],
     all: u64,
 ) -> bool
-    requires { ⌜ Ready (now numbers) (now first) all ⌝ }
+    requires { ⌜ Ready (now numbers) (now first) (now others) all ⌝ }
     requires { ⌜ statements (now numbers) ≤ 512 ⌝ }
     ensures { λ r. ⌜ Became (passOf all (tableOf (now (numbers .entry))) (now (flow .entry)) (now (given .entry)) (now (out .entry))) (now (out .entry)) (now (out .exit)) false r ⌝ }
 {
     let count = table::counts_of(numbers).statements;
-    let entry = first_of(numbers, first, all, 0);
+    let entry = first_of(numbers, first, 0);
     let mut changed = narrow_to(out, all, entry, 0, false);
     let mut s = 0;
     while s < count {
-        changed = narrow_from(out, numbers, first, flow, given, all, s, changed);
+        changed = narrow_from(out, numbers, first, others, flow, given, all, s, changed);
         s += 1;
     }
     changed
 }
 
 // Passes until one changes nothing.
-fn settle(out: &mut [u64], numbers: &[i32], first: &[usize], flow: &[u64], given: &[u64], all: u64)
-    requires { ⌜ Ready (now numbers) (now first) all ⌝ }
+fn settle(
+    out: &mut [u64],
+    numbers: &[i32],
+    first: &[usize],
+    others: &[u64],
+    flow: &[u64],
+    given: &[u64],
+    all: u64,
+)
+    requires { ⌜ Ready (now numbers) (now first) (now others) all ⌝ }
     requires { ⌜ statements (now numbers) ≤ 512 ⌝ }
     ensures { λ _. ⌜ now (out .exit) ≡ settled (passOf all (tableOf (now (numbers .entry))) (now (flow .entry)) (now (given .entry))) (now (out .entry)) ⌝ }
 {
     let mut going = true;
     while going {
-        going = pass(out, numbers, first, flow, given, all);
+        going = pass(out, numbers, first, others, flow, given, all);
     }
 }
 
@@ -366,13 +422,21 @@ fn turn_round(sets: &mut [u64], all: u64)
 }
 
 // Makes a list of empty sets, one a statement, the held sets.
-fn solve(held: &mut [u64], numbers: &[i32], first: &[usize], flow: &[u64], given: &[u64], all: u64)
-    requires { ⌜ Ready (now numbers) (now first) all ⌝ }
+fn solve(
+    held: &mut [u64],
+    numbers: &[i32],
+    first: &[usize],
+    others: &[u64],
+    flow: &[u64],
+    given: &[u64],
+    all: u64,
+)
+    requires { ⌜ Ready (now numbers) (now first) (now others) all ⌝ }
     requires { ⌜ statements (now numbers) ≤ 512 ⌝ }
     requires { ⌜ now held ≡ replicate (statements (now numbers)) 0 ⌝ }
     ensures { λ _. ⌜ now (held .exit) ≡ heldSets (tableOf (now (numbers .entry))) (oneEach (tableOf (now (numbers .entry)))) (now (flow .entry)) (now (given .entry)) ⌝ }
 {
-    settle(held, numbers, first, flow, given, all);
+    settle(held, numbers, first, others, flow, given, all);
     turn_round(held, all);
 }
 
@@ -392,7 +456,16 @@ pub fn held_sets(
     let header = table::counts_of(numbers);
     let count = header.statements;
     let all = sets::firsts(header.locks);
+    let others = others_of(numbers);
     let mut held = [0u64; 512];
-    solve(&mut held[..count], numbers, first, flow, given, all);
+    solve(
+        &mut held[..count],
+        numbers,
+        first,
+        &others[..],
+        flow,
+        given,
+        all,
+    );
     held
 }

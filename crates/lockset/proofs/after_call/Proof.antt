@@ -1,5 +1,6 @@
 -- `lockset::after_call` meets its contract. Assumes nothing.
-use mathlib.Core.Path.{refl, ap, _∙_}
+use mathlib.Core.Path.{ap₂, _∙_}
+use Rattle.sets.specs.Set.{union, minus}
 use borrow.Author.Needs.{needs}
 use Rattle.lockset.proofs.after_call.Statement.{statement}
 use Rattle.lockset.proofs.after_call.Tie as tie
@@ -20,7 +21,9 @@ union-requires : tie.Need-union-requires
 union-requires c κs = search needs
 
 returns : tie.Need-returns
-returns c = rw (c .union .ensures, c .before .at-returns .ensures, c .before .before .difference .ensures, c .before .before .before .set-at .ensures, c .before .before .before .before .held-at .ensures)
+returns c =
+    c .union .ensures
+    ∙ ap₂ union (c .before .at-returns .ensures) (c .before .before .difference .ensures ∙ ap₂ minus (c .before .before .before .before .held-at .ensures) (c .before .before .before .set-at .ensures))
 
 pub after-call-spec : {M : Type 1} → statement M
 after-call-spec =

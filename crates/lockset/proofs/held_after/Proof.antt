@@ -1,4 +1,4 @@
--- `lockset::held_after` meets its contract. Assumes nothing.
+-- `lockset::held_after` meets its contract. Each arm is one law of `WayLaws`. Assumes nothing.
 use mathlib.Core.Path.{_∙_}
 use Rattle.lockset.proofs.WayLaws.{after-take, after-give, after-call, after-other}
 use borrow.Author.Needs.{needs}
@@ -48,7 +48,7 @@ returns-2 : tie.Need-returns-2
 returns-2 c = rw (c .difference .ensures, c .before .set-at2 .ensures, c .before .before .held-at2 .ensures) (after-give _ _ _ _ _ _ (c .before .before .before .before .operation2 .given .1))
 
 returns-3 : tie.Need-returns-3
-returns-3 c = c .after-call .ensures ∙ after-call _ _ _ _ _ _ _ (c .before .before .before .before .before .before .before .before .pre .1) (c .before .before .operation3 .given .1)
+returns-3 c = c .after-call .ensures ∙ after-call _ _ _ _ _ _ _ (c .before .before .before .before .before .before .before .before .before .pre .1) (c .before .before .operation3 .given .1)
 
 returns-4 : tie.Need-returns-4
 returns-4 c = c .held-at3 .ensures ∙ after-other _ _ _ _ _ _ (c .before .match .keys4)

@@ -21,7 +21,7 @@ same-length c = search needs
 
 returns : tie.Need-returns
 unfolding narrow behind
-returns c = became-as (ap (λ (x : ℕ). putInto (c .before .before .before .before .before .before .before .before .before .before .args .to) (minus (c .before .before .before .before .before .before .before .before .before .before .args .all) x) (c .before .before .before .before .before .before .before .before .before .before .args .out .now)) (c .before .before .before .before .held-after .ensures)) (c .before .before .narrow-to .ensures)
+returns c = became-as (ap (λ (x : ℕ). putInto (c .before .before .before .before .before .before .before .before .before .before .before .args .to) (minus (c .before .before .before .before .before .before .before .before .before .before .before .args .all) x) (c .before .before .before .before .before .before .before .before .before .before .before .args .out .now)) (c .before .before .before .before .held-after .ensures)) (c .before .before .narrow-to .ensures)
 
 pub narrow-behind-spec : {M : Type 1} → statement M
 narrow-behind-spec =

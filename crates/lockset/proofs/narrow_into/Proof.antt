@@ -1,4 +1,4 @@
--- `lockset::narrow_into` meets its contract. Assumes nothing.
+-- `lockset::narrow_into` meets its contract. Each arm is one law of `WayLaws`. Assumes nothing.
 use Rattle.lockset.proofs.StepLaws.{became-as, became-same}
 use Rattle.lockset.proofs.WayLaws.{into-call, into-start, into-other}
 use borrow.Author.Needs.{needs}

@@ -1,4 +1,4 @@
--- `lockset::narrow_on` meets its contract. Assumes nothing.
+-- `lockset::narrow_on` meets its contract. Each arm is one law of `WayLaws`. Assumes nothing.
 use mathlib.Core.Path.{_∙_}
 use Rattle.lockset.proofs.StepLaws.{became-as, became-same, became-then}
 use Rattle.lockset.proofs.WayLaws.{on-jump, on-jump-zero, on-return, on-other}
@@ -10,19 +10,19 @@ enum-known-operation : tie.Need-enum-known-operation
 enum-known-operation c = search needs
 
 narrow-behind-requires : tie.Need-narrow-behind-requires
-narrow-behind-requires c κs = (c .before .before .before .before .before .before .before .before .pre .0, c .before .before .before .before .before .before .before .before .pre .1 .0 ∙ c .before .before .operation .given .1)
+narrow-behind-requires c κs = (c .before .before .before .before .before .before .before .before .before .pre .0, c .before .before .before .before .before .before .before .before .before .pre .1 .0 ∙ c .before .before .operation .given .1)
 
 enum-known-operation-2 : tie.Need-enum-known-operation-2
 enum-known-operation-2 c = search needs
 
 narrow-behind-requires-2 : tie.Need-narrow-behind-requires-2
-narrow-behind-requires-2 c κs = (c .before .before .before .before .before .before .before .before .pre .0, c .before .before .before .before .before .before .before .before .pre .1 .0 ∙ c .before .before .operation2 .given .1)
+narrow-behind-requires-2 c κs = (c .before .before .before .before .before .before .before .before .before .pre .0, c .before .before .before .before .before .before .before .before .before .pre .1 .0 ∙ c .before .before .operation2 .given .1)
 
 add-narrow-behind : tie.Need-add-narrow-behind
 add-narrow-behind c = search needs
 
 narrow-behind-requires-3 : tie.Need-narrow-behind-requires-3
-narrow-behind-requires-3 c κs = (c .before .before .before .before .before .before .before .before .before .before .before .before .pre .0, c .before .before .before .before .before .before .before .before .before .before .before .before .pre .1 .0 ∙ c .before .before .before .before .before .before .operation2 .given .1)
+narrow-behind-requires-3 c κs = (c .before .before .before .before .before .before .before .before .before .before .before .before .before .pre .0, c .before .before .before .before .before .before .before .before .before .before .before .before .before .pre .1 .0 ∙ c .before .before .before .before .before .before .operation2 .given .1)
 
 enum-told : tie.Need-enum-told
 enum-told c = search needs

@@ -1,4 +1,4 @@
--- `lockset::narrow_to` meets its contract. Assumes nothing.
+-- `lockset::narrow_to` meets its contract. Each way through it is one law of `StepLaws`. Assumes nothing.
 use mathlib.Core.Path.{ap}
 use Prim.Native.Nat.{ℕ}
 use native.Mathlib.Omega.{arith}

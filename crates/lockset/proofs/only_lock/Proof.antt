@@ -1,6 +1,5 @@
 -- `lockset::only_lock` meets its contract. Assumes nothing.
 use mathlib.Core.Path.{sym, _∙_}
-use native.Mathlib.Omega.{arith}
 use Rattle.lockset.proofs.TableLaws.{only-lock-one, only-lock-none}
 use borrow.Author.Needs.{needs}
 use Rattle.lockset.proofs.only_lock.Statement.{statement}

@@ -1,5 +1,4 @@
--- `lockset::settle` meets its contract. Assumes nothing.
-use native.Mathlib.Omega.{arith}
+-- `lockset::settle` meets its contract. What is left of the passes gives the whole; with every pass the room falls, or the loop ends. Assumes nothing.
 use Prim.Native.Nat.{_+_}
 use Rattle.sets.specs.Least.{room}
 use Rattle.table.specs.Table.{tableOf}
@@ -9,19 +8,19 @@ use Rattle.lockset.proofs.settle.Statement.{statement}
 use Rattle.lockset.proofs.settle.Tie as tie
 
 abbrev Inv-loop : tie.InvT-loop
-Inv-loop out₀ numbers first flow given all going₀ out going = Settling (passOf all (tableOf numbers) flow given) out₀ out going
+Inv-loop out₀ numbers first others flow given all going₀ out going = Settling (passOf all (tableOf numbers) flow given) out₀ out going
 
 abbrev μ-loop : tie.MeasureT-loop
-μ-loop out₀ numbers first flow given all going₀ out going = room out + turn going
+μ-loop out₀ numbers first others flow given all going₀ out going = room out + turn going
 
 loop-holds : tie.Need-loop-holds Inv-loop μ-loop
 loop-holds c = settling-start _ _
 
 pass-requires : tie.Need-pass-requires Inv-loop μ-loop
-pass-requires c κs = c .before .before .before .before .before .before .before .pre
+pass-requires c κs = c .before .before .before .before .before .before .before .before .pre
 
 loop-less : tie.Need-loop-less Inv-loop μ-loop
-loop-less c = settling-less (passOf (c .before .before .before .before .before .before .before .before .before .before .args .all) (tableOf (c .before .before .before .before .before .before .before .before .before .before .args .numbers .now)) (c .before .before .before .before .before .before .before .before .before .before .args .flow .now) (c .before .before .before .before .before .before .before .before .before .before .args .given .now)) (c .before .before .before .before .loop-test .taken) (c .before .before .pass .ensures)
+loop-less c = settling-less (passOf (c .before .before .before .before .before .before .before .before .before .before .before .args .all) (tableOf (c .before .before .before .before .before .before .before .before .before .before .before .args .numbers .now)) (c .before .before .before .before .before .before .before .before .before .before .before .args .flow .now) (c .before .before .before .before .before .before .before .before .before .before .before .args .given .now)) (c .before .before .before .before .loop-test .taken) (c .before .before .pass .ensures)
 
 loop-again : tie.Need-loop-again Inv-loop μ-loop
 loop-again c = settling-next _ (c .before .before .before .before .before .loop .inv) (c .before .before .pass .ensures)

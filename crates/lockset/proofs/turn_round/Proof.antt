@@ -1,4 +1,4 @@
--- `lockset::turn_round` meets its contract. Assumes nothing.
+-- `lockset::turn_round` meets its contract. Its loop has turned round the sets below p. Assumes nothing.
 use native.Mathlib.Omega.{arith}
 use borrow.Author.Needs.{needs}
 use lib.ListN.{length}
