@@ -41,9 +41,10 @@ returns : tie.Need-returns Inv-loop μ-loop
 unfolding ownerOf
 returns c = let a = c .before .before .before .before .before .before .before .before in
     let f = now (a .args .numbers) in
-    let n = routines-counted f _ (c .before .before .before .before .counts-of .ensures) in
-    (stop-from-zero _ _ _ (c .before .before .before .loop .inv .0) (c .before .before .loop-test .taken) (ap not (sym (c .before .is-in .ensures) ∙ c .if1 .taken)) ∙ ap (until _ 0) (n ∙ sym (routines-length f)),
-    omega (arith, n, c .before .before .loop-test .taken, a .pre .routines-most))
+    let n = routines-counted f _ (c .before .before .before .before .counts-of .ensures) in (
+      stop-from-zero _ _ _ (c .before .before .before .loop .inv .0) (c .before .before .loop-test .taken) (ap not (sym (c .before .is-in .ensures) ∙ c .if1 .taken)) ∙ ap (until _ 0) (n ∙ sym (routines-length f)),
+      omega (arith, n, c .before .before .loop-test .taken, a .pre .routines-most),
+    )
 
 -- src/parts.rt:152:9
 add-r : tie.Need-add-r Inv-loop μ-loop
