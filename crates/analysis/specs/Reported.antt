@@ -17,15 +17,15 @@ use Rattle.analysis.specs.declared.Answer.{Answer}
 abbrev pub tableIn : List ℕ → Table
 tableIn text = tableOf (numbersOf text)
 
--- "1 to 13 return the number and line", no byte is written
+-- "1 to 13 return the number and line"; no byte is written
 abbrev pub turnedDown : ℕ → ℕ → Answer
 turnedDown number line = record { number = number; line = line; bytes = 0 }
 
--- "An accepted call returns 0 and line 0, for a report also the bytes written"; "with 13 goes line 0"
+-- "An accepted call returns 0 and line 0, for a report also the bytes written"; 13 if "a lent buffer is shorter than the report", with line 0
 abbrev pub answerOf : List ℕ → ℕ → Answer
 answerOf report room = cond (ltb room (length report)) (turnedDown 13 0) (record { number = 0; line = 0; bytes = length report })
 
--- the first refusal of 1 to 12 that applies to the text, else 13, "a lent buffer is shorter than the report", else 0
+-- the first refusal of 1 to 12 that applies to the text goes before 13
 abbrev pub answerBy : Verdict → List ℕ → ℕ → Answer
 answerBy Accepted report room = answerOf report room
 answerBy (Refused number line) report room = turnedDown number line
@@ -38,7 +38,7 @@ reportAnswer text room = answerBy (verdict text) (reportText (tableIn text)) roo
 abbrev pub printedOver : List ℕ → List ℕ → List ℕ
 printedOver report out = cond (ltb (length out) (length report)) out (report ++ drop (length report) out)
 
--- "1 to 13 .. change no buffer"
+-- "1 to 13 return the number and line and change no buffer"
 abbrev pub writtenBy : Verdict → List ℕ → List ℕ → List ℕ
 writtenBy Accepted report out = printedOver report out
 writtenBy (Refused number line) report out = out

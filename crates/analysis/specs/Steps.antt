@@ -1,5 +1,5 @@
 -- What each step of the report's code computes, over the numbers of a table and lists of sets. Nothing here is promised to a caller of the crate:
--- module Found shows that together they are the report. Assumes nothing.
+-- FoundLaws shows that together they are the report. Assumes nothing.
 use Prim.Native.Nat.{ℕ, zero, suc, _+_, _≤_, _<_}
 use mathlib.Core.Bool.{Bool, cond, _||_}
 use mathlib.Core.List.{List, [], _∷_, _++_, map, List·Memᴰ}

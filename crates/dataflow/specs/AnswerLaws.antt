@@ -1,27 +1,25 @@
 -- The answers are the report's sets: the edges and the sets that a question begins with are those of its definition. Assumes nothing.
 use Prim.Native.Nat.{ℕ, zero, suc, _+_, _-_, _≤_, _<_}
 use mathlib.Core.Path.{_≡_, refl, sym, ap, ap₂, _∙_}
-use mathlib.Core.Bool.{Bool, true, false, cond}
-use mathlib.Core.List.{List, [], _∷_, _++_, map}
+use mathlib.Core.Bool.{Bool, true, false}
+use mathlib.Core.List.{List, [], _∷_, _++_}
 use native.Mathlib.Omega.{arith}
 use lib.IntN.{ℤ}
-use lib.ListN.{length, getD, take, drop, replicate, length-replicate}
+use lib.ListN.{length, take, drop, replicate, length-replicate}
 use lib.Seq.{length-take-le}
 use Rattle.table.specs.Header.{handles, routines, statements}
 use Rattle.table.specs.LookupLaws.{handles-length, routines-length, statements-length}
-use Rattle.table.specs.Table.{Table, tableOf, routine, statement}
+use Rattle.table.specs.Table.{Table, tableOf, statement}
 use Rattle.table.specs.Tabulate.{tabulate}
 use Rattle.table.specs.TabulateLaws.{getD-tabulate}
 use Rattle.table.specs.declared.Statement.{Statement}
 use Rattle.table.specs.declared.Statement.the-variants.{Read, Write, Set, Add, Take, Give, Point, Call, Start, Jump, JumpZero, Return}
 use Rattle.report.specs.Over.{joinedFrom, Edge, leastAlong}
 use Rattle.report.specs.OverLaws.{Within, within-below}
-use Rattle.report.specs.Layout.{named, ownerOf, oneEach}
-use Rattle.report.specs.Operations.{nexts, byNaming, accessed, given}
+use Rattle.report.specs.Layout.{ownerOf, oneEach}
 use Rattle.report.specs.Flow.{passing, flowEdges, allFlowEdges, flowStarts, flowSets}
 use Rattle.report.specs.Effect.{overCopy, upFrom, namingEdges, callEdges as upCallEdges, effects, gives, effectOf}
 use Rattle.report.specs.Future.{callers, nextEffects, futureEdges, futureStarts, futures}
-use Rattle.dataflow.specs.declared.Question.{Question}
 use Rattle.dataflow.specs.declared.Question.the-variants.{Flow, Effects, Gives, Futures}
 use Rattle.dataflow.specs.Questions.{edge, upEdges, nextEdges, callEdges, edgesAt, edgesFor, ownSet, inRoutine, effectAt, nextsEffect, startAt}
 

@@ -1,11 +1,11 @@
 -- Lists of edges that are filled from the front: what one more edge, and one more part, leave in the two lists. Assumes nothing.
-use Prim.Native.Nat.{ℕ, zero, suc, _+_, _≤_, _<_}
-use mathlib.Core.Path.{_≡_, refl, sym, ap, ap₂, _∙_, subst}
-use mathlib.Core.List.{List, [], _∷_, _++_, map, List·Memᴰ, List·Memᴰ·head, Memᴰ·append-left, Memᴰ·append-right, append-nil, append-assoc}
+use Prim.Native.Nat.{ℕ, _+_, _≤_, _<_}
+use mathlib.Core.Path.{_≡_, refl, sym, ap, _∙_, subst}
+use mathlib.Core.List.{List, [], _∷_, _++_, List·Memᴰ, List·Memᴰ·head, Memᴰ·append-left, Memᴰ·append-right, append-nil, append-assoc}
 use native.Mathlib.Nat.{zero-add}
 use native.Mathlib.Numerals.{add-one}
 use native.Mathlib.Omega.{arith}
-use lib.ListN.{length, getD, set, take, replicate, length-append, length-set, length-replicate}
+use lib.ListN.{length, set, take, replicate, length-append, length-set, length-replicate}
 use lib.Seq.{take-suc-set}
 use Rattle.sets.specs.Least.{least}
 use Rattle.report.specs.Over.{joinedFrom, Edge, froms, tos, leastAlong}

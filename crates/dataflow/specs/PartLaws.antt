@@ -1,24 +1,21 @@
 -- The parts of a table from its numbers and the three lists that lay them out, past the end too. Assumes nothing.
 use Prim.Native.Nat.{ℕ, _+_, _-_, _^_, _≤_, _<_}
-use mathlib.Core.Path.{_≡_, refl, sym, ap, _∙_}
+use mathlib.Core.Path.{_≡_, sym, ap, _∙_}
 use mathlib.Core.List.{List}
 use native.Mathlib.Omega.{arith}
 use lib.Dec.{eqb}
 use lib.IntN.{ℤ}
-use lib.ListN.{length, getD, List·getD-eq-default}
-use Rattle.table.specs.Until.{until}
+use lib.ListN.{getD, List·getD-eq-default}
 use Rattle.table.specs.UntilLaws.{until-range}
 use Rattle.table.specs.Header.{handles, routines, statements}
 use Rattle.table.specs.Handles.{originOf, handlesFrom, parameters}
-use Rattle.table.specs.Routines.{countOf, firstOf}
-use Rattle.table.specs.Table.{tableOf, declaration, routine, statement, countsOf, routineAt}
+use Rattle.table.specs.Routines.{firstOf}
+use Rattle.table.specs.Table.{tableOf, declaration, routine, statement, countsOf}
 use Rattle.table.specs.TabulateLaws.{entry-tabulate}
-use Rattle.table.specs.LayoutLaws.{Laid, first-next, handles-next, handles-from-most}
-use Rattle.table.specs.LookupLaws.{handles-length, routines-length, statements-length, routine-is, routine-says}
+use Rattle.table.specs.LayoutLaws.{Laid, handles-next, handles-from-most}
+use Rattle.table.specs.LookupLaws.{handles-length, routines-length, statements-length, routine-says}
 use Rattle.table.specs.declared.Counts.{Counts}
-use Rattle.table.specs.declared.Declaration.{Declaration}
 use Rattle.table.specs.declared.Routine.{Routine}
-use Rattle.table.specs.declared.Statement.{Statement}
 use Rattle.table.specs.declared.Statement.the-variants.{Return}
 
 module _ (f : List ℤ) where

@@ -1,14 +1,10 @@
 // The edges of a question, in the order of its definition: where each comes from and where it leads to, in two lists.
-ghost use mathlib.Core.Path.{_≡_};
-ghost use mathlib.Core.Bool.{cond};
-ghost use mathlib.Core.List.{List, [], _∷_, _++_};
-ghost use Prim.Native.Nat.{ℕ, _<_, _≤_, _^_, _+_};
+ghost use mathlib.Core.List.{[], _∷_, _++_};
+ghost use Prim.Native.Nat.{_<_, _^_, _+_};
 ghost use Rattle.table.specs.Header.{statements};
 ghost use Rattle.table.specs.Table.{tableOf, statement};
 ghost use Rattle.table.specs.LayoutLaws.{Laid};
-ghost use Rattle.report.specs.Over.{joinedFrom};
 ghost use Rattle.report.specs.Layout.{oneEach};
-ghost use Rattle.report.specs.Operations.{byNaming, nexts};
 ghost use Rattle.report.specs.Flow.{passing, flowEdges};
 ghost use Rattle.dataflow.specs.Questions.{edge, edgesAt, upEdges, nextEdges, callEdges, edgesFor};
 ghost use Rattle.dataflow.specs.EdgeLaws.{Appended};

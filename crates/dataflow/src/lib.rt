@@ -30,7 +30,7 @@ pub enum Question {
     Futures,
 }
 
-// The order of the edges in which the answer settles fast: what comes later flows back to what comes before it in futures alone.
+// The order of the edges in which the answer mostly settles fast: things flow on to later routines, the other sets back to earlier ones.
 fn order_of(question: Question) -> Order {
     match question {
         Question::Flow => Order::FirstToLast,

@@ -1,13 +1,11 @@
 // The sets that a question begins with.
 ghost use mathlib.Core.Path.{_≡_};
-ghost use mathlib.Core.Bool.{cond};
-ghost use Prim.Native.Nat.{ℕ, _<_, _^_};
-ghost use lib.ListN.{length, getD};
+ghost use Prim.Native.Nat.{_<_, _^_};
+ghost use lib.ListN.{length};
 ghost use Rattle.table.specs.Header.{statements};
 ghost use Rattle.table.specs.Table.{tableOf, routine, statement};
 ghost use Rattle.table.specs.Tabulate.{tabulate};
 ghost use Rattle.table.specs.LayoutLaws.{Laid};
-ghost use Rattle.report.specs.Over.{unionFrom};
 ghost use Rattle.report.specs.Flow.{startOf};
 ghost use Rattle.dataflow.specs.Questions.{ownSet, inRoutine, effectAt, nextsEffect, startAt};
 use crate::Question;

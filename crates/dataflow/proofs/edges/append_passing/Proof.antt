@@ -1,8 +1,7 @@
 -- `dataflow::edges::append_passing` meets its contract. Assumes nothing.
 use borrow.Author.Needs.{needs}
-use mathlib.Core.Path.{ap, _∙_}
+use mathlib.Core.Path.{ap}
 use native.Mathlib.Omega.{arith}
-use denote.Ref.{now}
 use Prim.Native.Nat.{ℕ, _+_, _-_}
 use mathlib.Core.List.{List, [], _∷_}
 use lib.ListN.{getD}

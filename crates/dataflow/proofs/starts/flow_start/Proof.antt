@@ -1,5 +1,4 @@
 -- `dataflow::starts::flow_start` meets its contract. Assumes nothing.
-use mathlib.Core.Path.{sym, ap, _∙_}
 use borrow.Author.Tests.{eq-eqb, ne-eqb}
 use Rattle.report.specs.Flow.{startOf}
 use borrow.Author.Needs.{needs}

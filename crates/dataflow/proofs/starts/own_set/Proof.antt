@@ -1,5 +1,4 @@
 -- `dataflow::starts::own_set` meets its contract. Assumes nothing.
-use mathlib.Core.Path.{_∙_}
 use Rattle.dataflow.specs.Questions.{ownSet}
 use borrow.Author.Needs.{needs}
 use Rattle.dataflow.proofs.starts.own_set.Statement.{statement}
