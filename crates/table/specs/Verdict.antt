@@ -52,7 +52,7 @@ numbersVerdict f lines =
     let later = declarationVerdict f in
     let last = cond (ltb line lines) (Refused 5 line) later in
     let next = cond (lengthOk f lines) last (Refused 4 0) in
-    cond (lengthOk f lines) next (Refused 3 0)
+    cond (headerOk f) next (Refused 3 0)
 
 -- refusal 1: the length is not 0, a multiple of 49 and at most 32,977
 unfoldable pub textOk : ℕ → Bool
