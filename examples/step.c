@@ -1,7 +1,7 @@
 /* Reads a table text, says whether it may be loaded, prints its report, and steps it by a schedule.
  *
  *     cc -Iinclude -o step examples/step.c target/staticlib/libstation.a
- *     ./step TABLE [SCHEDULE]      a schedule is thread numbers, as `0 0 1 0 1`
+ *     ./step TABLE [THREAD ...]      a schedule is thread numbers, as 0 0 1 0 1
  */
 #include <stdio.h>
 #include <stdlib.h>
