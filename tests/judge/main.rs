@@ -2,6 +2,7 @@
 //!
 //!     judge compare SEED COUNT     COUNT texts, each with a report, a run and the loader's question
 //!     judge explore SEED COUNT     every order of steps of COUNT small tables: a clean one never races
+//!     judge lengths TABLE ...      report buffers of every length from 0 to one more than the report needs
 mod document;
 mod generate;
 use document::{findings, read, report, State, Table};
@@ -38,9 +39,8 @@ fn length_near(r: &mut Random, needed: usize) -> usize {
     }
 }
 
-fn compare_report(r: &mut Random, text: &[u8], want: &Result<Table, (u32, u32)>, count: &mut [usize; 20]) {
-    let bytes = want.as_ref().map_or(vec![], report);
-    let length = length_near(r, bytes.len());
+/// A report into a buffer of this length: the answer, which is held to the document, as is every byte.
+fn report_into(text: &[u8], want: &Result<Table, (u32, u32)>, bytes: &[u8], length: usize) -> u64 {
     let mut said = 0;
     let out = guarded(length, 0xa5u8, |out| said = unsafe { station_report_packed(text.as_ptr(), text.len(), out.as_mut_ptr(), out.len()) });
     let mut expected = vec![0xa5u8; length];
@@ -48,13 +48,19 @@ fn compare_report(r: &mut Random, text: &[u8], want: &Result<Table, (u32, u32)>,
         Err((number, line)) => packed(*number, *line, 0),
         Ok(_) if length < bytes.len() => packed(13, 0, 0),
         Ok(_) => {
-            expected[..bytes.len()].copy_from_slice(&bytes);
+            expected[..bytes.len()].copy_from_slice(bytes);
             packed(0, 0, bytes.len())
         }
     };
     assert_eq!(said, answer, "report's answer on\n{}", String::from_utf8_lossy(text));
     assert_eq!(out, expected, "report's bytes on\n{}", String::from_utf8_lossy(text));
-    count[(answer >> 48) as usize] += 1;
+    answer
+}
+
+fn compare_report(r: &mut Random, text: &[u8], want: &Result<Table, (u32, u32)>, count: &mut [usize; 20]) {
+    let bytes = want.as_ref().map_or(vec![], report);
+    let length = length_near(r, bytes.len());
+    count[(report_into(text, want, &bytes, length) >> 48) as usize] += 1;
 }
 
 fn compare_run(r: &mut Random, text: &[u8], want: &Result<Table, (u32, u32)>, count: &mut [usize; 20]) {
@@ -154,12 +160,27 @@ fn explore_all(seed: u64, tables: usize) {
     println!("{tables} tables, every order of steps: {clean} clean, none races; of {warned} with a finding and all states seen, {races} race ({cut} too large to see whole)");
 }
 
+fn lengths(paths: &[String]) {
+    let mut calls = 0;
+    for path in paths {
+        let text = std::fs::read(path).expect(path);
+        let want = read(&text);
+        let bytes = want.as_ref().map_or(vec![], report);
+        for length in 0..=bytes.len() + 1 {
+            report_into(&text, &want, &bytes, length);
+            calls += 1;
+        }
+    }
+    println!("{} tables, {calls} buffers of every length from 0 to one more than the report needs", paths.len());
+}
+
 fn main() {
     let words: Vec<String> = std::env::args().collect();
     let number = |i: usize| words.get(i).and_then(|w| w.parse().ok()).expect("judge compare|explore SEED COUNT");
     match words.get(1).map(|w| w.as_str()) {
         Some("compare") => compare(number(2), number(3) as usize),
         Some("explore") => explore_all(number(2), number(3) as usize),
-        _ => panic!("judge compare|explore SEED COUNT"),
+        Some("lengths") => lengths(&words[2..]),
+        _ => panic!("judge compare|explore SEED COUNT, or lengths TABLE ..."),
     }
 }
