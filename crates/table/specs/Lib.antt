@@ -24,6 +24,7 @@ pub mod ReachLaws
 pub mod HandleLaws
 pub mod RoutineLaws
 pub mod LookupLaws
+pub mod OperationLaws
 pub mod StatementLaws
 pub mod NamingLaws
 pub mod AcceptedLaws

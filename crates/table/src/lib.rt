@@ -8,7 +8,9 @@ mod routines;
 mod statements;
 
 ghost use mathlib.Core.Path.{_≡_};
+ghost use Prim.Native.Nat.{_<_, _^_};
 ghost use Rattle.table.specs.Tabulate.{tabulate};
+ghost use Rattle.table.specs.Fields.{field};
 ghost use Rattle.table.specs.Handles.{handlesFrom, parameters};
 ghost use Rattle.table.specs.Routines.{firstOf};
 ghost use Rattle.table.specs.Verdict.{readingOf, turnedDown};
@@ -129,6 +131,14 @@ pub fn read(text: &[u8]) -> Reading
             }
         }
     }
+}
+
+// Field `j` of `line` as the rules compare it: its number, 1,000,000 for a negative one, 0 past the end.
+pub fn field_of(numbers: &[i32], line: usize, j: usize) -> usize
+    ensures is { λ r. ⌜ r ≡ field (now (numbers .entry)) line j ⌝ }
+    ensures small { λ r. ⌜ r < 2 ^ 31 ⌝ }
+{
+    fields::field_at(numbers, line, j)
 }
 
 // What the header of a table's numbers says.
