@@ -2,9 +2,8 @@
 ghost use mathlib.Core.Path.{_≡_};
 ghost use Prim.Native.Nat.{_+_, _≤_, _<_};
 ghost use mathlib.Core.Bool.{true};
-ghost use mathlib.Core.List.{_++_};
 ghost use lib.IntN.{natAbs};
-ghost use lib.ListN.{length, take, drop};
+ghost use lib.ListN.{length, take, drop, replicate};
 ghost use lib.Seq.{paste};
 ghost use Rattle.lines.specs.Field.{fieldOf, decimalOf, digitsFrom, fieldAnswer, decimalAnswer, fieldAt, inField, fieldText};
 ghost use Rattle.lines.specs.FieldLoops.{PastSpaces};
@@ -260,62 +259,48 @@ fn magnitude(n: i32) -> u32
     n as u32
 }
 
-// The six characters of a number.
-fn field_chars(n: i32) -> [u8; 6]
-    requires { ⌜ inField n ≡ true ⌝ }
-    ensures { λ r. ⌜ r ≡ fieldText n ⌝ }
-{
-    let mut cs = [b' '; 6];
-    let mut m = magnitude(n);
-    let mut k: usize = 5;
-    while 10 <= m {
-        cs[k] = b'0' + (m % 10) as u8;
-        m = m / 10;
-        k -= 1;
-    }
-    cs[k] = b'0' + m as u8;
-    if n < 0 {
-        cs[k - 1] = b'-';
-    }
-    cs
-}
-
-// Puts six characters into a line from a place on; all other places stay.
-fn put_field(line: &mut [u8; 49], at: usize, cs: [u8; 6])
-    requires { ⌜ (length (now line) ≡ 49) × (at + 6 ≤ 49) ⌝ }
-    ensures { λ _. ⌜ now (line .exit) ≡ paste (now (line .entry)) at cs 6 ⌝ }
+// Writes six spaces to a place; all other places stay.
+fn put_spaces(part: &mut [u8], at: usize)
+    requires { ⌜ at + 6 ≤ length (now part) ⌝ }
+    ensures { λ _. ⌜ now (part .exit) ≡ paste (now (part .entry)) at (replicate 6 32) 6 ⌝ }
 {
     let mut i = 0;
     while i < 6 {
-        line[at + i] = cs[i];
+        part[at + i] = b' ';
         i += 1;
     }
 }
 
-// The 49 bytes of eight numbers.
-fn line_chars(numbers: [i32; 8]) -> [u8; 49]
-    requires { ⌜ allInField numbers ≡ true ⌝ }
-    ensures { λ r. ⌜ r ≡ lineText numbers ⌝ }
+// Writes the six characters of a number to a place; all other places stay.
+fn put_number(part: &mut [u8], at: usize, n: i32)
+    requires { ⌜ (inField n ≡ true) × (at + 6 ≤ length (now part)) ⌝ }
+    ensures { λ _. ⌜ now (part .exit) ≡ paste (now (part .entry)) at (fieldText n) 6 ⌝ }
 {
-    let mut line = [b'\n'; 49];
+    put_spaces(part, at);
+    let mut m = magnitude(n);
+    let mut k: usize = 5;
+    while 10 <= m {
+        part[at + k] = b'0' + (m % 10) as u8;
+        m = m / 10;
+        k -= 1;
+    }
+    part[at + k] = b'0' + m as u8;
+    if n < 0 {
+        part[at + (k - 1)] = b'-';
+    }
+}
+
+// Writes the line of eight numbers to the start of a part; the places behind it stay.
+fn put_line(part: &mut [u8], numbers: [i32; 8])
+    requires { ⌜ (allInField numbers ≡ true) × (49 ≤ length (now part)) ⌝ }
+    ensures { λ _. ⌜ now (part .exit) ≡ paste (now (part .entry)) 0 (lineText numbers) 49 ⌝ }
+{
     let mut i = 0;
     while i < 8 {
-        put_field(&mut line, 6 * i, field_chars(numbers[i]));
+        put_number(part, 6 * i, numbers[i]);
         i += 1;
     }
-    line
-}
-
-// Writes a line to the start of a part; the places behind it stay.
-fn put_line(part: &mut [u8], line: [u8; 49])
-    requires { ⌜ 49 ≤ length (now part) ⌝ }
-    ensures { λ _. ⌜ now (part .exit) ≡ paste (now (part .entry)) 0 line 49 ⌝ }
-{
-    let mut i = 0;
-    while i < 49 {
-        part[i] = line[i];
-        i += 1;
-    }
+    part[48] = b'\n';
 }
 
 // Prints eight numbers as a line into `out` from `at` on; the other places keep their contents. Where a number is out of range the
@@ -333,6 +318,6 @@ pub fn print_line(out: &mut [u8], at: usize, numbers: [i32; 8]) -> Printed
     if out.len() - 49 < at {
         return Printed::NoRoom;
     }
-    put_line(&mut out[at..], line_chars(numbers));
+    put_line(&mut out[at..], numbers);
     Printed::Whole
 }
