@@ -285,7 +285,7 @@ lining-next {a₀} {zs} {i} {a} l h g =
       numbers = l .numbers;
       room = l .room;
       sized = length-paste a (6 * i) cs 6 s (omega arith) ∙ l .sized;
-      rest = rw (u, drop-paste a (6 * i) cs 6 (omega arith) (omega arith), ← drop-drop, l .rest, drop-drop);
+      rest = rw (u, drop-paste a (6 * i) cs 6 (omega arith) (omega arith), ← drop-drop 6 (6 * i) a, l .rest, drop-drop);
       left = l .left ∙ rw (u, take-paste a (6 * i) cs 6 (omega arith) (omega arith), take-all 6 cs (omega arith), drop-cons zs i (pos 0) (omega (arith, l .numbers)), text-cons, append-assoc);
     })
 

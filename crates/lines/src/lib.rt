@@ -1,14 +1,15 @@
 // A line of a table text: eight fields of six characters and a line feed, read and printed.
 ghost use mathlib.Core.Path.{_≡_};
-ghost use Prim.Native.Nat.{_+_, _≤_, _<_};
+ghost use Prim.Native.Nat.{_+_, _*_, _≤_, _<_};
 ghost use mathlib.Core.Bool.{true};
+ghost use mathlib.Core.Option.{none};
 ghost use lib.IntN.{natAbs};
 ghost use lib.ListN.{length, take, drop, replicate};
 ghost use lib.Seq.{paste};
 ghost use Rattle.lines.specs.Field.{fieldOf, decimalOf, digitsFrom, fieldAnswer, decimalAnswer, fieldAt, inField, fieldText};
 ghost use Rattle.lines.specs.FieldLoops.{PastSpaces};
 ghost use Rattle.lines.specs.Print.{printAnswer, printedAt};
-ghost use Rattle.lines.specs.Line.{allInField, lineText, lineOf, lineCount, lineAnswer, pageOf};
+ghost use Rattle.lines.specs.Line.{allInField, lineText, lineOf, lineCount, firstBad, numbersOf, lineAnswer, badAnswer, pageOf};
 
 // What six characters say: a number, or nothing.
 pub enum Field {
@@ -178,7 +179,7 @@ pub fn read_line(text: &[u8], at: usize) -> Line
 }
 
 // How many whole lines a text has, 673 at most.
-fn line_count(text: &[u8]) -> usize
+pub fn line_count(text: &[u8]) -> usize
     ensures { λ r. ⌜ r ≡ lineCount (now (text .entry)) ⌝ }
 {
     let n = text.len() / 49;
@@ -188,36 +189,47 @@ fn line_count(text: &[u8]) -> usize
     n
 }
 
-// The numbers of a text's lines, and the first line that is none. Looks at whole lines, 673 at most.
-pub fn read_page(text: &[u8]) -> Page
-    ensures { λ r. ⌜ r ≡ pageOf (now (text .entry)) ⌝ }
+// Reads the numbers of a text's lines, 673 at most, into `numbers`, eight a line; the first line that is none, if there is one.
+pub fn read_numbers(text: &[u8], numbers: &mut [i32]) -> FirstBad
+    requires { ⌜ length (now numbers) ≡ 8 * lineCount (now text) ⌝ }
+    ensures found { λ r. ⌜ r ≡ badAnswer (firstBad (now (text .entry))) ⌝ }
+    ensures numbers { λ _. ⌜ (firstBad (now (text .entry)) ≡ none → now (numbers .exit) ≡ numbersOf (now (text .entry))) ⌝ }
 {
     let lines = line_count(text);
-    let mut numbers = [0i32; 5384];
     let mut i = 0;
-    'lines: while i < lines {
+    while i < lines {
         let mut j = 0;
         while j < 8 {
             let Field::Number(z) = read_field(text, 49 * i + 6 * j) else {
-                break 'lines;
+                return FirstBad::Line(i);
             };
             numbers[8 * i + j] = z;
             j += 1;
         }
         if text[49 * i + 48] != b'\n' {
-            break 'lines;
+            return FirstBad::Line(i);
         }
         i += 1;
     }
-    if i < lines {
-        return Page {
+    FirstBad::Nothing
+}
+
+// The numbers of a text's lines, and the first line that is none. Looks at whole lines, 673 at most.
+pub fn read_page(text: &[u8]) -> Page
+    ensures { λ r. ⌜ r ≡ pageOf (now (text .entry)) ⌝ }
+{
+    let mut numbers = [0i32; 5384];
+    let count = 8 * line_count(text);
+    let first_bad = read_numbers(text, &mut numbers[..count]);
+    match first_bad {
+        FirstBad::Line(i) => Page {
             first_bad: FirstBad::Line(i),
             numbers: [0; 5384],
-        };
-    }
-    Page {
-        first_bad: FirstBad::Nothing,
-        numbers,
+        },
+        FirstBad::Nothing => Page {
+            first_bad: FirstBad::Nothing,
+            numbers,
+        },
     }
 }
 
