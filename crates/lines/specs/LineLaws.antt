@@ -9,7 +9,7 @@ use mathlib.Core.List.{List, [], _∷_, _++_}
 use lib.Dec.{ltb}
 use lib.IntN.{ℤ, pos, negsuc}
 use lib.Signed.{mag}
-use lib.ListN.{length, getD, take, drop, replicate, length-append, length-replicate, take-append-drop, List·getD-eq-default}
+use lib.ListN.{length, getD, take, drop, replicate, length-append, take-append-drop, List·getD-eq-default}
 use lib.Seq.{take-at, drop-at, drop-drop}
 use borrow.Author.Tests.{ltb-true, ltb-false}
 use Rattle.lines.specs.Field.{fieldOf, fieldText, inField}
@@ -177,9 +177,6 @@ pub line-count-whole : (t : List ℕ) (n : ℕ) → length t ≡ 49 * n → n �
 line-count-whole t n e h = rw e (omega arith)
 
 -- the numbers of a page: those of the text, zeros behind them
-pub padded-sized : (t : List ℕ) → length (padded (numbersOf t)) ≡ 5384
-padded-sized t = rw (length-append, length-replicate, numbers-sized) (omega arith)
-
 pub padded-part : (t : List ℕ) → take (8 * lineCount t) (padded (numbersOf t)) ≡ numbersOf t
 padded-part t = take-at (numbersOf t) (replicate (5384 - length (numbersOf t)) (pos 0)) (8 * lineCount t) (numbers-sized t)
 
