@@ -22,7 +22,7 @@ fn best(turns: usize, mut f: impl FnMut()) -> f64 {
     least
 }
 
-fn check(path: &str, ratios: &mut Vec<f64>, times: &mut Vec<f64>) {
+fn check(path: &str, ratios: &mut Vec<f64>, large: &mut Vec<(usize, f64, String)>) {
     let text = std::fs::read(path).expect(path);
     let (mut a, mut b) = (vec![0u8; 65536], vec![0u8; 65536]);
     let packed = unsafe { station_report_packed(text.as_ptr(), text.len(), a.as_mut_ptr(), a.len()) };
@@ -38,38 +38,79 @@ fn check(path: &str, ratios: &mut Vec<f64>, times: &mut Vec<f64>) {
     let name = path.rsplit('/').next().unwrap();
     println!("check {name}: {} bytes, proved {proved:.1} us, plain Rust {plainly:.1} us, ratio {:.2}", text.len(), proved / plainly);
     ratios.push(proved / plainly);
-    times.push(proved);
+    large.push((text.len(), proved, name.to_string()));
 }
 
-fn steps(path: &str, ratios: &mut Vec<f64>) {
-    let text = std::fs::read(path).expect(path);
+/// A table text: header, handles (routine, kind, origin, start), routines (statements each), statements (operation and operands).
+fn table(cells: i32, locks: i32, handles: &[[i32; 4]], routines: &[i32], statements: &[&[i32]]) -> Vec<u8> {
+    let mut text = String::new();
+    let mut line = |numbers: &[i32]| {
+        for k in 0..8 {
+            text += &format!("{:6}", numbers.get(k).unwrap_or(&0));
+        }
+        text.push('\n');
+    };
+    line(&[1, cells, locks, handles.len() as i32, routines.len() as i32, statements.len() as i32]);
+    handles.iter().for_each(|h| line(&[2, h[0], h[1], h[2], h[3]]));
+    routines.iter().for_each(|&n| line(&[3, n]));
+    statements.iter().for_each(|s| line(&[&[4], *s].concat()));
+    text.into_bytes()
+}
+
+/// Tables that go on for ever, one for each kind of step, and how many threads a schedule names.
+fn kinds() -> Vec<(&'static str, Vec<u8>, u8)> {
+    let mut chain: Vec<Vec<i32>> = vec![vec![8, 1], vec![10, 0]];
+    (1..31).for_each(|r| chain.extend([vec![8, r + 1], vec![12]]));
+    chain.push(vec![12]);
+    let mut counts = vec![2; 31];
+    counts.push(1);
+    let chain: Vec<&[i32]> = chain.iter().map(|s| &s[..]).collect();
+    let worker: [&[i32]; 6] = [&[5, 2], &[1, 1], &[4, 1], &[2, 1], &[6, 2], &[10, 4]];
+    let locked = [&[[9, 1].as_slice(), &[9, 1], &[9, 1], &[12]], worker.as_slice()].concat();
+    vec![
+        ("sums and jumps", table(1, 0, &[], &[6], &[&[3, 5], &[4, 7], &[4, -12], &[11, 5], &[12], &[10, 0]]), 1),
+        ("reads and writes", table(2, 0, &[[0, 1, 1, 0], [0, 1, 1, 1]], &[6], &[&[1, 0], &[4, 1], &[2, 0], &[1, 1], &[2, 1], &[10, 0]]), 1),
+        ("locks, four threads", table(1, 1, &[[0, 1, 1, 0], [1, 1, 1, 0], [1, 2, 1, 0]], &[4, 6], &locked), 4),
+        ("calls with four arguments", table(4, 0, &[[0, 1, 1, 0], [0, 1, 1, 1], [0, 1, 1, 2], [0, 1, 1, 3], [1, 1, 0, 0], [1, 1, 0, 0], [1, 1, 0, 0], [1, 1, 0, 0]], &[2, 3], &[&[8, 1, 0, 1, 2, 3], &[10, 0], &[1, 4], &[2, 7], &[12]]), 1),
+        ("points", table(2, 0, &[[0, 1, 1, 0], [0, 1, 1, 1]], &[3], &[&[7, 0, 1], &[7, 1, 0], &[10, 0]]), 1),
+        ("starts, refused from the sixteenth on", table(1, 0, &[], &[2, 1], &[&[9, 1], &[10, 0], &[12]]), 16),
+        ("calls 31 deep", table(1, 0, &[], &counts, &chain), 1),
+    ]
+}
+
+fn steps(name: &str, text: &[u8], threads: u8, ratios: &mut Vec<f64>) {
     let length = 100_000;
     let mut state = 12345u64;
     let schedule: Vec<u8> = (0..length)
         .map(|_| {
             state = state.wrapping_mul(6364136223846793005).wrapping_add(1442695040888963407);
-            (state >> 60) as u8 % 4
+            (state >> 56) as u8 % threads
         })
         .collect();
     let (mut a, mut b) = (vec![0u8; length], vec![0u8; length]);
     let (mut c, mut d) = ([0i32; 64], [0i32; 64]);
-    let mut one = |n: usize, a: &mut [u8], c: &mut [i32]| unsafe {
-        black_box(station_run_packed(text.as_ptr(), text.len(), schedule.as_ptr(), n, a.as_mut_ptr(), a.len(), c.as_mut_ptr(), c.len()));
+    let one = |n: usize, a: &mut [u8], c: &mut [i32]| unsafe {
+        black_box(station_run_packed(text.as_ptr(), text.len(), schedule.as_ptr(), n, a.as_mut_ptr(), a.len(), c.as_mut_ptr(), c.len()))
     };
-    one(length, &mut a, &mut c);
-    plain::run(&text, &schedule, &mut b, &mut d);
-    assert!(a == b && c == d, "{path}");
+    let packed = one(length, &mut a, &mut c);
+    let (number, line) = plain::run(text, &schedule, &mut b, &mut d);
+    assert_eq!(packed, (number as u64) << 48 | (line as u64) << 32, "{name}");
+    assert!(a == b && c == d, "{name}");
     let ran = a.iter().filter(|&&x| x == 0).count();
-    let (setup, whole) = (best(50, || one(0, &mut a, &mut c)), best(2, || one(length, &mut a, &mut c)));
+    let setup = best(50, || {
+        one(0, &mut a, &mut c);
+    });
+    let whole = best(2, || {
+        one(length, &mut a, &mut c);
+    });
     let plain_setup = best(50, || {
-        black_box(plain::run(&text, &schedule[..0], &mut b, &mut d));
+        black_box(plain::run(text, &schedule[..0], &mut b, &mut d));
     });
     let plain_whole = best(2, || {
-        black_box(plain::run(&text, &schedule, &mut b, &mut d));
+        black_box(plain::run(text, &schedule, &mut b, &mut d));
     });
     let (step, plain_step) = ((whole - setup) * 1e3 / length as f64, (plain_whole - plain_setup) * 1e3 / length as f64);
-    let name = path.rsplit('/').next().unwrap();
-    println!("steps {name}: {ran} of {length} ran; set-up {setup:.1} us, plain {plain_setup:.1} us; a step {step:.1} ns, plain Rust {plain_step:.1} ns, ratio {:.2}", step / plain_step);
+    println!("steps, {name}: {ran} of {length} ran; set-up {setup:.2} us, plain {plain_setup:.2} us; a step {step:.2} ns, plain Rust {plain_step:.2} ns, ratio {:.2}", step / plain_step);
     ratios.push(step / plain_step);
 }
 
@@ -80,15 +121,24 @@ fn summary(name: &str, mut ratios: Vec<f64>) {
     }
 }
 
+// No accepted large table should take over three times the median one of its length.
+fn evenness(mut large: Vec<(usize, f64, String)>) {
+    large.retain(|t| t.0 == 32977);
+    large.sort_by(|a, b| a.1.partial_cmp(&b.1).unwrap());
+    if let (Some(median), Some(most)) = (large.get(large.len() / 2), large.last()) {
+        println!("check, {} tables of 32977 bytes: median {:.1} us, most {:.1} us ({}), {:.2} times the median", large.len(), median.1, most.1, most.2, most.1 / median.1);
+    }
+}
+
 fn main() {
-    let (mut checks, mut times, mut runs, mut stepping) = (vec![], vec![], vec![], false);
-    for word in std::env::args().skip(1) {
-        match word.as_str() {
-            "--steps" => stepping = true,
-            path if stepping => steps(path, &mut runs),
-            path => check(path, &mut checks, &mut times),
-        }
+    let (mut checks, mut large, mut runs) = (vec![], vec![], vec![]);
+    for path in std::env::args().skip(1) {
+        check(&path, &mut checks, &mut large);
+    }
+    for (name, text, threads) in kinds() {
+        steps(name, &text, threads, &mut runs);
     }
     summary("check", checks);
+    evenness(large);
     summary("steps", runs);
 }

@@ -1,6 +1,6 @@
 -- A line, 49 bytes that are eight fields and a line feed, and a page, the lines of a text: both directions.
 -- Assumes nothing.
-use Prim.Native.Nat.{ℕ, zero, suc, _*_, _/_, min}
+use Prim.Native.Nat.{ℕ, zero, suc, _*_, _-_, _/_, min}
 use mathlib.Core.Bool.{Bool, true, false}
 use mathlib.Core.Option.{Option, none, some}
 use mathlib.Core.List.{List, [], _∷_, _++_}
@@ -80,18 +80,27 @@ unfoldable pub pieces : (List ℕ → List ℤ) → ℕ → ℕ → List ℕ →
 pieces f w zero text = []
 pieces f w (suc n) text = f (take w text) ++ pieces f w n (drop w text)
 
--- the numbers of a text: those of 673 lines, the most that a text has
+-- the numbers of a text: those of its lines, eight a line
 abbrev pub numbersOf : List ℕ → List ℤ
-numbersOf text = pieces lineNumbers 49 673 text
+numbersOf text = pieces lineNumbers 49 (lineCount text) text
+
+-- the numbers of a page: 673 lines, the most that a text has, zeros behind those that it has
+abbrev pub padded : List ℤ → List ℤ
+padded zs = zs ++ replicate (5384 - length zs) (pos 0)
 
 -- the answer of `read_line`: zeros where the form is bad
 abbrev pub lineAnswer : Option (List ℤ) → L.Line
 lineAnswer none = record { form = M.Form.Bad; numbers = replicate 8 (pos 0) }
 lineAnswer (some zs) = record { form = M.Form.Good; numbers = zs }
 
+-- the answer of `read_numbers`
+abbrev pub badAnswer : Option ℕ → B.FirstBad
+badAnswer none = B.FirstBad.Nothing
+badAnswer (some i) = B.FirstBad.Line i
+
 -- the answer of `read_page`: zeros where a line is bad
 abbrev pub pageAnswer : Option ℕ → List ℤ → P.Page
-pageAnswer none zs = record { «first_bad» = B.FirstBad.Nothing; numbers = zs }
+pageAnswer none zs = record { «first_bad» = B.FirstBad.Nothing; numbers = padded zs }
 pageAnswer (some i) zs = record { «first_bad» = B.FirstBad.Line i; numbers = replicate 5384 (pos 0) }
 
 -- what `read_page` finds in a text

@@ -1,7 +1,7 @@
 -- A line that is printed reads back as its numbers, and bytes that are a line are the ones that are printed for its numbers. The
 -- numbers of a text are those of its fields, each at its place. Assumes nothing.
 use mathlib.Core.Path.{_≡_, refl, sym, ap, _∙_}
-use Prim.Native.Nat.{ℕ, zero, suc, _+_, _*_, _/_, _%_, _≤_, _<_}
+use Prim.Native.Nat.{ℕ, zero, suc, _+_, _*_, _-_, _/_, _%_, _≤_, _<_}
 use native.Mathlib.Omega.{arith}
 use mathlib.Core.Bool.{Bool, true, false}
 use mathlib.Core.Option.{Option, none, some}
@@ -9,12 +9,12 @@ use mathlib.Core.List.{List, [], _∷_, _++_}
 use lib.Dec.{ltb}
 use lib.IntN.{ℤ, pos, negsuc}
 use lib.Signed.{mag}
-use lib.ListN.{length, getD, take, drop, length-append, take-append-drop, List·getD-eq-default}
+use lib.ListN.{length, getD, take, drop, replicate, length-append, take-append-drop, List·getD-eq-default}
 use lib.Seq.{take-at, drop-at, drop-drop}
 use borrow.Author.Tests.{ltb-true, ltb-false}
 use Rattle.lines.specs.Field.{fieldOf, fieldText, inField}
 use Rattle.lines.specs.FieldLaws.{FieldIs, field-text-length, printed-field-reads-back, read-field-prints-back}
-use Rattle.lines.specs.Line.{fieldsOf, lineOf, lineText, lineAt, allInField, isSome, orZeros, goodLine, lineCount, firstBad, lineNumbers, numbersOf, pageAnswer, pageOf}
+use Rattle.lines.specs.Line.{fieldsOf, lineOf, lineText, lineAt, allInField, isSome, orZeros, goodLine, lineCount, firstBad, lineNumbers, numbersOf, padded, pageAnswer, pageOf}
 use Rattle.lines.specs.LineLoops.{Joined, joined-some, end-some, fields-end, fields-cons, line-sized, numbers-sized, pieces-at, line-field}
 use Rattle.lines.specs.LowestLaws.{Lowest, none-all-good, some-lowest}
 
@@ -119,16 +119,16 @@ good-some : (o : Option (List ℤ)) → isSome o ≡ true → o ≡ some (orZero
 good-some none h = let u : _≡_ {A = ℕ} 0 1 = cc in absurd (omega arith)
 good-some (some zs) h = refl
 
--- number j of line i of a page
-pub number-of-line : (t : List ℕ) (i j : ℕ) → i < 673 → j < 8 → getD (numbersOf t) (8 * i + j) (pos 0) ≡ getD (lineNumbers (lineAt t i)) j (pos 0)
-number-of-line t i j h l = pieces-at lineNumbers 49 8 line-sized 673 i j t (pos 0) h l
+-- number j of line i of a text
+pub number-of-line : (t : List ℕ) (i j : ℕ) → i < lineCount t → j < 8 → getD (numbersOf t) (8 * i + j) (pos 0) ≡ getD (lineNumbers (lineAt t i)) j (pos 0)
+number-of-line t i j h l = pieces-at lineNumbers 49 8 line-sized (lineCount t) i j t (pos 0) h l
 
 -- the numbers of a good line are what it says
 pub good-line : (t : List ℕ) (i : ℕ) → goodLine t i ≡ true → lineOf (lineAt t i) ≡ some (lineNumbers (lineAt t i))
 good-line t i g = good-some (lineOf (lineAt t i)) g
 
 -- the number of a field of a good line stands at its place
-pub number-at : (t : List ℕ) (i j : ℕ) → i < 673 → j < 8 → goodLine t i ≡ true
+pub number-at : (t : List ℕ) (i j : ℕ) → i < lineCount t → j < 8 → goodLine t i ≡ true
     → fieldOf (take 6 (drop (49 * i + 6 * j) t)) ≡ some (getD (numbersOf t) (8 * i + j) (pos 0))
 number-at t i j h l g =
     rw (number-of-line t i j h l, ← line-field t (49 * i) j l) (fields-at 8 j (lineAt t i) (lineNumbers (lineAt t i)) (good-line t i g) l)
@@ -150,14 +150,14 @@ line-in-field bs = go (lineOf bs) refl
 
 -- every number of a text is in the range of a field
 pub numbers-in-field : (t : List ℕ) (k : ℕ) → inField (getD (numbersOf t) k (pos 0)) ≡ true
-numbers-in-field t k = go (ltb k 5384) refl
+numbers-in-field t k = go (ltb k (8 * lineCount t)) refl
   where
-    go : (b : Bool) → ltb k 5384 ≡ b → inField (getD (numbersOf t) k (pos 0)) ≡ true
+    go : (b : Bool) → ltb k (8 * lineCount t) ≡ b → inField (getD (numbersOf t) k (pos 0)) ≡ true
     go true e =
-        let h : k < 5384 = ltb-true k 5384 e in
+        let h : k < 8 * lineCount t = ltb-true k (8 * lineCount t) e in
         let q : k ≡ 8 * (k / 8) + k % 8 = omega arith in
         rw (q, number-of-line t (k / 8) (k % 8) (omega arith) (omega arith)) (all-at (lineNumbers (lineAt t (k / 8))) (k % 8) (line-in-field (lineAt t (k / 8))))
-    go false e = rw (List·getD-eq-default (numbersOf t) (pos 0) {n = k} (rw numbers-sized (ltb-false k 5384 e)))
+    go false e = rw (List·getD-eq-default (numbersOf t) (pos 0) {n = k} (rw numbers-sized (ltb-false k (8 * lineCount t) e)))
 
 -- what a page is
 
@@ -175,6 +175,10 @@ first-bad-line t i e = some-lowest (goodLine t) 0 (lineCount t) i e
 -- a text of n whole lines, 673 at most, has n lines
 pub line-count-whole : (t : List ℕ) (n : ℕ) → length t ≡ 49 * n → n ≤ 673 → lineCount t ≡ n
 line-count-whole t n e h = rw e (omega arith)
+
+-- the numbers of a page: those of the text, zeros behind them
+pub padded-part : (t : List ℕ) → take (8 * lineCount t) (padded (numbersOf t)) ≡ numbersOf t
+padded-part t = take-at (numbersOf t) (replicate (5384 - length (numbersOf t)) (pos 0)) (8 * lineCount t) (numbers-sized t)
 
 pub page-good : (t : List ℕ) → firstBad t ≡ none → pageOf t ≡ pageAnswer none (numbersOf t)
 page-good t e = ap (λ (o : Option ℕ). pageAnswer o (numbersOf t)) e

@@ -4,18 +4,19 @@ use mathlib.Core.Path.{_≡_, refl, sym, ap, _∙_}
 use Prim.Native.Nat.{ℕ, zero, suc, _+_, _*_, _-_, _≤_, _<_}
 use native.Mathlib.Omega.{arith}
 use native.Mathlib.Numerals.{add-one}
-use native.Mathlib.Nat.{mul-suc, mul-zero, zero-add, add-zero}
+use native.Mathlib.Nat.{mul-suc, mul-zero, zero-add, add-zero, sub-zero, zero-sub, suc-sub-suc}
 use mathlib.Core.Bool.{Bool, true, false}
 use mathlib.Core.Option.{Option, none, some}
 use mathlib.Core.List.{List, [], _∷_, _++_, append-assoc, append-nil}
 use lib.Dec.{eqb}
 use lib.IntN.{ℤ, pos}
-use lib.ListN.{length, getD, take, drop, set, replicate, length-append, length-replicate, length-take, length-drop, drop-of-length-le, replicate-append-replicate, List·getD-append}
-use lib.Seq.{drop-cons, drop-drop, take-take, getD-append-add, set-at, getD-take, getD-drop}
+use lib.ListN.{length, getD, take, drop, set, replicate, length-append, length-replicate, length-set, length-take, length-drop, drop-of-length-le, List·getD-append}
+use lib.Seq.{drop-cons, drop-drop, take-take, take-all, take-suc-set, getD-append-add, getD-take, getD-drop}
 use borrow.Author.Tests.{eq-eqb, ne-eqb, eqb-true, eqb-false}
 use Rattle.lines.specs.Field.{fieldOf}
 use Rattle.lines.specs.FieldLoops.{field-short}
-use Rattle.lines.specs.Line.{endOf, joined, fieldsOf, lineOf, lineAt, orZeros, goodLine, lineCount, firstBad, lineNumbers, pieces, numbersOf}
+use Rattle.lines.specs.Line.{endOf, joined, fieldsOf, lineOf, lineAt, orZeros, goodLine, lineCount, firstBad, lineNumbers, pieces, numbersOf, padded, badAnswer}
+use Rattle.lines.specs.declared.FirstBad as B
 use Rattle.lines.specs.LowestLaws.{Passed, passed-start, passed-next, passed-stop, passed-done}
 
 -- pieces, one after the other
@@ -114,8 +115,8 @@ line-sized bs = go (lineOf bs) refl
     go none e = refl
     go (some zs) e = fields-sized 8 bs zs e .1
 
-pub numbers-sized : (t : List ℕ) → length (numbersOf t) ≡ 5384
-numbers-sized t = pieces-length lineNumbers 49 8 line-sized 673 t
+pub numbers-sized : (t : List ℕ) → length (numbersOf t) ≡ 8 * lineCount t
+numbers-sized t = pieces-length lineNumbers 49 8 line-sized (lineCount t) t
 
 pub line-short : (bs : List ℕ) → (length bs ≡ 49 → ⊥) → lineOf bs ≡ none
 line-short bs n = go (lineOf bs) refl
@@ -144,14 +145,11 @@ prefixed zs (some ws) = some (zs ++ ws)
 abbrev pub firstFields : ℕ → List ℕ → List ℤ
 firstFields j b = pieces fieldNumber 6 j b
 
-first-length : (j : ℕ) (b : List ℕ) → length (firstFields j b) ≡ j
-first-length j b = rw (pieces-length fieldNumber 6 1 (λ b. refl)) (omega arith)
-
--- after `done`, base numbers, stand the first j numbers of the line b, and zeros; and what is left of b gives the whole
+-- of `size` numbers the first are `done`, base of them, and the first j of the line b; and what is left of b gives the whole
 pub record Reading (done : List ℤ) (base size : ℕ) (b : List ℕ) (j : ℕ) (numbers : List ℤ) : Type 0 where
   pub few : j ≤ 8
-  pub based : length done ≡ base
-  pub kept : numbers ≡ (done ++ firstFields j b) ++ replicate (size - (base + j)) (pos 0)
+  pub sized : length numbers ≡ size
+  pub kept : take (base + j) numbers ≡ done ++ firstFields j b
   pub left : lineOf b ≡ prefixed (firstFields j b) (fieldsOf (8 - j) (drop (6 * j) b))
 
 prefixed-nil : (o : Option (List ℤ)) → o ≡ prefixed [] o
@@ -162,11 +160,10 @@ prefixed-joined : (zs : List ℤ) (z : ℤ) (o : Option (List ℤ)) → prefixed
 prefixed-joined zs z none = refl
 prefixed-joined zs z (some ws) = ap {B = Option (List ℤ)} some (sym (append-assoc zs (z ∷ []) ws))
 
-pub reading-start : (done : List ℤ) (base size : ℕ) (b : List ℕ) (numbers : List ℤ) → length done ≡ base
-    → numbers ≡ done ++ replicate (size - base) (pos 0) → Reading done base size b 0 numbers
+pub reading-start : (done : List ℤ) (base size : ℕ) (b : List ℕ) (numbers : List ℤ) → length numbers ≡ size → take base numbers ≡ done → Reading done base size b 0 numbers
 reading-start done base size b numbers l e = record {
   few = omega arith;
-  based = l;
+  sized = l;
   kept = rw (pieces-none, append-nil, add-zero) e;
   left = rw (pieces-none) (prefixed-nil (lineOf b));
 }
@@ -182,20 +179,16 @@ module _ {done : List ℤ} {base size : ℕ} {b : List ℕ} {j : ℕ} {numbers :
       → Reading done base size b (j + 1) (set numbers (base + j) z)
   reading-next z h w e =
       let p : firstFields (suc j) b ≡ firstFields j b ++ z ∷ [] = pieces-next fieldNumber 6 j b ∙ rw e in
-      let k : size - (base + j) ≡ suc (size - (base + suc j)) = omega arith in
-      let l : length (done ++ firstFields j b) ≡ base + j = rw (length-append, first-length, r .based) in
+      let k : base + suc j ≡ suc (base + j) = omega arith in
       rw add-one (record {
         few = h;
-        based = r .based;
-        kept = rw (r .kept, k, p, set-at (done ++ firstFields j b) (pos 0) (replicate (size - (base + suc j)) (pos 0)) z (base + j) l) (simp append-assoc);
+        sized = length-set numbers (base + j) z ∙ r .sized;
+        kept = rw (k, take-suc-set numbers (base + j) z (omega (arith, r .sized)), r .kept, p, append-assoc);
         left = r .left ∙ rw (split h, e, p) (prefixed-joined (firstFields j b) z (fieldsOf (8 - suc j) (drop (6 * suc j) b)));
       })
 
   pub reading-bad : j < 8 → fieldOf (take 6 (drop (6 * j) b)) ≡ none → lineOf b ≡ none
   reading-bad h e = r .left ∙ rw (split h, e)
-
-  pub reading-sized : base + j ≤ size → length numbers ≡ size
-  reading-sized h = rw (r .kept, length-append, length-append, first-length, r .based, length-replicate) (omega arith)
 
 end-feed : (c : ℕ) → c ≡ 10 → endOf (c ∷ []) ≡ some []
 end-feed c e = rw (eq-eqb c 10 e, endOf)
@@ -216,7 +209,7 @@ module _ {done : List ℤ} {base size : ℕ} {b : List ℕ} {j : ℕ} {numbers :
   pub reading-no-end : (getD b 48 0 ≡ 10 → ⊥) → lineOf b ≡ none
   reading-no-end e = r .left ∙ rw (last, eight, fields-end, end-other _ e)
 
-  pub reading-kept : numbers ≡ (done ++ firstFields 8 b) ++ replicate (size - (base + 8)) (pos 0)
+  pub reading-kept : take (base + 8) numbers ≡ done ++ firstFields 8 b
   reading-kept = rw (← eight) (r .kept)
 
 -- a line as a part of a text
@@ -238,107 +231,113 @@ line-whole t at h = rw (length-take, length-drop) (omega arith)
 
 -- the lines of a text, from the first
 
--- before line i every line is good, and its numbers stand in their places, zeros behind them
+-- before line i every line is good, and its numbers stand in their places
 pub record Paging (t : List ℕ) (n i : ℕ) (numbers : List ℤ) : Type 0 where
   pub counted : n ≡ lineCount t
+  pub sized : length numbers ≡ 8 * n
   pub passed : Passed (goodLine t) n i
-  pub kept : numbers ≡ pieces lineNumbers 49 i t ++ replicate (5384 - 8 * i) (pos 0)
+  pub kept : take (8 * i) numbers ≡ pieces lineNumbers 49 i t
 
 -- the same, with j fields of line i
 pub record InLine (t : List ℕ) (n i j : ℕ) (numbers : List ℤ) : Type 0 where
   pub counted : n ≡ lineCount t
   pub passed : Passed (goodLine t) n i
   pub more : i < n
-  pub reading : Reading (pieces lineNumbers 49 i t) (8 * i) 5384 (lineAt t i) j numbers
+  pub reading : Reading (pieces lineNumbers 49 i t) (8 * i) (8 * n) (lineAt t i) j numbers
 
--- where the lines are left: at the end, or at the first bad one
-pub record Left (t : List ℕ) (n i : ℕ) (numbers : List ℤ) : Type 0 where
-  pub bad : i < n → firstBad t ≡ some i
-  pub good : n ≤ i → (firstBad t ≡ none) × (numbers ≡ numbersOf t)
-
-pub page-start : (t : List ℕ) (n : ℕ) → n ≡ lineCount t → Paging t n 0 (replicate 5384 (pos 0))
-page-start t n e = record { counted = e; passed = passed-start (goodLine t) n; kept = rw pieces-none }
-
-rows-sized : (i : ℕ) (t : List ℕ) → length (pieces lineNumbers 49 i t) ≡ 8 * i
-rows-sized i t = pieces-length lineNumbers 49 8 line-sized i t
-
-pub page-in : {t : List ℕ} {n i : ℕ} {numbers : List ℤ} → Paging t n i numbers → i < n → InLine t n i 0 numbers
-page-in {t} {n} {i} {numbers} p h = record {
-  counted = p .counted;
-  passed = p .passed;
-  more = h;
-  reading = reading-start (pieces lineNumbers 49 i t) (8 * i) 5384 (lineAt t i) numbers (rows-sized i t) (p .kept);
-}
+pub page-start : (t : List ℕ) (n : ℕ) (numbers : List ℤ) → n ≡ lineCount t → length numbers ≡ 8 * lineCount t → Paging t n 0 numbers
+page-start t n numbers e h = record { counted = e; sized = rw e h; passed = passed-start (goodLine t) n; kept = rw pieces-none }
 
 pub page-few : (t : List ℕ) (n : ℕ) → n ≡ lineCount t → (n ≤ 673) × (49 * n ≤ length t)
 page-few t n e = rw e (omega arith, omega arith)
 
-pub page-whole : {t : List ℕ} {n i j : ℕ} {numbers : List ℤ} → InLine t n i j numbers → 49 * i + 49 ≤ length t
-page-whole {t} {n} {i} p = omega (arith, p .more, page-few t n (p .counted) .1)
+module _ {t : List ℕ} {n i : ℕ} {numbers : List ℤ} (p : Paging t n i numbers) where
+  pub page-in : i < n → InLine t n i 0 numbers
+  page-in h = record {
+    counted = p .counted;
+    passed = p .passed;
+    more = h;
+    reading = reading-start (pieces lineNumbers 49 i t) (8 * i) (8 * n) (lineAt t i) numbers (p .sized) (p .kept);
+  }
 
-pub page-field : {t : List ℕ} {n i j : ℕ} {numbers : List ℤ} (z : ℤ) → InLine t n i j numbers → j < 8
-    → fieldOf (take 6 (drop (49 * i + 6 * j) t)) ≡ some z → InLine t n i (j + 1) (set numbers (8 * i + j) z)
-page-field {t} {n} {i} {j} z p h e = record {
-  counted = p .counted;
-  passed = p .passed;
-  more = p .more;
-  reading = reading-next (p .reading) z h (omega (arith, p .more, page-few t n (p .counted) .0)) (ap fieldOf (line-field t (49 * i) j h) ∙ e);
-}
+  pub page-done : n ≤ i → (firstBad t ≡ none) × (numbers ≡ numbersOf t)
+  page-done h =
+      let e : i ≡ lineCount t = omega (arith, p .passed .within, p .counted) in
+      let w : length numbers ≤ 8 * i = omega (arith, p .sized) in
+      (rw (← (p .counted)) (passed-done (p .passed) h), sym (take-all (8 * i) numbers w) ∙ p .kept ∙ rw e)
 
-page-next : {t : List ℕ} {n i : ℕ} {numbers : List ℤ} → Passed (goodLine t) n i → n ≡ lineCount t → i < n → (zs : List ℤ)
-    → lineOf (lineAt t i) ≡ some zs → numbers ≡ (pieces lineNumbers 49 i t ++ zs) ++ replicate (5384 - (8 * i + 8)) (pos 0) → Paging t n (i + 1) numbers
-page-next {t} {n} {i} p c h zs e k =
-    let u : 8 * suc i ≡ 8 * i + 8 = omega arith in
-    record {
-      counted = c;
-      passed = passed-next p h (rw e);
-      kept = k ∙ rw (add-one, u, pieces-next lineNumbers 49 i t, e);
-    }
+module _ {t : List ℕ} {n i j : ℕ} {numbers : List ℤ} (p : InLine t n i j numbers) where
+  -- the line lies inside the text, and its numbers among those of the text
+  pub line-inside : 49 * i + 49 ≤ length t
+  line-inside = omega (arith, p .more, page-few t n (p .counted) .1)
 
-pub page-feed : {t : List ℕ} {n i j : ℕ} {numbers : List ℤ} → InLine t n i j numbers → 8 ≤ j → getD t (49 * i + 48) 0 ≡ 10 → Paging t n (i + 1) numbers
-page-feed {t} {n} {i} p h e =
-    let w : length (lineAt t i) ≡ 49 = line-whole t (49 * i) (page-whole p) in
-    page-next (p .passed) (p .counted) (p .more) (firstFields 8 (lineAt t i))
-    (reading-end (p .reading) h w (line-last t (49 * i) ∙ e)) (reading-kept (p .reading) h w)
+  pub line-room : 8 * i + 8 ≤ length numbers
+  line-room = omega (arith, p .more, p .reading .sized)
 
-left-bad : {t : List ℕ} {n i j : ℕ} {numbers : List ℤ} → InLine t n i j numbers → lineOf (lineAt t i) ≡ none → Left t n i numbers
-left-bad {t} {n} {i} p e = record {
-  bad = λ h. rw (← (p .counted)) (passed-stop (p .passed) h (rw e));
-  good = λ h. absurd (omega (arith, p .more));
-}
+  pub page-field : (z : ℤ) → j < 8 → fieldOf (take 6 (drop (49 * i + 6 * j) t)) ≡ some z → InLine t n i (j + 1) (set numbers (8 * i + j) z)
+  page-field z h e = record {
+    counted = p .counted;
+    passed = p .passed;
+    more = p .more;
+    reading = reading-next (p .reading) z h (omega (arith, p .more)) (ap fieldOf (line-field t (49 * i) j h) ∙ e);
+  }
 
-pub page-bad-field : {t : List ℕ} {n i j : ℕ} {numbers : List ℤ} → InLine t n i j numbers → j < 8
-    → fieldOf (take 6 (drop (49 * i + 6 * j) t)) ≡ none → Left t n i numbers
-page-bad-field {t} {n} {i} {j} p h e = left-bad p (reading-bad (p .reading) h (ap fieldOf (line-field t (49 * i) j h) ∙ e))
+  page-next : (zs : List ℤ) → lineOf (lineAt t i) ≡ some zs → take (8 * i + 8) numbers ≡ pieces lineNumbers 49 i t ++ zs → Paging t n (i + 1) numbers
+  page-next zs e k =
+      let u : 8 * suc i ≡ 8 * i + 8 = omega arith in
+      record {
+        counted = p .counted;
+        sized = p .reading .sized;
+        passed = passed-next (p .passed) (p .more) (rw e);
+        kept = rw (add-one, u, pieces-next lineNumbers 49 i t, e) k;
+      }
 
-pub page-bad-feed : {t : List ℕ} {n i j : ℕ} {numbers : List ℤ} → InLine t n i j numbers → 8 ≤ j → (getD t (49 * i + 48) 0 ≡ 10 → ⊥) → Left t n i numbers
-page-bad-feed {t} {n} {i} {j} p h e =
-    left-bad p (reading-no-end (p .reading) h (line-whole t (49 * i) (page-whole p)) (λ u. e (sym (line-last t (49 * i)) ∙ u)))
+  pub page-feed : 8 ≤ j → getD t (49 * i + 48) 0 ≡ 10 → Paging t n (i + 1) numbers
+  page-feed h e =
+      let w : length (lineAt t i) ≡ 49 = line-whole t (49 * i) line-inside in
+      page-next (firstFields 8 (lineAt t i)) (reading-end (p .reading) h w (line-last t (49 * i) ∙ e)) (reading-kept (p .reading) h w)
 
--- pieces of a text that is too short are no lines
-short-rows : (m : ℕ) (s : List ℕ) → length s < 49 → pieces lineNumbers 49 m s ≡ replicate (8 * m) (pos 0)
-short-rows zero s h = pieces-none lineNumbers 49 s
-short-rows (suc m) s h =
-    let e : lineOf (take 49 s) ≡ none = line-short (take 49 s) (λ l. omega (arith, l, length-take 49 s)) in
-    let d : drop 49 s ≡ [] = drop-of-length-le s {i = 49} (omega arith) in
-    let u : 8 * suc m ≡ 8 + 8 * m = omega arith in
-    rw (pieces-cons, e, d, short-rows m [] (omega arith), u) (replicate-append-replicate 8 (8 * m) (pos 0))
+  page-bad : lineOf (lineAt t i) ≡ none → firstBad t ≡ some i
+  page-bad e = rw (← (p .counted)) (passed-stop (p .passed) (p .more) (rw e))
 
-rows-rest : (t : List ℕ) (n m : ℕ) → n ≡ lineCount t → n + m ≡ 673 → pieces lineNumbers 49 m (drop (49 * n) t) ≡ replicate (8 * m) (pos 0)
-rows-rest t n zero e h = pieces-none lineNumbers 49 (drop (49 * n) t)
-rows-rest t n (suc m) e h =
-    short-rows (suc m) (drop (49 * n) t) (rw length-drop (omega arith))
+  pub page-bad-field : j < 8 → fieldOf (take 6 (drop (49 * i + 6 * j) t)) ≡ none → firstBad t ≡ some i
+  page-bad-field h e = page-bad (reading-bad (p .reading) h (ap fieldOf (line-field t (49 * i) j h) ∙ e))
 
-pub page-done : {t : List ℕ} {n i : ℕ} {numbers : List ℤ} → Paging t n i numbers → n ≤ i → Left t n i numbers
-page-done {t} {n} {i} p h =
-    let e : i ≡ n = omega (arith, p .passed .within) in
-    let c : i ≡ lineCount t = e ∙ p .counted in
-    let m : i + (673 - i) ≡ 673 = omega (arith, page-few t n (p .counted) .0) in
-    let k : 5384 - 8 * i ≡ 8 * (673 - i) = omega (arith, page-few t n (p .counted) .0) in
-    record {
-      bad = λ g. absurd (omega arith);
-      good = λ g. (
-        rw (← (p .counted)) (passed-done (p .passed) h),
-        p .kept ∙ rw (k, ← rows-rest t i (673 - i) c m, ← pieces-split lineNumbers 49 i (673 - i) t, m),
-      );
-    }
+  pub page-bad-feed : 8 ≤ j → (getD t (49 * i + 48) 0 ≡ 10 → ⊥) → firstBad t ≡ some i
+  page-bad-feed h e = page-bad (reading-no-end (p .reading) h (line-whole t (49 * i) line-inside) (λ u. e (sym (line-last t (49 * i)) ∙ u)))
+
+-- the answers of the reader
+
+pub answer-bad : (t : List ℕ) (i : ℕ) (numbers : List ℤ) → firstBad t ≡ some i → (B.FirstBad.Line i ≡ badAnswer (firstBad t)) × (firstBad t ≡ none → numbers ≡ numbersOf t)
+answer-bad t i numbers e = (rw e, λ g. let u : _≡_ {A = ℕ} 0 1 = cc in absurd (omega arith))
+
+pub answer-good : (t : List ℕ) (numbers : List ℤ) → (firstBad t ≡ none) × (numbers ≡ numbersOf t)
+    → (B.FirstBad.Nothing ≡ badAnswer (firstBad t)) × (firstBad t ≡ none → numbers ≡ numbersOf t)
+answer-good t numbers e = (rw (e .0), λ g. e .1)
+
+-- what the answer says
+pub answer-line : (o : Option ℕ) (i : ℕ) → badAnswer o ≡ B.FirstBad.Line i → o ≡ some i
+answer-line none i e = let u : _≡_ {A = ℕ} 0 1 = cc in absurd (omega arith)
+answer-line (some k) i e = cc
+
+pub answer-none : (o : Option ℕ) → badAnswer o ≡ B.FirstBad.Nothing → o ≡ none
+answer-none none e = refl
+answer-none (some k) e = let u : _≡_ {A = ℕ} 0 1 = cc in absurd (omega arith)
+
+-- zeros, and numbers put before them
+
+pub zeros-part : (k m : ℕ) → k ≤ m → k ≡ length (take {A = ℤ} k (replicate m (pos 0)))
+zeros-part k m h = sym (length-take k (replicate m (pos 0)) ∙ rw length-replicate (omega arith))
+
+drop-zeros : (k m : ℕ) → drop {A = ℤ} k (replicate m (pos 0)) ≡ replicate (m - k) (pos 0)
+drop-zeros zero m = rw sub-zero
+drop-zeros (suc k) zero = rw zero-sub
+drop-zeros (suc k) (suc m) = rw suc-sub-suc (drop-zeros k m)
+
+-- m numbers in all, the first of them those of the text
+numbers-padded : (t : List ℕ) (n m : ℕ) (numbers : List ℤ) → n ≡ lineCount t → numbers ≡ numbersOf t
+    → numbers ++ drop (8 * n) (replicate m (pos 0)) ≡ numbersOf t ++ replicate (m - length (numbersOf t)) (pos 0)
+numbers-padded t n m numbers e k = rw (drop-zeros (8 * n) m, k, numbers-sized t, e)
+
+pub page-padded : (t : List ℕ) (n : ℕ) (numbers : List ℤ) → n ≡ lineCount t → numbers ≡ numbersOf t → numbers ++ drop (8 * n) (replicate 5384 (pos 0)) ≡ padded (numbersOf t)
+page-padded t n numbers e k = numbers-padded t n 5384 numbers e k

@@ -4,13 +4,13 @@ use mathlib.Core.Path.{_≡_, refl, sym, ap, _∙_}
 use Prim.Native.Nat.{ℕ, zero, suc, _+_, _*_, _-_, _/_, _%_, _≤_, _<_, _^_}
 use native.Mathlib.Omega.{arith}
 use native.Mathlib.Numerals.{add-one}
-use native.Mathlib.Nat.{zero-add, pow-succ', sub-zero, zero-sub, suc-sub-suc}
+use native.Mathlib.Nat.{zero-add, pow-succ'}
 use mathlib.Core.Bool.{true, false}
 use mathlib.Core.List.{List, [], _∷_, _++_, append-assoc, append-nil}
 use lib.IntN.{ℤ, pos, negsuc, natAbs, _-ℤ_}
 use lib.Signed.{ltZ}
-use lib.ListN.{length, getD, take, drop, set, replicate, length-replicate, length-set, length-drop, take-append-drop, drop-of-length-le}
-use lib.Seq.{drop-cons, paste, paste-zero, paste-suc, length-paste, take-paste, drop-paste, drop-drop, take-all, drop-at}
+use lib.ListN.{length, getD, take, drop, set, replicate, getD-replicate, length-append, length-replicate, length-set, length-take, length-drop, drop-of-length-le}
+use lib.Seq.{drop-cons, paste, paste-zero, paste-suc, length-paste, take-paste, drop-paste, drop-drop, take-all, take-at, drop-at, set-append-left, set-split, append-snoc}
 use borrow.Author.Tests.{ltb-true, ltb-false, lt-ltb, le-ltb, le-leb, lt-leb}
 use Rattle.lines.specs.Field.{inField, decimalText, fieldText}
 use Rattle.lines.specs.FieldLaws.{text-last, text-more, text-width, field-text, field-text-length, signed-pos, signed-negsuc}
@@ -96,6 +96,10 @@ module _ {a₀ : List ℕ} {at : ℕ} {s : List ℕ} {count i : ℕ} {a : List �
 
   pub copied-done : count ≤ i → a ≡ paste a₀ at s count
   copied-done h = let e : i ≡ count = omega (arith, c .few) in c .is ∙ rw e
+
+-- spaces, copied from six of them
+pub spaces-next : {a₀ : List ℕ} {at i : ℕ} {a : List ℕ} → Copied a₀ at (replicate 6 32) 6 i a → i < 6 → Copied a₀ at (replicate 6 32) 6 (i + 1) (set a (at + i) 32)
+spaces-next {i = i} c h = rw (getD-replicate {A = ℕ} 6 i 32 0 h) at (copied-next c h)
 
 -- digits written from the last
 
@@ -183,45 +187,117 @@ pub filled-minus-field : {m₀ : ℕ} {cs : List ℕ} {m k : ℕ} → Filling m�
 filled-minus-field f h (pos n) e r g = absurd (omega (arith, ltb-true n 0 g))
 filled-minus-field f h (negsuc n) e r g = filled-minus f h n e (omega (arith, ltb-true n 99999 r))
 
+-- a field written into a part
+
+set-behind : (p cs : List ℕ) (k x : ℕ) → set (p ++ cs) (length p + k) x ≡ p ++ set cs k x
+set-behind [] cs k x = rw zero-add
+set-behind (y ∷ p) cs k x = let e : suc (length p) + k ≡ suc (length p + k) = omega arith in rw e (ap (λ (l : List ℕ). y ∷ l) (set-behind p cs k x))
+
+-- a store to one of six characters that stand in a part
+set-paste : (a : List ℕ) (at : ℕ) (cs : List ℕ) (k x : ℕ) → at ≤ length a → length cs ≡ 6 → k < 6 → set (paste a at cs 6) (at + k) x ≡ paste a at (set cs k x) 6
+set-paste a at cs k x h six l =
+    let p : length (take at a) ≡ at = rw length-take (omega arith) in
+    let w : at + k < length (take at a ++ cs) = rw (length-append, p) (omega arith) in
+    let s : set (take at a ++ cs) (at + k) x ≡ take at a ++ set cs k x = rw p at (set-behind (take at a) cs k x) in
+    rw (take-all 6 cs (omega arith), take-all 6 (set cs k x) (rw length-set (omega arith)), set-append-left (take at a ++ cs) (drop (at + 6) a) (at + k) x w, s)
+
+-- six characters written over six others
+pub paste-over : (a : List ℕ) (at : ℕ) (s t b : List ℕ) → at + 6 ≤ length a → length s ≡ 6 → b ≡ paste a at s 6 → paste b at t 6 ≡ paste a at t 6
+paste-over a at s t b h six e =
+    let p : length (take at a) ≡ at = rw length-take (omega arith) in
+    let f : take at b ≡ take at a = ap (take at) e ∙ rw append-assoc (take-at (take at a) (take 6 s ++ drop (at + 6) a) at p) in
+    let g : drop (at + 6) b ≡ drop (at + 6) a = ap (drop (at + 6)) e ∙ drop-paste a at s 6 (omega arith) (omega arith) in
+    rw (f, g)
+
+-- six characters stand in a from `at` on, all other places are as in a₀; m, and the digits behind place k, are the digits of m₀
+pub record Writing (a₀ : List ℕ) (at m₀ : ℕ) (a : List ℕ) (m k : ℕ) : Type 0 where
+  pub chars : List ℕ
+  pub room : at + 6 ≤ length a₀
+  pub filling : Filling m₀ chars m k
+  pub is : a ≡ paste a₀ at chars 6
+
+pub writing-start : (a : List ℕ) (at : ℕ) (b : List ℕ) (m : ℕ) → at + 6 ≤ length a → b ≡ paste a at (replicate 6 32) 6 → m < 1000000 → Writing b at m b m 5
+writing-start a at b m h e s = record {
+  chars = replicate 6 32;
+  room = rw (ap length e ∙ length-paste a at (replicate 6 32) 6 h (omega arith)) h;
+  filling = filling-start m s;
+  is = e ∙ sym (paste-over a at (replicate 6 32) (replicate 6 32) b h refl e);
+}
+
+module _ {a₀ : List ℕ} {at m₀ : ℕ} {a : List ℕ} {m k : ℕ} (w : Writing a₀ at m₀ a m k) where
+  writing-set : (x : ℕ) → set a (at + k) x ≡ paste a₀ at (set (w .chars) k x) 6
+  writing-set x = rw (w .is) (set-paste a₀ at (w .chars) k x (omega (arith, w .room)) (w .filling .sized) (omega (arith, w .filling .room)))
+
+  pub writing-room : k ≤ 5
+  writing-room = w .filling .room
+
+  pub writing-length : length a ≡ length a₀
+  writing-length = ap length (w .is) ∙ length-paste a₀ at (w .chars) 6 (w .room) (omega (arith, w .filling .sized))
+
+  pub writing-more : 10 ≤ m → 1 ≤ k
+  writing-more h = filling-more (w .filling) h
+
+  pub writing-next : 10 ≤ m → Writing a₀ at m₀ (set a (at + k) (48 + m % 10)) (m / 10) (k - 1)
+  writing-next h = record {
+    chars = set (w .chars) k (48 + m % 10);
+    room = w .room;
+    filling = filling-next (w .filling) h;
+    is = writing-set (48 + m % 10);
+  }
+
+  pub writing-minus-room : m < 10 → m₀ < 100000 → 1 ≤ k
+  writing-minus-room h l = room-minus (w .filling) h l
+
+  pub writing-plus : m < 10 → (z : ℤ) → m₀ ≡ natAbs z → ltZ z (pos 0) ≡ false → set a (at + k) (48 + m) ≡ paste a₀ at (fieldText z) 6
+  writing-plus h z e g = writing-set (48 + m) ∙ rw (filled-field (w .filling) h z e g)
+
+  pub writing-minus : m < 10 → (z : ℤ) → m₀ ≡ natAbs z → inField z ≡ true → ltZ z (pos 0) ≡ true
+      → set (set a (at + k) (48 + m)) (at + (k - 1)) 45 ≡ paste a₀ at (fieldText z) 6
+  writing-minus h z e r g =
+      let s : length (set (w .chars) k (48 + m)) ≡ 6 = length-set (w .chars) k (48 + m) ∙ w .filling .sized in
+      rw (writing-set (48 + m))
+      (set-paste a₀ at (set (w .chars) k (48 + m)) (k - 1) 45 (omega (arith, w .room)) s (omega (arith, w .filling .room))
+      ∙ rw (filled-minus-field (w .filling) h z e r g))
+
 -- fields written from the first
 
--- before place 6 i stand the fields of the first i numbers, behind it line feeds
-pub record Lining (zs : List ℤ) (i : ℕ) (line : List ℕ) : Type 0 where
+-- before place 6 i stand the fields of the first i numbers, the places behind are as in a₀
+pub record Lining (a₀ : List ℕ) (zs : List ℤ) (i : ℕ) (a : List ℕ) : Type 0 where
   pub few : i ≤ 8
   pub numbers : length zs ≡ 8
-  pub sized : length line ≡ 49
-  pub feeds : drop (6 * i) line ≡ replicate (49 - 6 * i) 10
-  pub left : lineText zs ≡ take (6 * i) line ++ lineText (drop i zs)
+  pub room : 49 ≤ length a₀
+  pub sized : length a ≡ length a₀
+  pub rest : drop (6 * i) a ≡ drop (6 * i) a₀
+  pub left : lineText zs ≡ take (6 * i) a ++ lineText (drop i zs)
 
-pub lining-start : (zs : List ℤ) → length zs ≡ 8 → Lining zs 0 (replicate 49 10)
-lining-start zs e = record { few = omega arith; numbers = e; sized = refl; feeds = refl; left = refl }
+pub lining-start : (a₀ : List ℕ) (zs : List ℤ) → length zs ≡ 8 → 49 ≤ length a₀ → Lining a₀ zs 0 a₀
+lining-start a₀ zs e h = record { few = omega arith; numbers = e; room = h; sized = refl; rest = refl; left = refl }
 
-drop-replicate : (k n : ℕ) → drop {A = ℕ} k (replicate n 10) ≡ replicate (n - k) 10
-drop-replicate zero n = rw sub-zero
-drop-replicate (suc k) zero = rw zero-sub
-drop-replicate (suc k) (suc n) = rw suc-sub-suc (drop-replicate k n)
-
-pub lining-next : {zs : List ℤ} {i : ℕ} {line : List ℕ} (cs : List ℕ) → Lining zs i line → i < 8 → inField (getD zs i (pos 0)) ≡ true
-    → cs ≡ fieldText (getD zs i (pos 0)) → Lining zs (i + 1) (paste line (6 * i) cs 6)
-lining-next {zs} {i} {line} cs l h g e =
-    let six : length cs ≡ 6 = ap length e ∙ field-text-length (getD zs i (pos 0)) g in
+pub lining-next : {a₀ : List ℕ} {zs : List ℤ} {i : ℕ} {a : List ℕ} → Lining a₀ zs i a → i < 8 → inField (getD zs i (pos 0)) ≡ true
+    → Lining a₀ zs (i + 1) (paste a (6 * i) (fieldText (getD zs i (pos 0))) 6)
+lining-next {a₀} {zs} {i} {a} l h g =
+    let cs : List ℕ = fieldText (getD zs i (pos 0)) in
+    let six : length cs ≡ 6 = field-text-length (getD zs i (pos 0)) g in
     let u : 6 * suc i ≡ 6 * i + 6 = omega arith in
-    let v : 49 - 6 * i - 6 ≡ 49 - (6 * i + 6) = omega arith in
-    let s : 6 * i + 6 ≤ length line = omega (arith, l .sized) in
+    let s : 6 * i + 6 ≤ length a = omega (arith, l .sized, l .room) in
     rw add-one (record {
       few = h;
       numbers = l .numbers;
-      sized = length-paste line (6 * i) cs 6 s (omega arith) ∙ l .sized;
-      feeds = rw (u, drop-paste line (6 * i) cs 6 (omega arith) (omega arith), ← drop-drop, l .feeds, drop-replicate, v);
-      left = l .left ∙ rw (u, take-paste line (6 * i) cs 6 (omega arith) (omega arith), take-all 6 cs (omega arith), drop-cons zs i (pos 0) (omega (arith, l .numbers)), text-cons, e, append-assoc);
+      room = l .room;
+      sized = length-paste a (6 * i) cs 6 s (omega arith) ∙ l .sized;
+      rest = rw (u, drop-paste a (6 * i) cs 6 (omega arith) (omega arith), ← drop-drop 6 (6 * i) a, l .rest, drop-drop);
+      left = l .left ∙ rw (u, take-paste a (6 * i) cs 6 (omega arith) (omega arith), take-all 6 cs (omega arith), drop-cons zs i (pos 0) (omega (arith, l .numbers)), text-cons, append-assoc);
     })
 
-pub lining-done : {zs : List ℤ} {i : ℕ} {line : List ℕ} → Lining zs i line → 8 ≤ i → line ≡ lineText zs
-lining-done {zs} {i} {line} l h =
+pub lining-done : {a₀ : List ℕ} {zs : List ℤ} {i : ℕ} {a : List ℕ} → Lining a₀ zs i a → 8 ≤ i → allInField zs ≡ true → set a 48 10 ≡ paste a₀ 0 (lineText zs) 49
+lining-done {a₀} {zs} {i} {a} l h g =
     let e : i ≡ 8 = omega (arith, l .few) in
     let d : drop i zs ≡ [] = drop-of-length-le zs {i = i} (omega (arith, l .numbers)) in
-    let f : drop (6 * i) line ≡ 10 ∷ [] = l .feeds ∙ rw e in
-    sym (take-append-drop (6 * i) line) ∙ rw f (sym (l .left ∙ rw (d, text-end)))
+    let n : length (lineText zs) ≡ 49 = line-text-length zs g ∙ rw (l .numbers) in
+    let t : lineText zs ≡ take 48 a ++ 10 ∷ [] = l .left ∙ rw (d, text-end, e) in
+    let r : drop 48 a ≡ drop 48 a₀ = rw e at (l .rest) in
+    let q : drop 49 a ≡ drop 49 a₀ = sym (drop-drop 1 48 a) ∙ ap (drop 1) r ∙ drop-drop 1 48 a₀ in
+    set-split a 48 10 (omega (arith, l .sized, l .room)) ∙ rw (take-all 49 (lineText zs) (omega arith), t, append-snoc, q)
 
 -- the answers of the printer
 

@@ -1,15 +1,15 @@
 // A line of a table text: eight fields of six characters and a line feed, read and printed.
 ghost use mathlib.Core.Path.{_≡_};
-ghost use Prim.Native.Nat.{_+_, _≤_, _<_};
+ghost use Prim.Native.Nat.{_+_, _*_, _≤_, _<_};
 ghost use mathlib.Core.Bool.{true};
-ghost use mathlib.Core.List.{_++_};
+ghost use mathlib.Core.Option.{none};
 ghost use lib.IntN.{natAbs};
-ghost use lib.ListN.{length, take, drop};
+ghost use lib.ListN.{length, take, drop, replicate};
 ghost use lib.Seq.{paste};
 ghost use Rattle.lines.specs.Field.{fieldOf, decimalOf, digitsFrom, fieldAnswer, decimalAnswer, fieldAt, inField, fieldText};
 ghost use Rattle.lines.specs.FieldLoops.{PastSpaces};
 ghost use Rattle.lines.specs.Print.{printAnswer, printedAt};
-ghost use Rattle.lines.specs.Line.{allInField, lineText, lineOf, lineCount, lineAnswer, pageOf};
+ghost use Rattle.lines.specs.Line.{allInField, lineText, lineOf, lineCount, firstBad, numbersOf, lineAnswer, badAnswer, pageOf};
 
 // What six characters say: a number, or nothing.
 pub enum Field {
@@ -179,7 +179,7 @@ pub fn read_line(text: &[u8], at: usize) -> Line
 }
 
 // How many whole lines a text has, 673 at most.
-fn line_count(text: &[u8]) -> usize
+pub fn line_count(text: &[u8]) -> usize
     ensures { λ r. ⌜ r ≡ lineCount (now (text .entry)) ⌝ }
 {
     let n = text.len() / 49;
@@ -189,36 +189,47 @@ fn line_count(text: &[u8]) -> usize
     n
 }
 
-// The numbers of a text's lines, and the first line that is none. Looks at whole lines, 673 at most.
-pub fn read_page(text: &[u8]) -> Page
-    ensures { λ r. ⌜ r ≡ pageOf (now (text .entry)) ⌝ }
+// Reads the numbers of a text's lines, 673 at most, into `numbers`, eight a line; the first line that is none, if there is one.
+pub fn read_numbers(text: &[u8], numbers: &mut [i32]) -> FirstBad
+    requires { ⌜ length (now numbers) ≡ 8 * lineCount (now text) ⌝ }
+    ensures found { λ r. ⌜ r ≡ badAnswer (firstBad (now (text .entry))) ⌝ }
+    ensures numbers { λ _. ⌜ (firstBad (now (text .entry)) ≡ none → now (numbers .exit) ≡ numbersOf (now (text .entry))) ⌝ }
 {
     let lines = line_count(text);
-    let mut numbers = [0i32; 5384];
     let mut i = 0;
-    'lines: while i < lines {
+    while i < lines {
         let mut j = 0;
         while j < 8 {
             let Field::Number(z) = read_field(text, 49 * i + 6 * j) else {
-                break 'lines;
+                return FirstBad::Line(i);
             };
             numbers[8 * i + j] = z;
             j += 1;
         }
         if text[49 * i + 48] != b'\n' {
-            break 'lines;
+            return FirstBad::Line(i);
         }
         i += 1;
     }
-    if i < lines {
-        return Page {
+    FirstBad::Nothing
+}
+
+// The numbers of a text's lines, and the first line that is none. Looks at whole lines, 673 at most.
+pub fn read_page(text: &[u8]) -> Page
+    ensures { λ r. ⌜ r ≡ pageOf (now (text .entry)) ⌝ }
+{
+    let mut numbers = [0i32; 5384];
+    let count = 8 * line_count(text);
+    let first_bad = read_numbers(text, &mut numbers[..count]);
+    match first_bad {
+        FirstBad::Line(i) => Page {
             first_bad: FirstBad::Line(i),
             numbers: [0; 5384],
-        };
-    }
-    Page {
-        first_bad: FirstBad::Nothing,
-        numbers,
+        },
+        FirstBad::Nothing => Page {
+            first_bad: FirstBad::Nothing,
+            numbers,
+        },
     }
 }
 
@@ -260,62 +271,48 @@ fn magnitude(n: i32) -> u32
     n as u32
 }
 
-// The six characters of a number.
-fn field_chars(n: i32) -> [u8; 6]
-    requires { ⌜ inField n ≡ true ⌝ }
-    ensures { λ r. ⌜ r ≡ fieldText n ⌝ }
-{
-    let mut cs = [b' '; 6];
-    let mut m = magnitude(n);
-    let mut k: usize = 5;
-    while 10 <= m {
-        cs[k] = b'0' + (m % 10) as u8;
-        m = m / 10;
-        k -= 1;
-    }
-    cs[k] = b'0' + m as u8;
-    if n < 0 {
-        cs[k - 1] = b'-';
-    }
-    cs
-}
-
-// Puts six characters into a line from a place on; all other places stay.
-fn put_field(line: &mut [u8; 49], at: usize, cs: [u8; 6])
-    requires { ⌜ (length (now line) ≡ 49) × (at + 6 ≤ 49) ⌝ }
-    ensures { λ _. ⌜ now (line .exit) ≡ paste (now (line .entry)) at cs 6 ⌝ }
+// Writes six spaces to a place; all other places stay.
+fn put_spaces(part: &mut [u8], at: usize)
+    requires { ⌜ at + 6 ≤ length (now part) ⌝ }
+    ensures { λ _. ⌜ now (part .exit) ≡ paste (now (part .entry)) at (replicate 6 32) 6 ⌝ }
 {
     let mut i = 0;
     while i < 6 {
-        line[at + i] = cs[i];
+        part[at + i] = b' ';
         i += 1;
     }
 }
 
-// The 49 bytes of eight numbers.
-fn line_chars(numbers: [i32; 8]) -> [u8; 49]
-    requires { ⌜ allInField numbers ≡ true ⌝ }
-    ensures { λ r. ⌜ r ≡ lineText numbers ⌝ }
+// Writes the six characters of a number to a place; all other places stay.
+fn put_number(part: &mut [u8], at: usize, n: i32)
+    requires { ⌜ (inField n ≡ true) × (at + 6 ≤ length (now part)) ⌝ }
+    ensures { λ _. ⌜ now (part .exit) ≡ paste (now (part .entry)) at (fieldText n) 6 ⌝ }
 {
-    let mut line = [b'\n'; 49];
+    put_spaces(part, at);
+    let mut m = magnitude(n);
+    let mut k: usize = 5;
+    while 10 <= m {
+        part[at + k] = b'0' + (m % 10) as u8;
+        m = m / 10;
+        k -= 1;
+    }
+    part[at + k] = b'0' + m as u8;
+    if n < 0 {
+        part[at + (k - 1)] = b'-';
+    }
+}
+
+// Writes the line of eight numbers to the start of a part; the places behind it stay.
+fn put_line(part: &mut [u8], numbers: [i32; 8])
+    requires { ⌜ (allInField numbers ≡ true) × (49 ≤ length (now part)) ⌝ }
+    ensures { λ _. ⌜ now (part .exit) ≡ paste (now (part .entry)) 0 (lineText numbers) 49 ⌝ }
+{
     let mut i = 0;
     while i < 8 {
-        put_field(&mut line, 6 * i, field_chars(numbers[i]));
+        put_number(part, 6 * i, numbers[i]);
         i += 1;
     }
-    line
-}
-
-// Writes a line to the start of a part; the places behind it stay.
-fn put_line(part: &mut [u8], line: [u8; 49])
-    requires { ⌜ 49 ≤ length (now part) ⌝ }
-    ensures { λ _. ⌜ now (part .exit) ≡ paste (now (part .entry)) 0 line 49 ⌝ }
-{
-    let mut i = 0;
-    while i < 49 {
-        part[i] = line[i];
-        i += 1;
-    }
+    part[48] = b'\n';
 }
 
 // Prints eight numbers as a line into `out` from `at` on; the other places keep their contents. Where a number is out of range the
@@ -333,6 +330,6 @@ pub fn print_line(out: &mut [u8], at: usize, numbers: [i32; 8]) -> Printed
     if out.len() - 49 < at {
         return Printed::NoRoom;
     }
-    put_line(&mut out[at..], line_chars(numbers));
+    put_line(&mut out[at..], numbers);
     Printed::Whole
 }

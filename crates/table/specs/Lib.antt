@@ -1,5 +1,6 @@
 pub mod Tabulate
 pub mod TabulateLaws
+pub mod CutLaws
 pub mod Entry
 pub mod Until
 pub mod UntilLaws

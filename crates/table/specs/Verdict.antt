@@ -7,7 +7,7 @@ use mathlib.Core.Bool.{Bool, cond, _&&_}
 use lib.ListN.{length, replicate}
 use lib.Dec.{eqb, leb, ltb}
 use lib.IntN.{ℤ, pos}
-use Rattle.lines.specs.Line.{firstBad, numbersOf}
+use Rattle.lines.specs.Line.{firstBad, numbersOf, padded}
 use Rattle.table.specs.Until.{until}
 use Rattle.table.specs.Header.{headerOk, lengthOk, leadingOk, handles, routines, handleLine, routineLine, statementLine, statements}
 use Rattle.table.specs.Handles.{handleOk}
@@ -70,9 +70,9 @@ verdict text =
     let next = unlessBad (firstBad text) later in
     cond (textOk (length text)) next (Refused 1 0)
 
--- the numbers that go with a verdict: those of the text if it is accepted, else zeros
+-- the numbers that go with a verdict: those of the text if it is accepted, zeros behind them, else zeros
 abbrev pub numbersFor : Verdict → List ℤ → List ℤ
-numbersFor Accepted numbers = numbers
+numbersFor Accepted numbers = padded numbers
 numbersFor (Refused number line) numbers = replicate 5384 (pos 0)
 
 -- the reading of a refused text

@@ -1,15 +1,15 @@
 -- The answer of `read`, by what its steps find; and what the verdict "accepted" says of each check. Assumes nothing.
-use mathlib.Core.Path.{_≡_, refl, sym, ap, _∙_}
+use mathlib.Core.Path.{_≡_, sym, _∙_}
 use mathlib.Core.List.{List}
-use mathlib.Core.Option.{Option, none, some}
-use mathlib.Core.Bool.{Bool, true, false, cond}
+use mathlib.Core.Option.{none, some}
+use mathlib.Core.Bool.{true, false}
 use Prim.Native.Nat.{ℕ, _/_}
 use native.Mathlib.Omega.{arith}
-use lib.ListN.{length, replicate}
-use lib.IntN.{ℤ, pos}
-use Rattle.lines.specs.Line.{firstBad, numbersOf, pageOf, pageAnswer}
-use Rattle.lines.specs.declared.FirstBad as B
-use Rattle.table.specs.Verdict.{verdict, numbersVerdict, textOk, unlessBad, numbersFor, turnedDown, readingOf}
+use lib.ListN.{length}
+use lib.IntN.{ℤ}
+use Rattle.lines.specs.Line.{firstBad, numbersOf, padded}
+use Rattle.table.specs.Verdict.{verdict, numbersVerdict, textOk, turnedDown, readingOf}
+use Rattle.table.specs.declared.Verdict.{Verdict}
 use Rattle.table.specs.declared.Verdict.the-variants.{Accepted, Refused}
 use Rattle.table.specs.declared.Reading.{Reading}
 
@@ -18,7 +18,7 @@ pub reading-refused : (text : List ℕ) (number line : ℕ) → verdict text ≡
 unfolding readingOf
 reading-refused text number line e = rw e
 
-pub reading-accepted : (text : List ℕ) → verdict text ≡ Accepted → _≡_ {A = Reading} (record { verdict = Accepted; numbers = numbersOf text }) (readingOf text)
+pub reading-accepted : (text : List ℕ) → verdict text ≡ Accepted → _≡_ {A = Reading} (record { verdict = Accepted; numbers = padded (numbersOf text) }) (readingOf text)
 unfolding readingOf
 reading-accepted text e = rw e
 
@@ -36,21 +36,12 @@ pub by-numbers : (text : List ℕ) → textOk (length text) ≡ true → firstBa
 unfolding verdict
 by-numbers text e b = rw (e, b)
 
--- ---- what a page says of its first bad line
+-- ---- what `read_into` answers
 
-pub page-line : (text : List ℕ) (i : ℕ) → pageOf text .«first_bad» ≡ B.FirstBad.Line i → firstBad text ≡ some i
-page-line text i e = go (firstBad text) e
-  where
-    go : (b : Option ℕ) → pageAnswer b (numbersOf text) .«first_bad» ≡ B.FirstBad.Line i → b ≡ some i
-    go none e = let z : _≡_ {A = ℕ} 0 1 = cc in absurd (omega arith)
-    go (some k) e = cc
+pub into-refused : (text : List ℕ) (numbers : List ℤ) (number line : ℕ) → verdict text ≡ Refused number line
+    → (Refused number line ≡ verdict text) × (Refused number line ≡ Accepted → numbers ≡ numbersOf text)
+into-refused text numbers number line e = (sym e, λ h. let z : _≡_ {A = ℕ} 0 1 = cc in absurd (omega arith))
 
-pub page-none : (text : List ℕ) → pageOf text .«first_bad» ≡ B.FirstBad.Nothing → firstBad text ≡ none
-page-none text e = go (firstBad text) e
-  where
-    go : (b : Option ℕ) → pageAnswer b (numbersOf text) .«first_bad» ≡ B.FirstBad.Nothing → b ≡ none
-    go none e = refl
-    go (some k) e = let z : _≡_ {A = ℕ} 0 1 = cc in absurd (omega arith)
-
-pub page-numbers : (text : List ℕ) → firstBad text ≡ none → pageOf text .numbers ≡ numbersOf text
-page-numbers text e = rw e
+pub into-numbers : (text : List ℕ) (numbers : List ℤ) (v : Verdict) → textOk (length text) ≡ true → firstBad text ≡ none → numbers ≡ numbersOf text
+    → v ≡ numbersVerdict numbers (length text / 49) → (v ≡ verdict text) × (v ≡ Accepted → numbers ≡ numbersOf text)
+into-numbers text numbers v e b n h = (h ∙ rw n (sym (by-numbers text e b)), λ a. n)

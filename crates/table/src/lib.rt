@@ -8,12 +8,14 @@ mod routines;
 mod statements;
 
 ghost use mathlib.Core.Path.{_≡_};
-ghost use Prim.Native.Nat.{_<_, _^_};
+ghost use Prim.Native.Nat.{_*_, _<_, _^_};
+ghost use lib.ListN.{length};
+ghost use Rattle.lines.specs.Line.{lineCount, numbersOf};
 ghost use Rattle.table.specs.Tabulate.{tabulate};
 ghost use Rattle.table.specs.Fields.{field};
 ghost use Rattle.table.specs.Handles.{handlesFrom, parameters};
 ghost use Rattle.table.specs.Routines.{firstOf};
-ghost use Rattle.table.specs.Verdict.{readingOf, turnedDown};
+ghost use Rattle.table.specs.Verdict.{verdict, readingOf, turnedDown};
 ghost use Rattle.table.specs.Table.{countsOf, declarationOf, argumentsIn, statementIn, statementOf};
 use lines::FirstBad;
 
@@ -108,28 +110,33 @@ fn refused(number: u32, line: usize) -> Reading
     }
 }
 
+// The verdict on a text; where it is accepted, its numbers stand in `numbers`.
+pub fn read_into(text: &[u8], numbers: &mut [i32]) -> Verdict
+    requires { ⌜ length (now numbers) ≡ 8 * lineCount (now text) ⌝ }
+    ensures verdict { λ v. ⌜ v ≡ verdict (now (text .entry)) ⌝ }
+    ensures numbers { λ v. ⌜ (v ≡ Verdict.Accepted → now (numbers .exit) ≡ numbersOf (now (text .entry))) ⌝ }
+{
+    if !checks::text_ok(text.len()) {
+        return Verdict::Refused { number: 1, line: 0 };
+    }
+    match lines::read_numbers(text, numbers) {
+        FirstBad::Line(i) => Verdict::Refused { number: 2, line: i },
+        FirstBad::Nothing => checks::numbers_verdict(numbers, text.len() / 49),
+    }
+}
+
 // The table of a text, or the first refusal: its verdict and its numbers, for every text.
 pub fn read(text: &[u8]) -> Reading
     ensures { λ r. ⌜ r ≡ readingOf (now (text .entry)) ⌝ }
 {
-    if !checks::text_ok(text.len()) {
-        return refused(1, 0);
-    }
-    let page = lines::read_page(text);
-    let first_bad = page.first_bad;
-    match first_bad {
-        FirstBad::Line(i) => refused(2, i),
-        FirstBad::Nothing => {
-            let numbers = page.numbers;
-            let verdict = checks::numbers_verdict(&numbers[..], text.len() / 49);
-            match verdict {
-                Verdict::Accepted => Reading {
-                    verdict: Verdict::Accepted,
-                    numbers,
-                },
-                Verdict::Refused { number, line } => refused(number, line),
-            }
-        }
+    let mut numbers = [0i32; 5384];
+    let count = 8 * lines::line_count(text);
+    match read_into(text, &mut numbers[..count]) {
+        Verdict::Accepted => Reading {
+            verdict: Verdict::Accepted,
+            numbers,
+        },
+        Verdict::Refused { number, line } => refused(number, line),
     }
 }
 

@@ -5,7 +5,7 @@ use mathlib.Core.Path.{_≡_, sym, _∙_}
 use mathlib.Core.Bool.{true}
 use denote.Ref.{now}
 use borrow.Author.Tests.{not-true, not-false}
-use Rattle.lines.specs.Line.{allInField, lineText}
+use Rattle.lines.specs.Line.{allInField}
 use Rattle.lines.specs.PrintLoops.{printed-no-field, printed-no-room, printed-whole}
 use borrow.Author.Needs.{needs}
 use Rattle.lines.proofs.print_line.Statement.{statement}
@@ -38,20 +38,16 @@ part-put-line-start c = search needs
 part-put-line-end : tie.Need-part-put-line-end
 part-put-line-end c = search needs
 
-line-chars-requires : tie.Need-line-chars-requires
-line-chars-requires c κs = good (c .before .before .before)
-
 put-line-requires : tie.Need-put-line-requires
-put-line-requires c κs = search needs
+put-line-requires c κs = (good (c .before .before .before), search needs)
 
 same-length : tie.Need-same-length
 same-length c = search needs
 
 returns-4 : tie.Need-returns-4
 returns-4 c =
-    let l : c .before .before .before .line-chars .result ≡ lineText (c .before .before .before .before .before .before .before .before .before .before .args .numbers) = c .before .before .before .line-chars .ensures in
-    rw (c .before .before .put-line .ensures, l)
-    (printed-whole (now (c .before .before .before .before .before .before .before .before .before .before .args .out)) (c .before .before .before .before .before .before .before .before .before .before .args .at) (c .before .before .before .before .before .before .before .before .before .before .args .numbers) (good (c .before .before .before .before .before .before .before)) (search needs) (omega arith))
+    rw (c .before .before .put-line .ensures)
+    (printed-whole (now (c .before .before .before .before .before .before .before .before .before .args .out)) (c .before .before .before .before .before .before .before .before .before .args .at) (c .before .before .before .before .before .before .before .before .before .args .numbers) (good (c .before .before .before .before .before .before)) (search needs) (omega arith))
 
 pub print-line-spec : {M : Type 1} → statement M
 print-line-spec =
@@ -65,7 +61,6 @@ print-line-spec =
     sub-put-line
     part-put-line-start
     part-put-line-end
-    line-chars-requires
     put-line-requires
     same-length
     returns-4)

@@ -2,9 +2,10 @@
 use borrow.Author.Needs.{needs}
 use native.Mathlib.Omega.{arith}
 use mathlib.Core.Path.{_≡_, refl, ap, sym, _∙_}
-use mathlib.Core.List.{[], append-nil}
-use Prim.Native.Nat.{_-_}
+use mathlib.Core.List.{[]}
+use Prim.Native.Nat.{_-_, _≤_}
 use lib.ListN.{length, take, drop, length-take, length-drop}
+use lib.Seq.{take-all}
 use denote.Ref.{now}
 use mir.Syntax.{w32}
 use mir.Facts.{toZ-ofZ}
@@ -93,7 +94,9 @@ returns-5 c =
     let w = whole (c .before .before .before .before) in
     let k = reading-kept (c .before .before .before .loop .inv) (c .before .before .loop-test .left) w in
     let e = reading-end (c .before .before .before .loop .inv) (c .before .before .loop-test .left) w (line-last (now (c .before .before .before .before .before .before .before .args .text)) (c .before .before .before .before .before .before .before .args .at) ∙ c .if3 .left) in
-    rw (k, append-nil) (ap lineAnswer (sym e))
+    let l : length (c .before .before .before .loop .numbers) ≤ 8 = omega (arith, c .before .before .before .loop .inv .sized) in
+    let n = sym (take-all 8 (c .before .before .before .loop .numbers) l) ∙ k in
+    rw n (ap lineAnswer (sym e))
 
 pub read-line-spec : {M : Type 1} → statement M
 read-line-spec =

@@ -1,113 +1,66 @@
-use Prim.Native.Nat.{_/_}
-use lib.ListN.{length}
-use Rattle.table.specs.Verdict.{numbersVerdict}
--- `table::read` meets its contract. Assumes nothing.
-use borrow.Author.Tests.{not-true, not-false}
-use mathlib.Core.Path.{sym, ap, _∙_}
+-- `table::read` meets its contract: the numbers of the text before zeros. Assumes nothing.
+use native.Mathlib.Omega.{arith}
+use mathlib.Core.Path.{ap, sym, _∙_}
+use mathlib.Core.List.{List}
+use Prim.Native.Nat.{ℕ, _*_, _≤_}
+use lib.IntN.{ℤ}
 use denote.Ref.{now}
-use Rattle.table.specs.VerdictLaws.{reading-refused, reading-accepted, bad-length, bad-line, by-numbers, page-line, page-none, page-numbers}
+use Rattle.lines.specs.LineLoops.{zeros-part, page-few, page-padded}
+use Rattle.table.specs.VerdictLaws.{reading-refused, reading-accepted}
+use Rattle.table.specs.declared.Verdict as Declared
+use Rattle.table.specs.declared.Reading.{Reading}
 use borrow.Author.Needs.{needs}
 use Rattle.table.proofs.read.Statement.{statement}
 use Rattle.table.proofs.read.Tie as tie
-use Rattle.table.proofs.read.Reads as reads
-use Rattle.table.proofs.read.Lts as lts
-use Rattle.lines.proofs.read_page.Reads as read-page-reads
-use Rattle.table.proofs.checks.numbers_verdict.Reads as numbers-verdict-reads
-use Rattle.table.proofs.checks.text_ok.Reads as text-ok-reads
-use Rattle.table.proofs.refused.Reads as refused-reads
 
--- src/lib.rt:100:9
-text-ok-requires : tie.Need-text-ok-requires
-text-ok-requires c κs = search needs
+line-count-requires : tie.Need-line-count-requires
+line-count-requires c κs = search needs
 
--- src/lib.rt:101:9
-refused-requires : tie.Need-refused-requires
-refused-requires c κs = search needs
+mul-count : tie.Need-mul-count
+mul-count c = search needs
 
--- src/lib.rt:101:9
-returns : tie.Need-returns
-returns c = c .refused .ensures ∙ reading-refused _ 1 0 (bad-length _ (sym (c .before .before .text-ok .ensures) ∙ not-true _ (c .before .if1 .taken)))
+array-borrow-prefix-numbers : tie.Need-array-borrow-prefix-numbers
+array-borrow-prefix-numbers c = search needs
 
--- src/lib.rt:103:9
-read-page-requires : tie.Need-read-page-requires
-read-page-requires c κs = search needs
+-- the numbers of the text are 5384 at most
+few : (c : tie.After-line-count) → 8 * c .line-count .result ≤ 5384
+few c = omega (arith, page-few (now (c .before .before .args .text)) (c .line-count .result) (c .line-count .ensures) .0)
 
--- src/lib.rt:106:24
-enum-known-first-bad : tie.Need-enum-known-first-bad
-enum-known-first-bad c = search needs
+slice-aggregate-read-into : tie.Need-slice-aggregate-read-into
+slice-aggregate-read-into c = zeros-part (8 * c .before .line-count .result) 5384 (few (c .before))
 
--- src/lib.rt:106:30
-refused-requires-2 : tie.Need-refused-requires-2
-refused-requires-2 c κs = search needs
+read-into-requires : tie.Need-read-into-requires
+read-into-requires c κs = sym (zeros-part (8 * c .before .line-count .result) 5384 (few (c .before))) ∙ ap (λ (n : ℕ). 8 * n) (c .before .line-count .ensures)
 
--- src/lib.rt:108:17
 enum-told : tie.Need-enum-told
 enum-told c = search needs
 
--- src/lib.rt:109:51
-slice-aggregate-numbers-verdict : tie.Need-slice-aggregate-numbers-verdict
-slice-aggregate-numbers-verdict c = search needs
+enum-known-number : tie.Need-enum-known-number
+enum-known-number c = search needs
 
--- src/lib.rt:109:17
-numbers-verdict-requires : tie.Need-numbers-verdict-requires
-numbers-verdict-requires c κs = search needs
+refused-requires : tie.Need-refused-requires
+refused-requires c κs = search needs
 
--- src/lib.rt:111:57
-enum-told-2 : tie.Need-enum-told-2
-enum-told-2 c = search needs
+returns : tie.Need-returns
+returns c =
+    ap {B = Reading} (λ (l : List ℤ). record { verdict = Declared.Verdict.Accepted; numbers = l })
+    (page-padded (now (c .before .before .before .before .before .before .before .args .text)) _ _ (c .before .before .before .before .before .line-count .ensures) (c .before .before .before .read-into .ensures .1 (c .enum-told .given .1)))
+    ∙ reading-accepted (now (c .before .before .before .before .before .before .before .args .text)) (sym (c .before .before .before .read-into .ensures .0) ∙ c .enum-told .given .1)
 
--- src/lib.rt:112:36
-enum-known-verdict : tie.Need-enum-known-verdict
-enum-known-verdict c = search needs
-
--- src/lib.rt:112:54
-refused-requires-3 : tie.Need-refused-requires-3
-refused-requires-3 c κs = search needs
-
--- src/lib.rt:97:1
 returns-2 : tie.Need-returns-2
-returns-2 c = let t = now (c .before .before .before .before .before .before .before .before .args .text) in
-    let bad = page-line t _ (ap (λ p. p .«first_bad») (sym (c .before .before .before .before .read-page .ensures)) ∙ c .before .before .first-bad .given .1) in
-    c .refused2 .ensures ∙ reading-refused t 2 _ (bad-line t _ (sym (c .before .before .before .before .before .before .text-ok .ensures) ∙ not-false _ (c .before .before .before .before .before .if1 .left)) bad)
-
--- src/lib.rt:97:1
-returns-3 : tie.Need-returns-3
-returns-3 c = let t = now (c .before .before .before .before .before .before .before .before .before .before .before .args .text) in
-    let page = c .before .before .before .before .before .before .before .read-page .ensures in
-    let good = page-none t (ap (λ p. p .«first_bad») (sym page) ∙ c .before .before .before .before .before .enum-told .given .1) in
-    let numbers = ap (λ p. p .numbers) page ∙ page-numbers t good in
-    let said =
-    by-numbers t (sym (c .before .before .before .before .before .before .before .before .before .text-ok .ensures) ∙ not-false _ (c .before .before .before .before .before .before .before .before .if1 .left)) good ∙ ap (λ f. numbersVerdict f (length t / 49)) (sym numbers) ∙ sym (c .before .before .numbers-verdict .ensures)
-    ∙ c .enum-told2 .given .1 in
-    rw numbers (reading-accepted t said)
-
--- src/lib.rt:97:1
-returns-4 : tie.Need-returns-4
-returns-4 c = let t = now (c .before .before .before .before .before .before .before .before .before .before .before .before .before .args .text) in
-    let page = c .before .before .before .before .before .before .before .before .before .read-page .ensures in
-    let good = page-none t (ap (λ p. p .«first_bad») (sym page) ∙ c .before .before .before .before .before .before .before .enum-told .given .1) in
-    let numbers = ap (λ p. p .numbers) page ∙ page-numbers t good in
-    let said =
-    by-numbers t (sym (c .before .before .before .before .before .before .before .before .before .before .before .text-ok .ensures) ∙ not-false _ (c .before .before .before .before .before .before .before .before .before .before .if1 .left)) good ∙ ap (λ f. numbersVerdict f (length t / 49)) (sym numbers) ∙ sym (c .before .before .before .before .numbers-verdict .ensures)
-    ∙ c .before .before .verdict .given .1 in
-    c .refused3 .ensures ∙ reading-refused t _ _ said
+returns-2 c = c .refused .ensures ∙ reading-refused (now (c .before .before .before .before .before .before .before .before .before .args .text)) _ _ (sym (c .before .before .before .before .before .read-into .ensures .0) ∙ c .before .before .number .given .1)
 
 pub read-spec : {M : Type 1} → statement M
 read-spec =
     tie.close
     (tie.spec
-    text-ok-requires
+    line-count-requires
+    mul-count
+    array-borrow-prefix-numbers
+    slice-aggregate-read-into
+    read-into-requires
+    enum-told
+    enum-known-number
     refused-requires
     returns
-    read-page-requires
-    enum-known-first-bad
-    refused-requires-2
-    enum-told
-    slice-aggregate-numbers-verdict
-    numbers-verdict-requires
-    enum-told-2
-    enum-known-verdict
-    refused-requires-3
-    returns-2
-    returns-3
-    returns-4)
+    returns-2)
