@@ -2,7 +2,9 @@
 use mathlib.Core.Path.{_≡_}
 use mathlib.Core.List.{List}
 use Prim.Native.Nat.{ℕ, zero, suc, _<_}
+use native.Mathlib.Omega.{arith}
 use lib.IntN.{ℤ}
+use borrow.Author.Tests.{ne-eqb}
 use Rattle.table.specs.Fields.{number, field}
 use Rattle.table.specs.Header.{statements, statementLine}
 use Rattle.table.specs.LookupLaws.{statement-is}
@@ -45,4 +47,18 @@ by-operation f line P a b c d e g h i j k l rest (suc (suc (suc (suc (suc (suc (
 by-operation f line P a b c d e g h i j k l rest (suc (suc (suc (suc (suc (suc (suc (suc (suc (suc zero)))))))))) = k
 by-operation f line P a b c d e g h i j k l rest (suc (suc (suc (suc (suc (suc (suc (suc (suc (suc (suc zero))))))))))) = l
 by-operation f line P a b c d e g h i j k l rest (suc (suc (suc (suc (suc (suc (suc (suc (suc (suc (suc (suc zero)))))))))))) = rest 12
-by-operation f line P a b c d e g h i j k l rest (suc (suc (suc (suc (suc (suc (suc (suc (suc (suc (suc (suc (suc n))))))))))))) = rest (suc (suc (suc (suc (suc (suc (suc (suc (suc (suc (suc (suc (suc n)))))))))))))
+by-operation f line P a b c d e g h i j k l rest (suc (suc (suc (suc (suc (suc (suc (suc (suc (suc (suc (suc (suc n))))))))))))) =
+    let op : ℕ = suc (suc (suc (suc (suc (suc (suc (suc (suc (suc (suc (suc (suc n)))))))))))) in
+    rw (
+      ne-eqb op 1 (omega arith),
+      ne-eqb op 2 (omega arith),
+      ne-eqb op 3 (omega arith),
+      ne-eqb op 4 (omega arith),
+      ne-eqb op 5 (omega arith),
+      ne-eqb op 6 (omega arith),
+      ne-eqb op 7 (omega arith),
+      ne-eqb op 8 (omega arith),
+      ne-eqb op 9 (omega arith),
+      ne-eqb op 10 (omega arith),
+      ne-eqb op 11 (omega arith),
+    ) (rest op)
