@@ -1,4 +1,4 @@
--- The edges of every question fit into lists of 2,048: at most four a statement, and every number small. Assumes nothing.
+-- The edges of every question fit into lists of four places a statement: at most four a statement, and every number small. Assumes nothing.
 use Prim.Native.Nat.{ℕ, zero, suc, _+_, _*_, _≤_, _<_}
 use mathlib.Core.Path.{sym, subst}
 use mathlib.Core.Bool.{Bool, true, false, not, cond}
@@ -19,9 +19,7 @@ use Rattle.report.specs.Layout.{named, isIn, ownerOf, oneEach}
 use Rattle.report.specs.OneEach.{statement-below}
 use Rattle.report.specs.Operations.{nexts, byNaming}
 use Rattle.report.specs.Flow.{passing, flowEdges}
-use Rattle.dataflow.specs.declared.Question.{Question}
-use Rattle.dataflow.specs.declared.Question.the-variants.{Flow, Effects, Gives, Futures}
-use Rattle.dataflow.specs.Questions.{edge, upEdges, nextEdges, callEdges, edgesAt, edgesFor}
+use Rattle.dataflow.specs.Questions.{Question, Flow, Effects, Gives, Futures, edge, upEdges, nextEdges, callEdges, edgesAt, edgesFor}
 use Rattle.dataflow.specs.EdgeLaws.{Fit}
 
 -- at most m edges, and every number small
@@ -189,8 +187,8 @@ module _ (t : Table) (acc : Accepted t) where
       go Gives o = few-more 4 (omega arith) (few-up false (ownerOf t s) (o .0) (statement t s) (acc .operands (o .0) s (o .1) (o .2)) (owner-small s))
       go Futures o = few-future s (o .0) (omega (arith, acc .statements-most)) (o .1) (statement t s) (acc .operands (o .0) s (o .1) (o .2))
 
-  pub edges-fit : (q : Question) → Fit (edgesFor q t)
+  pub edges-fit : (q : Question) (a b : ℕ) → 4 * length (t .statements) ≤ a → 4 * length (t .statements) ≤ b → Fit a b (edgesFor q t)
   unfolding edgesFor
-  edges-fit q =
+  edges-fit q a b p r =
       let all = few-joined 4 0 (length (t .statements)) (edgesAt q t) (λ s w. few-at q s (within-below w)) in
-      record { room = omega (arith, all .few, acc .statements-most); small = all .small }
+      record { from-room = omega (arith, all .few); to-room = omega (arith, all .few); small = all .small }
