@@ -25,8 +25,10 @@ pub record Fit (a b : ℕ) (es : List Edge) : Type 0 where
   pub to-room : length es ≤ b
   pub small : (e : Edge) → List·Memᴰ e es → (e .from < 65536) × (e .to < 65536)
 
--- where the lists held some edges they hold the new ones behind them, if all of them fit
+-- the lists keep their lengths, and where they held some edges they hold the new ones behind them, if all of them fit
 pub record Appended (from to : List ℕ) (n : ℕ) (from′ to′ : List ℕ) (n′ : ℕ) (new : List Edge) : Type 0 where
+  pub from-same : length from′ ≡ length from
+  pub to-same : length to′ ≡ length to
   pub then : (a b : ℕ) (es : List Edge) → Holds a b from to n es → Fit a b (es ++ new) → Holds a b from′ to′ n′ (es ++ new)
 
 fit-left : (a b : ℕ) (es new : List Edge) → Fit a b (es ++ new) → Fit a b es
@@ -53,11 +55,13 @@ module _ {from to from′ to′ : List ℕ} {n n′ : ℕ} where
   appended-same a b e h = subst (λ (l : List Edge). Appended from to n from′ to′ n′ l) e h
 
 pub appended-none : {from to : List ℕ} {n : ℕ} → Appended from to n from to n []
-appended-none {from} {to} {n} = record { then = λ a b es h f. subst (Holds a b from to n) (sym (append-nil es)) h }
+appended-none {from} {to} {n} = record { from-same = refl; to-same = refl; then = λ a b es h f. subst (Holds a b from to n) (sym (append-nil es)) h }
 
 pub appended-both : {from to from′ to′ from″ to″ : List ℕ} {n n′ n″ : ℕ} {a b : List Edge} → Appended from to n from′ to′ n′ a
     → Appended from′ to′ n′ from″ to″ n″ b → Appended from to n from″ to″ n″ (a ++ b)
 appended-both {from″ = from″} {to″} {n″ = n″} {a} {b} p q = record {
+  from-same = q .from-same ∙ p .from-same;
+  to-same = q .to-same ∙ p .to-same;
   then = λ k l es h f.
       let g : Fit k l ((es ++ a) ++ b) = subst (Fit k l) (sym (append-assoc es a b)) f in
       subst (Holds k l from″ to″ n″) (append-assoc es a b) (q .then k l (es ++ a) (p .then k l es h (fit-left k l (es ++ a) b g)) g);
@@ -75,6 +79,8 @@ module _ (from to : List ℕ) (n f t : ℕ) where
   pub appended-one : n < length from → n < length to → Appended from to n (set from n f) (set to n t) (n + 1) (record { from = f; to = t } ∷ [])
   unfolding froms tos
   appended-one p q = record {
+    from-same = length-set from n f;
+    to-same = length-set to n t;
     then = λ a b es h fit. record {
       count = omega (arith, h .count, length-append es one-more);
       from-long = length-set from n f ∙ h .from-long;
@@ -88,17 +94,17 @@ module _ (from to : List ℕ) (n f t : ℕ) where
   last-small : (a b : ℕ) (es : List Edge) → Fit a b (es ++ one-more) → (f < 65536) × (t < 65536)
   last-small a b es fit = fit .small (record { from = f; to = t }) (Memᴰ·append-right es (List·Memᴰ·head refl))
 
-  pub appended-from-full : {from′ to′ : List ℕ} {n′ : ℕ} → length from ≤ n → Appended from to n from′ to′ n′ (record { from = f; to = t } ∷ [])
-  appended-from-full p = record { then = λ a b es h fit. absurd (omega (arith, h .count, h .from-long, fit .from-room, length-append es one-more)) }
+  pub appended-from-full : length from ≤ n → Appended from to n from to n (record { from = f; to = t } ∷ [])
+  appended-from-full p = record { from-same = refl; to-same = refl; then = λ a b es h fit. absurd (omega (arith, h .count, h .from-long, fit .from-room, length-append es one-more)) }
 
-  pub appended-to-full : {from′ to′ : List ℕ} {n′ : ℕ} → length to ≤ n → Appended from to n from′ to′ n′ (record { from = f; to = t } ∷ [])
-  appended-to-full p = record { then = λ a b es h fit. absurd (omega (arith, h .count, h .to-long, fit .to-room, length-append es one-more)) }
+  pub appended-to-full : length to ≤ n → Appended from to n from to n (record { from = f; to = t } ∷ [])
+  appended-to-full p = record { from-same = refl; to-same = refl; then = λ a b es h fit. absurd (omega (arith, h .count, h .to-long, fit .to-room, length-append es one-more)) }
 
-  pub appended-from-large : {from′ to′ : List ℕ} {n′ : ℕ} → 65536 ≤ f → Appended from to n from′ to′ n′ (record { from = f; to = t } ∷ [])
-  appended-from-large p = record { then = λ a b es h fit. absurd (omega (arith, last-small a b es fit .0)) }
+  pub appended-from-large : 65536 ≤ f → Appended from to n from to n (record { from = f; to = t } ∷ [])
+  appended-from-large p = record { from-same = refl; to-same = refl; then = λ a b es h fit. absurd (omega (arith, last-small a b es fit .0)) }
 
-  pub appended-to-large : {from′ to′ : List ℕ} {n′ : ℕ} → 65536 ≤ t → Appended from to n from′ to′ n′ (record { from = f; to = t } ∷ [])
-  appended-to-large p = record { then = λ a b es h fit. absurd (omega (arith, last-small a b es fit .1)) }
+  pub appended-to-large : 65536 ≤ t → Appended from to n from to n (record { from = f; to = t } ∷ [])
+  appended-to-large p = record { from-same = refl; to-same = refl; then = λ a b es h fit. absurd (omega (arith, last-small a b es fit .1)) }
 
 -- ---- a loop that appends a part for each number
 

@@ -6,22 +6,24 @@ use mathlib.Core.List.{List, [], _∷_, _++_}
 use native.Mathlib.Omega.{arith}
 use lib.Bits.{or-zero-r}
 use lib.IntN.{ℤ}
+use borrow.Author.Tests.{ne-eqb}
 use lib.ListN.{length, getD, List·getD-eq-default}
-use Rattle.sets.specs.Set.{union}
+use Rattle.sets.specs.Set.{one, union}
 use Rattle.table.specs.Fields.{number, field}
 use Rattle.table.specs.Header.{handles, routines, statements, statementLine}
 use Rattle.table.specs.Table.{Table, tableOf, routine, statement, passed, InRoutine, argumentsIn, statementIn}
 use Rattle.table.specs.Accepted.{Accepted, Operands}
-use Rattle.table.specs.LookupLaws.{routines-length, statements-length}
+use Rattle.table.specs.LookupLaws.{routines-length, statements-length, declaration-says}
 use Rattle.table.specs.OperationLaws.{statement-in, by-operation as by-any-operation}
 use Rattle.table.specs.declared.Statement.{Statement}
 use Rattle.table.specs.declared.Statement.the-variants.{Read, Write, Set, Add, Take, Give, Point, Call, Start, Jump, JumpZero, Return}
 use Rattle.report.specs.Over.{joinedFrom, unionAt, Edge}
 use Rattle.report.specs.OverLaws.{Within, within-below}
-use Rattle.report.specs.Layout.{named, oneEach}
+use Rattle.report.specs.Layout.{named, ownerOf, oneEach}
 use Rattle.report.specs.Operations.{nexts, byNaming, accessed, given}
-use Rattle.report.specs.Flow.{passing, flowEdges}
-use Rattle.dataflow.specs.Questions.{Flow, edge, edgesAt, upEdges, nextEdges, callEdges, operationOf, ownSet, effectAt, nextsEffect}
+use Rattle.report.specs.Flow.{startOf, passing, flowEdges}
+use Rattle.dataflow.specs.Questions.{Question, Flow, Futures, upwards, edge, edgesAt, edgesFor, upEdges, nextEdges, callEdges, operationOf, ownSet, effectAt, nextsEffect}
+use Rattle.dataflow.specs.EdgeLaws.{Appended, appended-same, Growing, growing-done}
 use Rattle.dataflow.specs.AnswerLaws.{joined-same}
 
 -- `base` is the line of statement 0, and there are few lines
@@ -378,3 +380,37 @@ unfolding passingFrom passing oneEach
 passing-is f line q begin count l eh ep =
     joined-same 0 count _ _ (λ j w. let h : j < 4 = omega (arith, within-below w) in ap {B = List Edge} (λ (x : ℕ). edge x (begin + j) ∷ []) (argument f line j h))
     ∙ ap₂ {C = List Edge} (λ (m n : ℕ). joinedFrom 0 n (λ (j : ℕ). edge (getD (passed (argumentsIn f line)) j 0) (m + j) ∷ [])) eh ep
+
+-- ---- all statements
+
+-- up from statement s to the routine that it stands in
+pub up-at : (starts : Bool) (t : Table) (s c : ℕ) → c ≡ ownerOf t s → upEdges starts c (statement t s) ≡ edgesAt (upwards starts) t s
+unfolding edgesAt
+up-at true t s c e = ap {B = List Edge} (λ (x : ℕ). upEdges true x (statement t s)) e
+up-at false t s c e = ap {B = List Edge} (λ (x : ℕ). upEdges false x (statement t s)) e
+
+-- the edges that the future of statement s of routine c makes
+pub future-at : (f : List ℤ) (s end c : ℕ) → end ≡ statements f → c ≡ ownerOf (tableOf f) s
+    → (nextEdges s (statement (tableOf f) s) ++ ((edge (end + c) s ∷ []) ++ callEdges end s (statement (tableOf f) s))) ≡ edgesAt Futures (tableOf f) s
+unfolding edgesAt
+future-at f s end c p q =
+    ap₂ {C = List Edge}
+    (λ (x y : ℕ). nextEdges s (statement (tableOf f) s) ++ ((edge (x + y) s ∷ []) ++ callEdges x s (statement (tableOf f) s)))
+    (p ∙ sym (statements-length f)) q
+
+pub every-edge : (q : Question) (f : List ℤ) {end : ℕ} {from to from′ to′ : List ℕ} {n i : ℕ} → end ≡ statements f
+    → Growing (edgesAt q (tableOf f)) end from to 0 from′ to′ n i → end ≤ i → Appended from to 0 from′ to′ n (edgesFor q (tableOf f))
+unfolding edgesFor
+every-edge q f e g l =
+    appended-same _ _ (ap {B = List Edge} (λ (m : ℕ). joinedFrom 0 m (edgesAt q (tableOf f))) (e ∙ sym (statements-length f))) (growing-done g l)
+
+-- ---- handles
+
+module _ (f : List ℤ) (h : ℕ) (b : h < handles f) where
+  pub start-local : field f (1 + h) 3 ≡ 1 → one (field f (1 + h) 4) ≡ startOf (tableOf f) h
+  unfolding startOf
+  start-local e = let says = declaration-says f h b in rw (says .origin, says .start, e)
+
+  pub start-parameter : (field f (1 + h) 3 ≡ 1 → ⊥) → 0 ≡ startOf (tableOf f) h
+  unfolding startOf
+  start-parameter e = let says = declaration-says f h b in rw (says .origin, ne-eqb (field f (1 + h) 3) 1 e)

@@ -115,9 +115,9 @@ pub fn future_sets(
     requires { ⌜ Laid (now numbers) (now first) (now handle) (now counts) ⌝ }
     requires { ⌜ Accepted (tableOf (now numbers)) ⌝ }
     requires { ⌜ (4 * statements (now numbers) ≤ length (now from)) × (4 * statements (now numbers) ≤ length (now to)) ⌝ }
-    requires { ⌜ (length (now later_reads) ≡ statements (now numbers) + routines (now numbers)) × (length (now later_writes) ≡ statements (now numbers) + routines (now numbers)) ⌝ }
-    ensures reads { λ _. ⌜ now (later_reads .exit) ≡ futures (tableOf (now (numbers .entry))) (oneEach (tableOf (now (numbers .entry)))) (now (flow .entry)) (now (reads .entry)) false ⌝ }
-    ensures writes { λ _. ⌜ now (later_writes .exit) ≡ futures (tableOf (now (numbers .entry))) (oneEach (tableOf (now (numbers .entry)))) (now (flow .entry)) (now (writes .entry)) true ⌝ }
+    requires { ⌜ (length (now «later_reads») ≡ statements (now numbers) + routines (now numbers)) × (length (now «later_writes») ≡ statements (now numbers) + routines (now numbers)) ⌝ }
+    ensures reads { λ _. ⌜ now («later_reads» .exit) ≡ futures (tableOf (now (numbers .entry))) (oneEach (tableOf (now (numbers .entry)))) (now (flow .entry)) (now (reads .entry)) false ⌝ }
+    ensures writes { λ _. ⌜ now («later_writes» .exit) ≡ futures (tableOf (now (numbers .entry))) (oneEach (tableOf (now (numbers .entry)))) (now (flow .entry)) (now (writes .entry)) true ⌝ }
 {
     let n = edges::fill_future(numbers, first, handle, counts, from, to);
     starts::fill_future(numbers, first, handle, counts, flow, reads, false, later_reads);

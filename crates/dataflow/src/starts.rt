@@ -172,7 +172,26 @@ fn nexts_effect(
     sets::union(there, effect_at(numbers, base, end, flow, effect, writes, s + 1))
 }
 
-// Fills the list with what futures begin with: the effects of what may come next, and nothing behind the last statement.
+// What the future at place `p` begins with: the effects of what may come next, and nothing behind the last statement.
+fn future_start(
+    numbers: &[i32],
+    base: usize,
+    end: usize,
+    flow: &[u64],
+    effect: &[u64],
+    writes: bool,
+    p: usize,
+) -> u64
+    requires { ⌜ Lined (now numbers) base × (end ≡ statements (now numbers)) ⌝ }
+    ensures { λ r. ⌜ r ≡ futureStart writes (now (flow .entry)) (now (effect .entry)) (tableOf (now (numbers .entry))) p ⌝ }
+{
+    if p < end {
+        return nexts_effect(numbers, base, end, flow, effect, writes, p);
+    }
+    0
+}
+
+// Fills the list with what futures begin with.
 pub fn fill_future(
     numbers: &[i32],
     first: &[usize],
@@ -190,11 +209,7 @@ pub fn fill_future(
     let end = table::field_of(numbers, 0, 5);
     let mut p = 0;
     while p < out.len() {
-        if p < end {
-            out[p] = nexts_effect(numbers, base, end, flow, effect, writes, p);
-        } else {
-            out[p] = 0;
-        }
+        out[p] = future_start(numbers, base, end, flow, effect, writes, p);
         p += 1;
     }
 }
