@@ -6,7 +6,7 @@ use mathlib.Core.List.{List, [], _∷_, _++_}
 use native.Mathlib.Omega.{arith}
 use lib.Bits.{or-zero-r}
 use lib.IntN.{ℤ}
-use borrow.Author.Tests.{ne-eqb}
+use borrow.Author.Tests.{ne-eqb, lt-ltb, le-ltb}
 use lib.ListN.{length, getD, List·getD-eq-default}
 use Rattle.sets.specs.Set.{one, union}
 use Rattle.table.specs.Fields.{number, field}
@@ -22,7 +22,7 @@ use Rattle.report.specs.OverLaws.{Within, within-below}
 use Rattle.report.specs.Layout.{named, ownerOf, oneEach}
 use Rattle.report.specs.Operations.{nexts, byNaming, accessed, given}
 use Rattle.report.specs.Flow.{startOf, passing, flowEdges}
-use Rattle.dataflow.specs.Questions.{Question, Flow, Futures, upwards, edge, edgesAt, edgesFor, upEdges, nextEdges, callEdges, operationOf, ownSet, effectAt, nextsEffect}
+use Rattle.dataflow.specs.Questions.{Question, Flow, Futures, upwards, edge, edgesAt, edgesFor, upEdges, nextEdges, callEdges, operationOf, ownSet, effectAt, nextsEffect, futureStart}
 use Rattle.dataflow.specs.EdgeLaws.{Appended, appended-same, Growing, growing-done}
 use Rattle.dataflow.specs.AnswerLaws.{joined-same}
 
@@ -403,6 +403,17 @@ pub every-edge : (q : Question) (f : List ℤ) {end : ℕ} {from to from′ to�
 unfolding edgesFor
 every-edge q f e g l =
     appended-same _ _ (ap {B = List Edge} (λ (m : ℕ). joinedFrom 0 m (edgesAt q (tableOf f))) (e ∙ sym (statements-length f))) (growing-done g l)
+
+-- ---- what a future begins with
+
+module _ (f : List ℤ) (w : Bool) (flow effect : List ℕ) (p : ℕ) where
+  pub future-inside : p < statements f → nextsEffect w flow effect (tableOf f) p ≡ futureStart w flow effect (tableOf f) p
+  unfolding futureStart
+  future-inside l = rw (lt-ltb p (length (tableOf f .statements)) (omega (arith, statements-length f)))
+
+  pub future-behind : statements f ≤ p → 0 ≡ futureStart w flow effect (tableOf f) p
+  unfolding futureStart
+  future-behind l = rw (le-ltb p (length (tableOf f .statements)) (omega (arith, statements-length f)))
 
 -- ---- handles
 

@@ -11,16 +11,18 @@ use borrow.Author.Tests.{ltb-true, ltb-false}
 use Rattle.table.specs.Header.{routines, statements}
 use Rattle.table.specs.Handles.{handlesFrom, parameters}
 use Rattle.table.specs.Routines.{firstOf}
-use Rattle.table.specs.Table.{Table, tableOf, routine, InRoutine}
+use Rattle.table.specs.Table.{Table, tableOf, routine, argumentsIn, InRoutine}
 use Rattle.table.specs.TabulateLaws.{entry-tabulate}
 use Rattle.table.specs.Tabulate.{tabulate}
 use Rattle.table.specs.LayoutLaws.{Laid}
 use Rattle.table.specs.LookupLaws.{routines-length, statements-length, routine-says, in-routine, routine-in}
 use Rattle.table.specs.RoutineLaws.{ends-before}
 use Rattle.table.specs.Accepted.{Accepted, RoutineFacts}
-use Rattle.report.specs.Layout.{ownerOf}
+use Rattle.report.specs.Layout.{ownerOf, oneEach}
+use Rattle.report.specs.Flow.{passing}
 use Rattle.report.specs.OneEach.{copy-is}
 use Rattle.dataflow.specs.AnswerLaws.{copy-of}
+use Rattle.dataflow.specs.LineLaws.{passingFrom, passing-is}
 
 -- the list of the first statements
 pub record Firsts (f : List ℤ) (first : List ℕ) : Type 0 where
@@ -35,6 +37,12 @@ pub record Near (f : List ℤ) (r s : ℕ) : Type 0 where
   pub there : r < routines f
   pub low : firstOf f r ≤ s
   pub high : s ≤ firstOf f (r + 1)
+
+-- the arguments in a line go to the parameters of routine q: `count` handles from `begin` on
+pub record PassingParts (f : List ℤ) (line q begin count : ℕ) : Type 0 where
+  pub small : begin < 2 ^ 32
+  pub few : count ≤ 4
+  pub is : passingFrom f line begin count ≡ passing (tableOf f) (oneEach (tableOf f)) 0 0 q (argumentsIn f line)
 
 module _ (f : List ℤ) (acc : Accepted (tableOf f)) where
   abbrev t : Table
@@ -60,17 +68,21 @@ module _ (f : List ℤ) (acc : Accepted (tableOf f)) where
     end-there = omega (arith, end-at, facts r b .statements-there, statements-length f)
 
   module _ (first handle counts : List ℕ) (laid : Laid f first handle counts) (q : ℕ) (b : q < routines f) where
-    pub handle-at : getD handle q 0 ≡ routine t q .handle
+    handle-at : getD handle q 0 ≡ routine t q .handle
     handle-at = entry-tabulate 33 (handlesFrom f) handle q (laid .handle-is) (omega (arith, laid .routines-most)) ∙ sym (routine-says f q b .handle)
 
-    pub parameters-at : getD counts q 0 ≡ routine t q .parameters
+    parameters-at : getD counts q 0 ≡ routine t q .parameters
     parameters-at = entry-tabulate 32 (parameters f) counts q (laid .counts-is) (omega (arith, laid .routines-most)) ∙ sym (routine-says f q b .parameters)
 
-    pub handle-small : getD handle q 0 < 2 ^ 32
-    handle-small = omega (arith, handle-at, facts q b .handles-there, acc .handles-most)
-
-    pub few-parameters : getD counts q 0 ≤ 4
-    few-parameters = omega (arith, parameters-at, facts q b .few-parameters)
+    -- the arguments in a line go to the parameters of routine q
+    pub passing-parts : (line : ℕ) → PassingParts f line q (getD handle q 0) (getD counts q 0)
+    passing-parts line =
+        let few : getD counts q 0 ≤ 4 = omega (arith, parameters-at, facts q b .few-parameters) in
+        record {
+          small = omega (arith, handle-at, facts q b .handles-there, acc .handles-most);
+          few = few;
+          is = passing-is f line q (getD handle q 0) (getD counts q 0) few handle-at parameters-at;
+        }
 
   -- ---- the routine of each statement
 

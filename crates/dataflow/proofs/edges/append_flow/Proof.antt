@@ -1,76 +1,73 @@
+-- `dataflow::edges::append_flow` meets its contract. Assumes nothing.
+use Rattle.table.specs.Header.{routines}
+use Rattle.dataflow.specs.RoutineLaws.{passing-parts}
+use Rattle.dataflow.specs.LineLaws.{flow-before, flow-point, flow-naming, flow-after, names-routine, passingFrom}
+use Rattle.dataflow.specs.EdgeLaws.{appended-same, appended-none}
+use Rattle.dataflow.specs.Questions.{edge, edgesAt}
+use Rattle.report.specs.Flow.{passing}
+use Rattle.report.specs.Layout.{oneEach}
+use Rattle.report.specs.Over.{Edge}
+use Rattle.table.specs.Table.{tableOf, argumentsIn}
+use denote.Ref.{now}
+use mathlib.Core.List.{List, [], _∷_}
+use Prim.Native.Nat.{ℕ, _+_, _<_}
+use mathlib.Core.Path.{sym, ap, ap₂, _∙_}
+use native.Mathlib.Omega.{arith}
 use borrow.Author.Needs.{needs}
 use Rattle.dataflow.proofs.edges.append_flow.Statement.{statement}
 use Rattle.dataflow.proofs.edges.append_flow.Tie as tie
-use Rattle.dataflow.proofs.edges.append_flow.Reads as reads
-use Rattle.dataflow.proofs.edges.append_flow.Lts as lts
-use Rattle.dataflow.proofs.edges.append.Reads as append-reads
-use Rattle.dataflow.proofs.edges.append_passing.Reads as append-passing-reads
-use Rattle.dataflow.proofs.parts.entry_at.Reads as entry-at-reads
-use Rattle.table.proofs.field_of.Reads as field-of-reads
 
--- src/edges.rt:76:16
 add-line : tie.Need-add-line
 add-line c = search needs
 
--- src/edges.rt:77:9
 field-of-requires : tie.Need-field-of-requires
 field-of-requires c κs = search needs
 
--- src/edges.rt:79:9
 returns : tie.Need-returns
-returns c = ?
+unfolding edgesAt
+returns c = appended-same _ _ (flow-before _ _ (c .before .before .before .before .before .before .before .pre .1 .1 .0) _ (c .before .before .before .before .before .before .before .pre .1 .1 .1) (omega (arith, c .before .field-of .ensures .0,  c .if1 .taken))) appended-none
 
--- src/edges.rt:81:9
 field-of-requires-2 : tie.Need-field-of-requires-2
 field-of-requires-2 c κs = search needs
 
--- src/edges.rt:83:36
 field-of-requires-3 : tie.Need-field-of-requires-3
 field-of-requires-3 c κs = search needs
 
--- src/edges.rt:83:9
 append-requires : tie.Need-append-requires
 append-requires c κs = search needs
 
--- src/edges.rt:83:9
 same-length : tie.Need-same-length
 same-length c = search needs
 
--- src/edges.rt:83:9
 same-length-2 : tie.Need-same-length-2
 same-length-2 c = search needs
 
--- src/edges.rt:83:9
 returns-2 : tie.Need-returns-2
-returns-2 c = ?
+unfolding edgesAt
+returns-2 c = appended-same _ _ (ap₂ {C = List Edge} (λ (x y : ℕ). edge x y ∷ []) (c .before .before .before .before .before .field-of3 .ensures .0) (c .before .before .before .before .before .before .before .before .before .field-of2 .ensures .0) ∙ flow-point _ _ (c .before .before .before .before .before .before .before .before .before .before .before .before .before .before .before .before .before .pre .1 .1 .0) _ (c .before .before .before .before .before .before .before .before .before .before .before .before .before .before .before .before .before .pre .1 .1 .1) (sym (c .before .before .before .before .before .before .before .before .before .before .before .field-of .ensures .0) ∙ c .before .before .before .before .before .before .before .before .if2 .taken)) (c .before .before .before .before .append .ensures)
 
--- src/edges.rt:86:13
 entry-at-requires : tie.Need-entry-at-requires
 entry-at-requires c κs = search needs
 
--- src/edges.rt:87:53
 entry-at-requires-2 : tie.Need-entry-at-requires-2
 entry-at-requires-2 c κs = search needs
 
--- src/edges.rt:87:9
 append-passing-requires : tie.Need-append-passing-requires
-append-passing-requires c κs = ?
+append-passing-requires c κs = let there : c .before .before .before .before .before .before .field-of2 .result < routines (now (c .before .before .before .before .before .before .before .before .before .before .before .before .before .before .args .numbers)) = omega (arith, c .before .before .before .before .before .before .field-of2 .ensures .0, names-routine _ _ (c .before .before .before .before .before .before .before .before .before .before .before .before .before .before .pre .1 .1 .0) _ (c .before .before .before .before .before .before .before .before .before .before .before .before .before .before .pre .1 .1 .1) (c .before .before .before .before .before .before .before .before .before .before .before .before .before .before .pre .1 .0) (omega (arith, c .before .before .before .before .before .before .before .before .field-of .ensures .0,  c .before .before .before .before .before .before .before .if1 .left)) (λ e. c .before .before .before .before .before .if2 .left (c .before .before .before .before .before .before .before .before .field-of .ensures .0 ∙ e)) (omega (arith, c .before .before .before .before .before .before .before .before .field-of .ensures .0,  c .before .before .before .before .if3 .taken))) in let parts = passing-parts _ (c .before .before .before .before .before .before .before .before .before .before .before .before .before .before .pre .1 .0) _ _ _ (c .before .before .before .before .before .before .before .before .before .before .before .before .before .before .pre .0) (c .before .before .before .before .before .before .field-of2 .result) there (c .before .before .before .before .before .before .before .before .before .before .before .before .before .before .args .base + c .before .before .before .before .before .before .before .before .before .before .before .before .before .before .args .s) in (omega (arith, parts .small, c .before .before .before .entry-at .ensures), omega (arith, parts .few, c .before .before .entry-at2 .ensures))
 
--- src/edges.rt:87:9
 same-length-3 : tie.Need-same-length-3
 same-length-3 c = search needs
 
--- src/edges.rt:87:9
 same-length-4 : tie.Need-same-length-4
 same-length-4 c = search needs
 
--- src/edges.rt:87:9
 returns-3 : tie.Need-returns-3
-returns-3 c = ?
+unfolding edgesAt
+returns-3 c = let there : c .before .before .before .before .before .before .before .before .before .before .before .field-of2 .result < routines (now (c .before .before .before .before .before .before .before .before .before .before .before .before .before .before .before .before .before .before .before .args .numbers)) = omega (arith, c .before .before .before .before .before .before .before .before .before .before .before .field-of2 .ensures .0, names-routine _ _ (c .before .before .before .before .before .before .before .before .before .before .before .before .before .before .before .before .before .before .before .pre .1 .1 .0) _ (c .before .before .before .before .before .before .before .before .before .before .before .before .before .before .before .before .before .before .before .pre .1 .1 .1) (c .before .before .before .before .before .before .before .before .before .before .before .before .before .before .before .before .before .before .before .pre .1 .0) (omega (arith, c .before .before .before .before .before .before .before .before .before .before .before .before .before .field-of .ensures .0,  c .before .before .before .before .before .before .before .before .before .before .before .before .if1 .left)) (λ e. c .before .before .before .before .before .before .before .before .before .before .if2 .left (c .before .before .before .before .before .before .before .before .before .before .before .before .before .field-of .ensures .0 ∙ e)) (omega (arith, c .before .before .before .before .before .before .before .before .before .before .before .before .before .field-of .ensures .0,  c .before .before .before .before .before .before .before .before .before .if3 .taken))) in let parts = passing-parts _ (c .before .before .before .before .before .before .before .before .before .before .before .before .before .before .before .before .before .before .before .pre .1 .0) _ _ _ (c .before .before .before .before .before .before .before .before .before .before .before .before .before .before .before .before .before .before .before .pre .0) (c .before .before .before .before .before .before .before .before .before .before .before .field-of2 .result) there (c .before .before .before .before .before .before .before .before .before .before .before .before .before .before .before .before .before .before .before .args .base + c .before .before .before .before .before .before .before .before .before .before .before .before .before .before .before .before .before .before .before .args .s) in let f = now (c .before .before .before .before .before .before .before .before .before .before .before .before .before .before .before .before .before .before .before .args .numbers) in appended-same _ _ (ap₂ {C = List Edge} (passingFrom f (c .before .before .before .before .before .before .before .before .before .before .before .before .before .before .before .before .before .before .before .args .base + c .before .before .before .before .before .before .before .before .before .before .before .before .before .before .before .before .before .before .before .args .s)) (c .before .before .before .before .before .before .before .before .entry-at .ensures) (c .before .before .before .before .before .before .before .entry-at2 .ensures) ∙ parts .is ∙ ap {B = List Edge} (λ (q : ℕ). passing (tableOf f) (oneEach (tableOf f)) 0 0 q (argumentsIn f (c .before .before .before .before .before .before .before .before .before .before .before .before .before .before .before .before .before .before .before .args .base + c .before .before .before .before .before .before .before .before .before .before .before .before .before .before .before .before .before .before .before .args .s))) (c .before .before .before .before .before .before .before .before .before .before .before .field-of2 .ensures .0) ∙ flow-naming _ _ (c .before .before .before .before .before .before .before .before .before .before .before .before .before .before .before .before .before .before .before .pre .1 .1 .0) _ (c .before .before .before .before .before .before .before .before .before .before .before .before .before .before .before .before .before .before .before .pre .1 .1 .1) (omega (arith, c .before .before .before .before .before .before .before .before .before .before .before .before .before .field-of .ensures .0,  c .before .before .before .before .before .before .before .before .before .before .before .before .if1 .left)) (λ e. c .before .before .before .before .before .before .before .before .before .before .if2 .left (c .before .before .before .before .before .before .before .before .before .before .before .before .before .field-of .ensures .0 ∙ e)) (omega (arith, c .before .before .before .before .before .before .before .before .before .before .before .before .before .field-of .ensures .0,  c .before .before .before .before .before .before .before .before .before .if3 .taken))) (c .before .before .before .before .append-passing .ensures)
 
--- src/edges.rt:60:1
 returns-4 : tie.Need-returns-4
-returns-4 c = ?
+unfolding edgesAt
+returns-4 c = appended-same _ _ (flow-after _ _ (c .before .before .before .before .before .before .before .before .before .before .pre .1 .1 .0) _ (c .before .before .before .before .before .before .before .before .before .before .pre .1 .1 .1) (omega (arith, c .before .before .before .before .field-of .ensures .0,  c .if3 .left))) appended-none
 
 pub append-flow-spec : {M : Type 1} → statement M
 append-flow-spec =

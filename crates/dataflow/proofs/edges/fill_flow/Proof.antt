@@ -1,56 +1,49 @@
+-- `dataflow::edges::fill_flow` meets its contract. Assumes nothing.
+use Prim.Native.Nat.{_-_}
+use native.Mathlib.Omega.{arith}
+use Rattle.table.specs.Table.{tableOf}
+use Rattle.dataflow.specs.Questions.{Flow, edgesAt}
+use Rattle.dataflow.specs.EdgeLaws.{Growing, growing-start, growing-next}
+use Rattle.dataflow.specs.LineLaws.{every-edge}
+use borrow.Author.Needs.{needs}
 use Rattle.dataflow.proofs.edges.fill_flow.Statement.{statement}
 use Rattle.dataflow.proofs.edges.fill_flow.Tie as tie
-use Rattle.dataflow.proofs.edges.fill_flow.Reads as reads
-use Rattle.dataflow.proofs.edges.fill_flow.Lts as lts
-use Rattle.dataflow.proofs.edges.append_flow.Reads as append-flow-reads
-use Rattle.dataflow.proofs.parts.first_line.Reads as first-line-reads
-use Rattle.table.proofs.field_of.Reads as field-of-reads
 
 abbrev Inv-loop : tie.InvT-loop
-Inv-loop numbers first handle counts from₀ to₀ base end n₀ s₀ from to n s = ?
+Inv-loop numbers first handle counts from₀ to₀ base end n₀ s₀ from to n s = Growing (edgesAt Flow (tableOf numbers)) end from₀ to₀ 0 from to n s
 
 abbrev μ-loop : tie.MeasureT-loop
-μ-loop numbers first handle counts from₀ to₀ base end n₀ s₀ from to n s = ?
+μ-loop numbers first handle counts from₀ to₀ base end n₀ s₀ from to n s = end - s
 
--- src/edges.rt:105:9
 first-line-requires : tie.Need-first-line-requires Inv-loop μ-loop
-first-line-requires c κs = ?
+first-line-requires c κs = search needs
 
--- src/edges.rt:106:9
 field-of-requires : tie.Need-field-of-requires Inv-loop μ-loop
-field-of-requires c κs = ?
+field-of-requires c κs = search needs
 
--- src/edges.rt:109:5
 loop-holds : tie.Need-loop-holds Inv-loop μ-loop
-loop-holds c = ?
+loop-holds c = growing-start _ _
 
--- src/edges.rt:110:9
 append-flow-requires : tie.Need-append-flow-requires Inv-loop μ-loop
-append-flow-requires c κs = ?
+append-flow-requires c κs = (c .before .before .before .before .before .before .before .before .before .before .before .pre .0, (c .before .before .before .before .before .before .before .before .before .before .before .pre .1, (c .before .before .before .before .before .first-line .ensures, omega (arith, c .before .before .before .before .field-of .ensures .0, c .before .before .loop-test .taken))))
 
--- src/edges.rt:111:9
 add-s : tie.Need-add-s Inv-loop μ-loop
-add-s c = ?
+add-s c = search needs
 
--- src/edges.rt:109:5
 loop-less : tie.Need-loop-less Inv-loop μ-loop
-loop-less c = ?
+loop-less c = search needs
 
--- src/edges.rt:109:5
 loop-again : tie.Need-loop-again Inv-loop μ-loop
-loop-again c = ?
+loop-again c = growing-next (c .before .before .before .before .before .before .before .before .loop .inv) (c .before .before .before .before .before .before .before .loop-test .taken) (c .before .before .before .before .append-flow .ensures)
 
--- src/edges.rt:93:1
 same-length : tie.Need-same-length Inv-loop μ-loop
-same-length c = ?
+same-length c = search needs
 
--- src/edges.rt:93:1
 same-length-2 : tie.Need-same-length-2 Inv-loop μ-loop
-same-length-2 c = ?
+same-length-2 c = search needs
 
--- src/edges.rt:93:1
 returns : tie.Need-returns Inv-loop μ-loop
-returns c = ?
+returns c = every-edge Flow _ (c .before .before .field-of .ensures .0) (c .before .loop .inv) (c .loop-test .left)
 
 pub fill-flow-spec : {M : Type 1} → statement M
 fill-flow-spec =

@@ -28,10 +28,10 @@ loop-holds : tie.Need-loop-holds Inv-loop μ-loop
 loop-holds c = (growing-start _ _, near-start _ (c .before .before .before .before .before .before .before .pre .1))
 
 owner-of-requires : tie.Need-owner-of-requires Inv-loop μ-loop
-owner-of-requires c κs = (laid-firsts (c .before .before .before .before .before .before .before .before .before .pre .0), c .before .before .before .before .before .before .before .before .before .pre .1, omega (arith, c .before .before .field-of .ensures .0, c .loop-test .taken), c .before .loop .inv .1)
+owner-of-requires c κs = (laid-firsts (c .before .before .before .before .before .before .before .before .before .pre .0), (c .before .before .before .before .before .before .before .before .before .pre .1, (omega (arith, c .before .before .field-of .ensures .0, c .loop-test .taken), c .before .loop .inv .1)))
 
 append-future-requires : tie.Need-append-future-requires Inv-loop μ-loop
-append-future-requires c κs = ((c .before .before .before .before .before .before .first-line .ensures, omega (arith, c .before .before .before .before .before .field-of .ensures .0, c .before .before .before .loop-test .taken)), c .before .before .before .before .before .field-of .ensures .0, c .before .before .owner-of .ensures .0, omega (arith, c .before .before .owner-of .ensures .1 .there, c .before .before .before .before .before .before .before .before .before .before .before .before .pre .0 .routines-most))
+append-future-requires c κs = ((c .before .before .before .before .before .before .first-line .ensures, omega (arith, c .before .before .before .before .before .field-of .ensures .0, c .before .before .before .loop-test .taken)), (c .before .before .before .before .before .field-of .ensures .0, c .before .before .owner-of .ensures .0, omega (arith, c .before .before .owner-of .ensures .1 .there, c .before .before .before .before .before .before .before .before .before .before .before .before .pre .0 .routines-most)))
 
 add-s : tie.Need-add-s Inv-loop μ-loop
 add-s c = search needs

@@ -1,21 +1,19 @@
+-- `dataflow::starts::future_start` meets its contract. Assumes nothing.
+use Rattle.dataflow.specs.LineLaws.{future-inside, future-behind}
+use mathlib.Core.Path.{_∙_}
+use native.Mathlib.Omega.{arith}
 use borrow.Author.Needs.{needs}
 use Rattle.dataflow.proofs.starts.future_start.Statement.{statement}
 use Rattle.dataflow.proofs.starts.future_start.Tie as tie
-use Rattle.dataflow.proofs.starts.future_start.Reads as reads
-use Rattle.dataflow.proofs.starts.future_start.Lts as lts
-use Rattle.dataflow.proofs.starts.nexts_effect.Reads as nexts-effect-reads
 
--- src/starts.rt:189:9
 nexts-effect-requires : tie.Need-nexts-effect-requires
-nexts-effect-requires c κs = search needs
+nexts-effect-requires c κs = (c .before .before .before .pre .0, c .before .before .before .pre .1, omega (arith, c .before .before .before .pre .1, c .if1 .taken))
 
--- src/starts.rt:189:9
 returns : tie.Need-returns
-returns c = ?
+returns c = c .nexts-effect .ensures ∙ future-inside _ _ _ _ _ (omega (arith, c .before .before .before .before .pre .1, c .before .if1 .taken))
 
--- src/starts.rt:176:1
 returns-2 : tie.Need-returns-2
-returns-2 c = ?
+returns-2 c = future-behind _ _ _ _ _ (omega (arith, c .before .before .before .pre .1, c .if1 .left))
 
 pub future-start-spec : {M : Type 1} → statement M
 future-start-spec = tie.close (tie.spec nexts-effect-requires returns returns-2)
