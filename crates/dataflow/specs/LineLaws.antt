@@ -10,7 +10,7 @@ use borrow.Author.Tests.{ne-eqb, lt-ltb, le-ltb}
 use lib.ListN.{length, getD, List·getD-eq-default}
 use Rattle.sets.specs.Set.{one, union}
 use Rattle.table.specs.Fields.{number, field}
-use Rattle.table.specs.Header.{handles, routines, statements, statementLine}
+use Rattle.table.specs.Header.{handles, routines, statements}
 use Rattle.table.specs.Table.{Table, tableOf, routine, statement, passed, InRoutine, argumentsIn, statementIn}
 use Rattle.table.specs.Accepted.{Accepted, Operands}
 use Rattle.table.specs.LookupLaws.{routines-length, statements-length, declaration-says}
@@ -18,11 +18,11 @@ use Rattle.table.specs.OperationLaws.{statement-in, by-operation as by-any-oper
 use Rattle.table.specs.declared.Statement.{Statement}
 use Rattle.table.specs.declared.Statement.the-variants.{Read, Write, Set, Add, Take, Give, Point, Call, Start, Jump, JumpZero, Return}
 use Rattle.report.specs.Over.{joinedFrom, unionAt, Edge}
-use Rattle.report.specs.OverLaws.{Within, within-below}
+use Rattle.report.specs.OverLaws.{within-below}
 use Rattle.report.specs.Layout.{named, ownerOf, oneEach}
 use Rattle.report.specs.Operations.{nexts, byNaming, accessed, given}
 use Rattle.report.specs.Flow.{startOf, passing, flowEdges}
-use Rattle.dataflow.specs.Questions.{Question, Flow, Futures, upwards, edge, edgesAt, edgesFor, upEdges, nextEdges, callEdges, operationOf, ownSet, effectAt, nextsEffect, futureStart}
+use Rattle.dataflow.specs.Questions.{Question, Futures, upwards, edge, edgesAt, edgesFor, upEdges, nextEdges, callEdges, operationOf, ownSet, effectAt, nextsEffect, futureStart}
 use Rattle.dataflow.specs.EdgeLaws.{Appended, appended-same, Growing, growing-done}
 use Rattle.dataflow.specs.AnswerLaws.{joined-same}
 
@@ -267,22 +267,6 @@ module _ (f : List ℤ) (base : ℕ) (lined : Lined f base) (s : ℕ) (b : s < s
           (λ p q. refl) (λ p q. refl) (λ p q. refl) (λ p q. refl) (λ p q. refl) (λ p q. refl) (λ p q. absurd (omega arith))
           (λ p q. absurd (omega arith)) (λ p q. absurd (omega arith)) (λ p q. absurd (omega arith)) (λ p q. refl) (λ k l p q. absurd (omega arith))
 
-      effect-naming : (w : Bool) → 8 ≤ op → op < 10 → getD effect (field f line 2) 0 ≡ accessed w (λ (h : ℕ). getD flow h 0) (getD effect (named (statement t s)) 0) (statement t s)
-      unfolding accessed named
-      effect-naming w =
-          here (λ k σ. 8 ≤ k → k < 10 → getD effect (field f line 2) 0 ≡ accessed w (λ (h : ℕ). getD flow h 0) (getD effect (named σ) 0) σ)
-          (λ p q. absurd (omega arith)) (λ p q. absurd (omega arith)) (λ p q. absurd (omega arith)) (λ p q. absurd (omega arith))
-          (λ p q. absurd (omega arith)) (λ p q. absurd (omega arith)) (λ p q. absurd (omega arith)) (λ p q. refl) (λ p q. refl)
-          (λ p q. absurd (omega arith)) (λ p q. absurd (omega arith)) (λ p q. absurd (omega arith)) (λ k l p q. absurd (omega arith))
-
-      effect-other : (w : Bool) → 10 ≤ op → 0 ≡ accessed w (λ (h : ℕ). getD flow h 0) (getD effect (named (statement t s)) 0) (statement t s)
-      unfolding accessed named
-      effect-other w =
-          here (λ k σ. 10 ≤ k → 0 ≡ accessed w (λ (h : ℕ). getD flow h 0) (getD effect (named σ) 0) σ) (λ p. absurd (omega arith))
-          (λ p. absurd (omega arith)) (λ p. absurd (omega arith)) (λ p. absurd (omega arith)) (λ p. absurd (omega arith)) (λ p. absurd (omega arith))
-          (λ p. absurd (omega arith)) (λ p. absurd (omega arith)) (λ p. absurd (omega arith)) (λ p. refl) (λ p. refl) (λ p. absurd (omega arith))
-          (λ k l p. refl)
-
       pub effect-own : (w : Bool) → op ≡ operationOf false w → getD flow (field f line 2) 0 ≡ effectAt w flow effect t s
       unfolding operationOf effectAt
       effect-own true e = effect-writes e
@@ -294,12 +278,20 @@ module _ (f : List ℤ) (base : ℕ) (lined : Lined f base) (s : ℕ) (b : s < s
       effect-none false e l = effect-no-reads e l
 
       pub effect-named : (w : Bool) → 8 ≤ op → op < 10 → getD effect (field f line 2) 0 ≡ effectAt w flow effect t s
-      unfolding effectAt
-      effect-named w l h = effect-naming w l h
+      unfolding effectAt accessed named
+      effect-named w =
+          here (λ k σ. 8 ≤ k → k < 10 → getD effect (field f line 2) 0 ≡ accessed w (λ (h : ℕ). getD flow h 0) (getD effect (named σ) 0) σ)
+          (λ p q. absurd (omega arith)) (λ p q. absurd (omega arith)) (λ p q. absurd (omega arith)) (λ p q. absurd (omega arith))
+          (λ p q. absurd (omega arith)) (λ p q. absurd (omega arith)) (λ p q. absurd (omega arith)) (λ p q. refl) (λ p q. refl)
+          (λ p q. absurd (omega arith)) (λ p q. absurd (omega arith)) (λ p q. absurd (omega arith)) (λ k l p q. absurd (omega arith))
 
       pub effect-after : (w : Bool) → 10 ≤ op → 0 ≡ effectAt w flow effect t s
-      unfolding effectAt
-      effect-after w l = effect-other w l
+      unfolding effectAt accessed named
+      effect-after w =
+          here (λ k σ. 10 ≤ k → 0 ≡ accessed w (λ (h : ℕ). getD flow h 0) (getD effect (named σ) 0) σ) (λ p. absurd (omega arith))
+          (λ p. absurd (omega arith)) (λ p. absurd (omega arith)) (λ p. absurd (omega arith)) (λ p. absurd (omega arith)) (λ p. absurd (omega arith))
+          (λ p. absurd (omega arith)) (λ p. absurd (omega arith)) (λ p. absurd (omega arith)) (λ p. refl) (λ p. refl) (λ p. absurd (omega arith))
+          (λ k l p. refl)
 
   -- ---- the effects of what may come next
 

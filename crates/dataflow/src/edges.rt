@@ -2,12 +2,11 @@
 ghost use mathlib.Core.Path.{_≡_};
 ghost use mathlib.Core.List.{[], _∷_};
 ghost use Prim.Native.Nat.{_<_, _≤_, _^_};
-ghost use Rattle.table.specs.Header.{routines, statements};
-ghost use Rattle.table.specs.Table.{tableOf, statement, argumentsIn};
+ghost use Rattle.table.specs.Header.{statements};
+ghost use Rattle.table.specs.Table.{tableOf, statement};
 ghost use Rattle.table.specs.LayoutLaws.{Laid};
 ghost use Rattle.table.specs.Accepted.{Accepted};
-ghost use Rattle.report.specs.Layout.{ownerOf, oneEach};
-ghost use Rattle.report.specs.Flow.{passing};
+ghost use Rattle.report.specs.Layout.{ownerOf};
 ghost use Rattle.dataflow.specs.Questions.{Flow, Futures, upwards, edge, edgesAt, upEdges, nextEdges, callEdges, edgesFor};
 ghost use Rattle.dataflow.specs.EdgeLaws.{Appended};
 ghost use Rattle.dataflow.specs.LineLaws.{Lined, passingFrom};
@@ -50,7 +49,13 @@ fn append_passing(
     let mut m = n;
     let mut j = 0;
     while j < count {
-        m = append(from, to, m, table::field_of(numbers, line, 3 + j), begin + j);
+        m = append(
+            from,
+            to,
+            m,
+            table::field_of(numbers, line, 3 + j),
+            begin + j,
+        );
         j += 1;
     }
     m

@@ -120,8 +120,26 @@ pub fn future_sets(
     ensures writes { λ _. ⌜ now («later_writes» .exit) ≡ futures (tableOf (now (numbers .entry))) (oneEach (tableOf (now (numbers .entry)))) (now (flow .entry)) (now (writes .entry)) true ⌝ }
 {
     let n = edges::fill_future(numbers, first, handle, counts, from, to);
-    starts::fill_future(numbers, first, handle, counts, flow, reads, false, later_reads);
+    starts::fill_future(
+        numbers,
+        first,
+        handle,
+        counts,
+        flow,
+        reads,
+        false,
+        later_reads,
+    );
     settle(later_reads, from, to, n, Order::LastToFirst);
-    starts::fill_future(numbers, first, handle, counts, flow, writes, true, later_writes);
+    starts::fill_future(
+        numbers,
+        first,
+        handle,
+        counts,
+        flow,
+        writes,
+        true,
+        later_writes,
+    );
     settle(later_writes, from, to, n, Order::LastToFirst);
 }

@@ -169,7 +169,10 @@ fn nexts_effect(
     if operation == 10 {
         return there;
     }
-    sets::union(there, effect_at(numbers, base, end, flow, effect, writes, s + 1))
+    sets::union(
+        there,
+        effect_at(numbers, base, end, flow, effect, writes, s + 1),
+    )
 }
 
 // What the future at place `p` begins with: the effects of what may come next, and nothing behind the last statement.

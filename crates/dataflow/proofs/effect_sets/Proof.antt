@@ -1,51 +1,42 @@
+-- `dataflow::effect_sets` meets its contract. Assumes nothing.
+use mathlib.Core.Path.{_∙_}
+use Rattle.dataflow.specs.Questions.{Effects}
+use Rattle.dataflow.specs.EdgeLaws.{solved}
+use Rattle.dataflow.specs.FitLaws.{ready-for}
+use Rattle.dataflow.specs.AnswerLaws.{effect-result}
 use borrow.Author.Needs.{needs}
 use Rattle.dataflow.proofs.effect_sets.Statement.{statement}
 use Rattle.dataflow.proofs.effect_sets.Tie as tie
-use Rattle.dataflow.proofs.effect_sets.Reads as reads
-use Rattle.dataflow.proofs.effect_sets.Lts as lts
-use Rattle.dataflow.proofs.edges.fill_up.Reads as fill-up-reads
-use Rattle.dataflow.proofs.settle.Reads as settle-reads
-use Rattle.dataflow.proofs.starts.fill_own.Reads as fill-own-reads
 
--- src/lib.rt:71:9
 fill-up-requires : tie.Need-fill-up-requires
 fill-up-requires c κs = search needs
 
--- src/lib.rt:72:5
 fill-own-requires : tie.Need-fill-own-requires
 fill-own-requires c κs = search needs
 
--- src/lib.rt:73:5
 settle-requires : tie.Need-settle-requires
-settle-requires c κs = ?
+settle-requires c κs = ((ready-for Effects _ (c .before .before .before .before .before .before .before .before .before .before .before .before .before .before .before .before .before .before .before .before .before .before .pre .1 .0) (c .before .before .before .before .before .before .before .before .before .before .before .before .before .before .before .before .before .before .before .before .before .before .pre .1 .1 .0) (c .before .before .before .before .before .before .before .before .before .before .before .fill-up .ensures)) .from-room, (ready-for Effects _ (c .before .before .before .before .before .before .before .before .before .before .before .before .before .before .before .before .before .before .before .before .before .before .pre .1 .0) (c .before .before .before .before .before .before .before .before .before .before .before .before .before .before .before .before .before .before .before .before .before .before .pre .1 .1 .0) (c .before .before .before .before .before .before .before .before .before .before .before .fill-up .ensures)) .to-room)
 
--- src/lib.rt:74:5
 fill-own-requires-2 : tie.Need-fill-own-requires-2
-fill-own-requires-2 c κs = ?
+fill-own-requires-2 c κs = (c .before .before .before .before .before .before .before .before .before .before .before .before .before .before .before .before .before .before .before .before .before .before .before .before .before .before .pre .0, (c .before .before .before .before .before .before .before .before .before .before .before .before .before .before .before .before .before .before .before .before .before .before .before .before .before .before .pre .1 .0, c .before .before .before .before .before .before .before .before .before .before .before .before .before .before .before .before .before .before .before .before .before .before .before .before .before .before .pre .1 .1 .1 .1))
 
--- src/lib.rt:75:5
 settle-requires-2 : tie.Need-settle-requires-2
-settle-requires-2 c κs = ?
+settle-requires-2 c κs = ((ready-for Effects _ (c .before .before .before .before .before .before .before .before .before .before .before .before .before .before .before .before .before .before .before .before .before .before .before .before .before .before .before .before .before .before .before .before .pre .1 .0) (c .before .before .before .before .before .before .before .before .before .before .before .before .before .before .before .before .before .before .before .before .before .before .before .before .before .before .before .before .before .before .before .before .pre .1 .1 .0) (c .before .before .before .before .before .before .before .before .before .before .before .before .before .before .before .before .before .before .before .before .before .fill-up .ensures)) .from-room, (ready-for Effects _ (c .before .before .before .before .before .before .before .before .before .before .before .before .before .before .before .before .before .before .before .before .before .before .before .before .before .before .before .before .before .before .before .before .pre .1 .0) (c .before .before .before .before .before .before .before .before .before .before .before .before .before .before .before .before .before .before .before .before .before .before .before .before .before .before .before .before .before .before .before .before .pre .1 .1 .0) (c .before .before .before .before .before .before .before .before .before .before .before .before .before .before .before .before .before .before .before .before .before .fill-up .ensures)) .to-room)
 
--- src/lib.rt:53:1
 same-length : tie.Need-same-length
 same-length c = search needs
 
--- src/lib.rt:53:1
 same-length-2 : tie.Need-same-length-2
 same-length-2 c = search needs
 
--- src/lib.rt:53:1
 same-length-3 : tie.Need-same-length-3
 same-length-3 c = search needs
 
--- src/lib.rt:53:1
 same-length-4 : tie.Need-same-length-4
 same-length-4 c = search needs
 
--- src/lib.rt:53:1
 returns : tie.Need-returns
-returns c = ?
+returns c = (effect-result _ _ _ _ _ (c .before .before .before .before .before .before .before .before .before .before .before .before .before .before .before .before .before .before .before .before .before .before .before .before .before .before .before .before .before .before .before .before .before .before .before .pre .1 .1 .1 .0) (c .before .before .before .before .before .before .before .before .before .before .before .before .settle .ensures ∙ solved (ready-for Effects _ (c .before .before .before .before .before .before .before .before .before .before .before .before .before .before .before .before .before .before .before .before .before .before .before .before .before .before .before .before .before .before .before .before .before .before .before .pre .1 .0) (c .before .before .before .before .before .before .before .before .before .before .before .before .before .before .before .before .before .before .before .before .before .before .before .before .before .before .before .before .before .before .before .before .before .before .before .pre .1 .1 .0) (c .before .before .before .before .before .before .before .before .before .before .before .before .before .before .before .before .before .before .before .before .before .before .before .before .fill-up .ensures)) (c .before .before .before .before .before .before .before .before .before .before .before .before .before .before .before .before .before .before .fill-own .ensures)), effect-result _ _ _ _ _ (c .before .before .before .before .before .before .before .before .before .before .before .before .before .before .before .before .before .before .before .before .before .before .before .before .before .before .before .before .before .before .before .before .before .before .before .pre .1 .1 .1 .1) (c .before .before .settle2 .ensures ∙ solved (ready-for Effects _ (c .before .before .before .before .before .before .before .before .before .before .before .before .before .before .before .before .before .before .before .before .before .before .before .before .before .before .before .before .before .before .before .before .before .before .before .pre .1 .0) (c .before .before .before .before .before .before .before .before .before .before .before .before .before .before .before .before .before .before .before .before .before .before .before .before .before .before .before .before .before .before .before .before .before .before .before .pre .1 .1 .0) (c .before .before .before .before .before .before .before .before .before .before .before .before .before .before .before .before .before .before .before .before .before .before .before .before .fill-up .ensures)) (c .before .before .before .before .before .before .before .before .fill-own2 .ensures)))
 
 pub effect-sets-spec : {M : Type 1} → statement M
 effect-sets-spec =

@@ -3,10 +3,9 @@ use Rattle.dataflow.specs.LineLaws.{call-edge, call-none}
 use Rattle.dataflow.specs.EdgeLaws.{appended-same, appended-none}
 use Rattle.dataflow.specs.Questions.{edge}
 use Rattle.report.specs.Over.{Edge}
-use mathlib.Core.List.{List, [], _∷_, _++_}
+use mathlib.Core.List.{List, [], _∷_}
 use Prim.Native.Nat.{ℕ, _+_}
 use mathlib.Core.Path.{sym, ap, _∙_}
-use native.Mathlib.Omega.{arith}
 use borrow.Author.Needs.{needs}
 use Rattle.dataflow.proofs.edges.append_call.Statement.{statement}
 use Rattle.dataflow.proofs.edges.append_call.Tie as tie

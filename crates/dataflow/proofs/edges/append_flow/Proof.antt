@@ -25,7 +25,7 @@ field-of-requires c κs = search needs
 
 returns : tie.Need-returns
 unfolding edgesAt
-returns c = appended-same _ _ (flow-before _ _ (c .before .before .before .before .before .before .before .pre .1 .1 .0) _ (c .before .before .before .before .before .before .before .pre .1 .1 .1) (omega (arith, c .before .field-of .ensures .0,  c .if1 .taken))) appended-none
+returns c = appended-same _ _ (flow-before _ _ (c .before .before .before .before .before .before .before .pre .1 .1 .0) _ (c .before .before .before .before .before .before .before .pre .1 .1 .1) (omega (arith, c .before .field-of .ensures .0, c .if1 .taken))) appended-none
 
 field-of-requires-2 : tie.Need-field-of-requires-2
 field-of-requires-2 c κs = search needs
@@ -53,7 +53,7 @@ entry-at-requires-2 : tie.Need-entry-at-requires-2
 entry-at-requires-2 c κs = search needs
 
 append-passing-requires : tie.Need-append-passing-requires
-append-passing-requires c κs = let there : c .before .before .before .before .before .before .field-of2 .result < routines (now (c .before .before .before .before .before .before .before .before .before .before .before .before .before .before .args .numbers)) = omega (arith, c .before .before .before .before .before .before .field-of2 .ensures .0, names-routine _ _ (c .before .before .before .before .before .before .before .before .before .before .before .before .before .before .pre .1 .1 .0) _ (c .before .before .before .before .before .before .before .before .before .before .before .before .before .before .pre .1 .1 .1) (c .before .before .before .before .before .before .before .before .before .before .before .before .before .before .pre .1 .0) (omega (arith, c .before .before .before .before .before .before .before .before .field-of .ensures .0,  c .before .before .before .before .before .before .before .if1 .left)) (λ e. c .before .before .before .before .before .if2 .left (c .before .before .before .before .before .before .before .before .field-of .ensures .0 ∙ e)) (omega (arith, c .before .before .before .before .before .before .before .before .field-of .ensures .0,  c .before .before .before .before .if3 .taken))) in let parts = passing-parts _ (c .before .before .before .before .before .before .before .before .before .before .before .before .before .before .pre .1 .0) _ _ _ (c .before .before .before .before .before .before .before .before .before .before .before .before .before .before .pre .0) (c .before .before .before .before .before .before .field-of2 .result) there (c .before .before .before .before .before .before .before .before .before .before .before .before .before .before .args .base + c .before .before .before .before .before .before .before .before .before .before .before .before .before .before .args .s) in (omega (arith, parts .small, c .before .before .before .entry-at .ensures), omega (arith, parts .few, c .before .before .entry-at2 .ensures))
+append-passing-requires c κs = let there : c .before .before .before .before .before .before .field-of2 .result < routines (now (c .before .before .before .before .before .before .before .before .before .before .before .before .before .before .args .numbers)) = omega (arith, c .before .before .before .before .before .before .field-of2 .ensures .0, names-routine _ _ (c .before .before .before .before .before .before .before .before .before .before .before .before .before .before .pre .1 .1 .0) _ (c .before .before .before .before .before .before .before .before .before .before .before .before .before .before .pre .1 .1 .1) (c .before .before .before .before .before .before .before .before .before .before .before .before .before .before .pre .1 .0) (omega (arith, c .before .before .before .before .before .before .before .before .field-of .ensures .0, c .before .before .before .before .before .before .before .if1 .left)) (λ e. c .before .before .before .before .before .if2 .left (c .before .before .before .before .before .before .before .before .field-of .ensures .0 ∙ e)) (omega (arith, c .before .before .before .before .before .before .before .before .field-of .ensures .0, c .before .before .before .before .if3 .taken))) in let parts = passing-parts _ (c .before .before .before .before .before .before .before .before .before .before .before .before .before .before .pre .1 .0) _ _ _ (c .before .before .before .before .before .before .before .before .before .before .before .before .before .before .pre .0) (c .before .before .before .before .before .before .field-of2 .result) there (c .before .before .before .before .before .before .before .before .before .before .before .before .before .before .args .base + c .before .before .before .before .before .before .before .before .before .before .before .before .before .before .args .s) in (omega (arith, parts .small, c .before .before .before .entry-at .ensures), omega (arith, parts .few, c .before .before .entry-at2 .ensures))
 
 same-length-3 : tie.Need-same-length-3
 same-length-3 c = search needs
@@ -63,11 +63,11 @@ same-length-4 c = search needs
 
 returns-3 : tie.Need-returns-3
 unfolding edgesAt
-returns-3 c = let there : c .before .before .before .before .before .before .before .before .before .before .before .field-of2 .result < routines (now (c .before .before .before .before .before .before .before .before .before .before .before .before .before .before .before .before .before .before .before .args .numbers)) = omega (arith, c .before .before .before .before .before .before .before .before .before .before .before .field-of2 .ensures .0, names-routine _ _ (c .before .before .before .before .before .before .before .before .before .before .before .before .before .before .before .before .before .before .before .pre .1 .1 .0) _ (c .before .before .before .before .before .before .before .before .before .before .before .before .before .before .before .before .before .before .before .pre .1 .1 .1) (c .before .before .before .before .before .before .before .before .before .before .before .before .before .before .before .before .before .before .before .pre .1 .0) (omega (arith, c .before .before .before .before .before .before .before .before .before .before .before .before .before .field-of .ensures .0,  c .before .before .before .before .before .before .before .before .before .before .before .before .if1 .left)) (λ e. c .before .before .before .before .before .before .before .before .before .before .if2 .left (c .before .before .before .before .before .before .before .before .before .before .before .before .before .field-of .ensures .0 ∙ e)) (omega (arith, c .before .before .before .before .before .before .before .before .before .before .before .before .before .field-of .ensures .0,  c .before .before .before .before .before .before .before .before .before .if3 .taken))) in let parts = passing-parts _ (c .before .before .before .before .before .before .before .before .before .before .before .before .before .before .before .before .before .before .before .pre .1 .0) _ _ _ (c .before .before .before .before .before .before .before .before .before .before .before .before .before .before .before .before .before .before .before .pre .0) (c .before .before .before .before .before .before .before .before .before .before .before .field-of2 .result) there (c .before .before .before .before .before .before .before .before .before .before .before .before .before .before .before .before .before .before .before .args .base + c .before .before .before .before .before .before .before .before .before .before .before .before .before .before .before .before .before .before .before .args .s) in let f = now (c .before .before .before .before .before .before .before .before .before .before .before .before .before .before .before .before .before .before .before .args .numbers) in appended-same _ _ (ap₂ {C = List Edge} (passingFrom f (c .before .before .before .before .before .before .before .before .before .before .before .before .before .before .before .before .before .before .before .args .base + c .before .before .before .before .before .before .before .before .before .before .before .before .before .before .before .before .before .before .before .args .s)) (c .before .before .before .before .before .before .before .before .entry-at .ensures) (c .before .before .before .before .before .before .before .entry-at2 .ensures) ∙ parts .is ∙ ap {B = List Edge} (λ (q : ℕ). passing (tableOf f) (oneEach (tableOf f)) 0 0 q (argumentsIn f (c .before .before .before .before .before .before .before .before .before .before .before .before .before .before .before .before .before .before .before .args .base + c .before .before .before .before .before .before .before .before .before .before .before .before .before .before .before .before .before .before .before .args .s))) (c .before .before .before .before .before .before .before .before .before .before .before .field-of2 .ensures .0) ∙ flow-naming _ _ (c .before .before .before .before .before .before .before .before .before .before .before .before .before .before .before .before .before .before .before .pre .1 .1 .0) _ (c .before .before .before .before .before .before .before .before .before .before .before .before .before .before .before .before .before .before .before .pre .1 .1 .1) (omega (arith, c .before .before .before .before .before .before .before .before .before .before .before .before .before .field-of .ensures .0,  c .before .before .before .before .before .before .before .before .before .before .before .before .if1 .left)) (λ e. c .before .before .before .before .before .before .before .before .before .before .if2 .left (c .before .before .before .before .before .before .before .before .before .before .before .before .before .field-of .ensures .0 ∙ e)) (omega (arith, c .before .before .before .before .before .before .before .before .before .before .before .before .before .field-of .ensures .0,  c .before .before .before .before .before .before .before .before .before .if3 .taken))) (c .before .before .before .before .append-passing .ensures)
+returns-3 c = let there : c .before .before .before .before .before .before .before .before .before .before .before .field-of2 .result < routines (now (c .before .before .before .before .before .before .before .before .before .before .before .before .before .before .before .before .before .before .before .args .numbers)) = omega (arith, c .before .before .before .before .before .before .before .before .before .before .before .field-of2 .ensures .0, names-routine _ _ (c .before .before .before .before .before .before .before .before .before .before .before .before .before .before .before .before .before .before .before .pre .1 .1 .0) _ (c .before .before .before .before .before .before .before .before .before .before .before .before .before .before .before .before .before .before .before .pre .1 .1 .1) (c .before .before .before .before .before .before .before .before .before .before .before .before .before .before .before .before .before .before .before .pre .1 .0) (omega (arith, c .before .before .before .before .before .before .before .before .before .before .before .before .before .field-of .ensures .0, c .before .before .before .before .before .before .before .before .before .before .before .before .if1 .left)) (λ e. c .before .before .before .before .before .before .before .before .before .before .if2 .left (c .before .before .before .before .before .before .before .before .before .before .before .before .before .field-of .ensures .0 ∙ e)) (omega (arith, c .before .before .before .before .before .before .before .before .before .before .before .before .before .field-of .ensures .0, c .before .before .before .before .before .before .before .before .before .if3 .taken))) in let parts = passing-parts _ (c .before .before .before .before .before .before .before .before .before .before .before .before .before .before .before .before .before .before .before .pre .1 .0) _ _ _ (c .before .before .before .before .before .before .before .before .before .before .before .before .before .before .before .before .before .before .before .pre .0) (c .before .before .before .before .before .before .before .before .before .before .before .field-of2 .result) there (c .before .before .before .before .before .before .before .before .before .before .before .before .before .before .before .before .before .before .before .args .base + c .before .before .before .before .before .before .before .before .before .before .before .before .before .before .before .before .before .before .before .args .s) in let f = now (c .before .before .before .before .before .before .before .before .before .before .before .before .before .before .before .before .before .before .before .args .numbers) in appended-same _ _ (ap₂ {C = List Edge} (passingFrom f (c .before .before .before .before .before .before .before .before .before .before .before .before .before .before .before .before .before .before .before .args .base + c .before .before .before .before .before .before .before .before .before .before .before .before .before .before .before .before .before .before .before .args .s)) (c .before .before .before .before .before .before .before .before .entry-at .ensures) (c .before .before .before .before .before .before .before .entry-at2 .ensures) ∙ parts .is ∙ ap {B = List Edge} (λ (q : ℕ). passing (tableOf f) (oneEach (tableOf f)) 0 0 q (argumentsIn f (c .before .before .before .before .before .before .before .before .before .before .before .before .before .before .before .before .before .before .before .args .base + c .before .before .before .before .before .before .before .before .before .before .before .before .before .before .before .before .before .before .before .args .s))) (c .before .before .before .before .before .before .before .before .before .before .before .field-of2 .ensures .0) ∙ flow-naming _ _ (c .before .before .before .before .before .before .before .before .before .before .before .before .before .before .before .before .before .before .before .pre .1 .1 .0) _ (c .before .before .before .before .before .before .before .before .before .before .before .before .before .before .before .before .before .before .before .pre .1 .1 .1) (omega (arith, c .before .before .before .before .before .before .before .before .before .before .before .before .before .field-of .ensures .0, c .before .before .before .before .before .before .before .before .before .before .before .before .if1 .left)) (λ e. c .before .before .before .before .before .before .before .before .before .before .if2 .left (c .before .before .before .before .before .before .before .before .before .before .before .before .before .field-of .ensures .0 ∙ e)) (omega (arith, c .before .before .before .before .before .before .before .before .before .before .before .before .before .field-of .ensures .0, c .before .before .before .before .before .before .before .before .before .if3 .taken))) (c .before .before .before .before .append-passing .ensures)
 
 returns-4 : tie.Need-returns-4
 unfolding edgesAt
-returns-4 c = appended-same _ _ (flow-after _ _ (c .before .before .before .before .before .before .before .before .before .before .pre .1 .1 .0) _ (c .before .before .before .before .before .before .before .before .before .before .pre .1 .1 .1) (omega (arith, c .before .before .before .before .field-of .ensures .0,  c .if3 .left))) appended-none
+returns-4 c = appended-same _ _ (flow-after _ _ (c .before .before .before .before .before .before .before .before .before .before .pre .1 .1 .0) _ (c .before .before .before .before .before .before .before .before .before .before .pre .1 .1 .1) (omega (arith, c .before .before .before .before .field-of .ensures .0, c .if3 .left))) appended-none
 
 pub append-flow-spec : {M : Type 1} → statement M
 append-flow-spec =

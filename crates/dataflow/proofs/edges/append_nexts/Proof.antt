@@ -33,10 +33,10 @@ same-length-2 : tie.Need-same-length-2
 same-length-2 c = search needs
 
 returns-2 : tie.Need-returns-2
-returns-2 c = appended-same _ _ (next-on _ _ (c .before .before .before .before .before .before .before .before .before .before .before .before .pre .0) _ (c .before .before .before .before .before .before .before .before .before .before .before .before .pre .1) (λ e. c .before .before .before .before .before .before .before .before .if1 .left (c .before .before .before .before .before .before .before .before .before .field-of .ensures .0 ∙ e)) (omega (arith, c .before .before .before .before .before .before .before .before .before .field-of .ensures .0,  c .before .before .before .before .before .before .before .if2 .taken))) (c .before .before .before .before .append .ensures)
+returns-2 c = appended-same _ _ (next-on _ _ (c .before .before .before .before .before .before .before .before .before .before .before .before .pre .0) _ (c .before .before .before .before .before .before .before .before .before .before .before .before .pre .1) (λ e. c .before .before .before .before .before .before .before .before .if1 .left (c .before .before .before .before .before .before .before .before .before .field-of .ensures .0 ∙ e)) (omega (arith, c .before .before .before .before .before .before .before .before .before .field-of .ensures .0, c .before .before .before .before .before .before .before .if2 .taken))) (c .before .before .before .before .append .ensures)
 
 returns-3 : tie.Need-returns-3
-returns-3 c = appended-same _ _ (next-return _ _ (c .before .before .before .before .before .before .pre .0) _ (c .before .before .before .before .before .before .pre .1) (omega (arith, c .before .before .before .field-of .ensures .0,  c .if3 .taken))) appended-none
+returns-3 c = appended-same _ _ (next-return _ _ (c .before .before .before .before .before .before .pre .0) _ (c .before .before .before .before .before .before .pre .1) (omega (arith, c .before .before .before .field-of .ensures .0, c .if3 .taken))) appended-none
 
 field-of-requires-2 : tie.Need-field-of-requires-2
 field-of-requires-2 c κs = search needs
@@ -66,7 +66,7 @@ same-length-6 : tie.Need-same-length-6
 same-length-6 c = search needs
 
 returns-5 : tie.Need-returns-5
-returns-5 c = appended-same _ _ (ap {B = List Edge} (λ (x : ℕ). (edge x (c .before .before .before .before .before .before .before .before .before .before .before .before .before .before .before .before .before .before .before .before .before .before .args .s) ∷ []) ++ (edge (c .before .before .before .before .before .before .before .before .before .before .before .before .before .before .before .before .before .before .before .before .before .before .args .s + 1) (c .before .before .before .before .before .before .before .before .before .before .before .before .before .before .before .before .before .before .before .before .before .before .args .s) ∷ [])) (c .before .before .before .before .before .before .before .before .before .before .before .before .before .field-of2 .ensures .0) ∙ next-both _ _ (c .before .before .before .before .before .before .before .before .before .before .before .before .before .before .before .before .before .before .before .before .before .before .pre .0) _ (c .before .before .before .before .before .before .before .before .before .before .before .before .before .before .before .before .before .before .before .before .before .before .pre .1) (omega (arith, c .before .before .before .before .before .before .before .before .before .before .before .before .before .before .before .before .before .before .before .field-of .ensures .0,  c .before .before .before .before .before .before .before .before .before .before .before .before .before .before .before .before .before .if2 .left)) (omega (arith, c .before .before .before .before .before .before .before .before .before .before .before .before .before .before .before .before .before .before .before .field-of .ensures .0,  c .before .before .before .before .before .before .before .before .before .before .before .before .before .before .before .before .if3 .left)) (λ e. c .before .before .before .before .before .before .before .if4 .left (c .before .before .before .before .before .before .before .before .before .before .before .before .before .before .before .before .before .before .before .field-of .ensures .0 ∙ e))) (appended-both (c .before .before .before .before .before .before .before .before .before .before .before .before .append2 .ensures) (c .before .before .before .before .append3 .ensures))
+returns-5 c = appended-same _ _ (ap {B = List Edge} (λ (x : ℕ). (edge x (c .before .before .before .before .before .before .before .before .before .before .before .before .before .before .before .before .before .before .before .before .before .before .args .s) ∷ []) ++ (edge (c .before .before .before .before .before .before .before .before .before .before .before .before .before .before .before .before .before .before .before .before .before .before .args .s + 1) (c .before .before .before .before .before .before .before .before .before .before .before .before .before .before .before .before .before .before .before .before .before .before .args .s) ∷ [])) (c .before .before .before .before .before .before .before .before .before .before .before .before .before .field-of2 .ensures .0) ∙ next-both _ _ (c .before .before .before .before .before .before .before .before .before .before .before .before .before .before .before .before .before .before .before .before .before .before .pre .0) _ (c .before .before .before .before .before .before .before .before .before .before .before .before .before .before .before .before .before .before .before .before .before .before .pre .1) (omega (arith, c .before .before .before .before .before .before .before .before .before .before .before .before .before .before .before .before .before .before .before .field-of .ensures .0, c .before .before .before .before .before .before .before .before .before .before .before .before .before .before .before .before .before .if2 .left)) (omega (arith, c .before .before .before .before .before .before .before .before .before .before .before .before .before .before .before .before .before .before .before .field-of .ensures .0, c .before .before .before .before .before .before .before .before .before .before .before .before .before .before .before .before .if3 .left)) (λ e. c .before .before .before .before .before .before .before .if4 .left (c .before .before .before .before .before .before .before .before .before .before .before .before .before .before .before .before .before .before .before .field-of .ensures .0 ∙ e))) (appended-both (c .before .before .before .before .before .before .before .before .before .before .before .before .append2 .ensures) (c .before .before .before .before .append3 .ensures))
 
 pub append-nexts-spec : {M : Type 1} → statement M
 append-nexts-spec =

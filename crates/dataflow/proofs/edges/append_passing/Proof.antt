@@ -1,7 +1,7 @@
 -- `dataflow::edges::append_passing` meets its contract. Assumes nothing.
 use Rattle.dataflow.specs.LineLaws.{passingFrom}
 use Rattle.report.specs.Over.{Edge}
-use mathlib.Core.Path.{sym, ap, _∙_}
+use mathlib.Core.Path.{ap}
 use Prim.Native.Nat.{ℕ, _+_, _-_}
 use mathlib.Core.List.{List, [], _∷_}
 use Rattle.table.specs.Fields.{field}

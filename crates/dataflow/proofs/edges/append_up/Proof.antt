@@ -6,10 +6,9 @@ use Rattle.table.specs.Fields.{field}
 use denote.Ref.{now}
 use mathlib.Core.Bool.{Bool, cond}
 use Rattle.report.specs.Over.{Edge}
-use mathlib.Core.List.{List, [], _∷_, _++_}
+use mathlib.Core.List.{List, [], _∷_}
 use Prim.Native.Nat.{ℕ, _+_}
 use mathlib.Core.Path.{sym, ap, _∙_}
-use native.Mathlib.Omega.{arith}
 use borrow.Author.Needs.{needs}
 use Rattle.dataflow.proofs.edges.append_up.Statement.{statement}
 use Rattle.dataflow.proofs.edges.append_up.Tie as tie

@@ -1,12 +1,11 @@
 -- `dataflow::edges::fill_future` meets its contract. Assumes nothing.
 use Rattle.dataflow.specs.RoutineLaws.{laid-firsts}
-use Rattle.dataflow.specs.EdgeLaws.{appended-same}
 use Rattle.dataflow.specs.LineLaws.{every-edge}
 use native.Mathlib.Omega.{arith}
 use Prim.Native.Nat.{_-_}
 use Rattle.table.specs.Table.{tableOf}
-use Rattle.dataflow.specs.Questions.{Futures, edgesAt, edgesFor}
-use Rattle.dataflow.specs.EdgeLaws.{Growing, growing-start, growing-next, growing-done}
+use Rattle.dataflow.specs.Questions.{Futures, edgesAt}
+use Rattle.dataflow.specs.EdgeLaws.{Growing, growing-start, growing-next}
 use Rattle.dataflow.specs.RoutineLaws.{Near, near-start}
 use borrow.Author.Needs.{needs}
 use Rattle.dataflow.proofs.edges.fill_future.Statement.{statement}

@@ -5,8 +5,8 @@ use Rattle.dataflow.specs.LineLaws.{every-edge, up-at}
 use native.Mathlib.Omega.{arith}
 use Prim.Native.Nat.{_-_}
 use Rattle.table.specs.Table.{tableOf}
-use Rattle.dataflow.specs.Questions.{upwards, edgesAt, edgesFor}
-use Rattle.dataflow.specs.EdgeLaws.{Growing, growing-start, growing-next, growing-done}
+use Rattle.dataflow.specs.Questions.{upwards, edgesAt}
+use Rattle.dataflow.specs.EdgeLaws.{Growing, growing-start, growing-next}
 use Rattle.dataflow.specs.RoutineLaws.{Near, near-start}
 use borrow.Author.Needs.{needs}
 use Rattle.dataflow.proofs.edges.fill_up.Statement.{statement}

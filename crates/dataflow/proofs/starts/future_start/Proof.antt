@@ -2,7 +2,6 @@
 use Rattle.dataflow.specs.LineLaws.{future-inside, future-behind}
 use mathlib.Core.Path.{_∙_}
 use native.Mathlib.Omega.{arith}
-use borrow.Author.Needs.{needs}
 use Rattle.dataflow.proofs.starts.future_start.Statement.{statement}
 use Rattle.dataflow.proofs.starts.future_start.Tie as tie
 

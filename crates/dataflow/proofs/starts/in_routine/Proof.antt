@@ -3,7 +3,7 @@ use denote.Ref.{now}
 use Rattle.table.specs.Table.{routine}
 use Rattle.report.specs.Over.{unionFrom}
 use Rattle.dataflow.specs.RoutineLaws.{first-at, end-at, end-there}
-use mathlib.Core.Path.{sym, ap, _∙_}
+use mathlib.Core.Path.{ap, _∙_}
 use native.Mathlib.Omega.{arith}
 use Prim.Native.Nat.{ℕ}
 use Rattle.table.specs.Table.{tableOf, statement as statementAt}

@@ -30,11 +30,11 @@ effect-at-requires c κs = search needs
 
 returns-2 : tie.Need-returns-2
 unfolding nextsEffect
-returns-2 c = c .effect-at .ensures ∙ later-next _ _ (c .before .before .before .before .before .before .pre .0) _ (c .before .before .before .before .before .before .pre .2) _ _ _ (λ e. c .before .before .if1 .left (c .before .before .before .field-of .ensures .0 ∙ e)) (omega (arith, c .before .before .before .field-of .ensures .0,  c .before .if2 .taken))
+returns-2 c = c .effect-at .ensures ∙ later-next _ _ (c .before .before .before .before .before .before .pre .0) _ (c .before .before .before .before .before .before .pre .2) _ _ _ (λ e. c .before .before .if1 .left (c .before .before .before .field-of .ensures .0 ∙ e)) (omega (arith, c .before .before .before .field-of .ensures .0, c .before .if2 .taken))
 
 returns-3 : tie.Need-returns-3
 unfolding nextsEffect
-returns-3 c = later-return _ _ (c .before .before .before .before .before .before .pre .0) _ (c .before .before .before .before .before .before .pre .2) _ _ _ (omega (arith, c .before .before .before .field-of .ensures .0,  c .if3 .taken))
+returns-3 c = later-return _ _ (c .before .before .before .before .before .before .pre .0) _ (c .before .before .before .before .before .before .pre .2) _ _ _ (omega (arith, c .before .before .before .field-of .ensures .0, c .if3 .taken))
 
 field-of-requires-2 : tie.Need-field-of-requires-2
 field-of-requires-2 c κs = search needs
@@ -57,7 +57,7 @@ union-requires c κs = search needs
 
 returns-5 : tie.Need-returns-5
 unfolding nextsEffect
-returns-5 c = c .union .ensures ∙ ap₂ (λ (x y : ℕ). union x y) (c .before .before .before .effect-at2 .ensures ∙ ap (effectAt (c .before .before .before .before .before .before .before .before .before .before .before .args .writes) (now (c .before .before .before .before .before .before .before .before .before .before .before .args .flow)) (now (c .before .before .before .before .before .before .before .before .before .before .before .args .effect)) (tableOf (now (c .before .before .before .before .before .before .before .before .before .before .before .args .numbers)))) (c .before .before .before .before .field-of2 .ensures .0)) (c .before .effect-at3 .ensures) ∙ later-both _ _ (c .before .before .before .before .before .before .before .before .before .before .before .pre .0) _ (c .before .before .before .before .before .before .before .before .before .before .before .pre .2) _ _ _ (omega (arith, c .before .before .before .before .before .before .before .before .field-of .ensures .0,  c .before .before .before .before .before .before .if2 .left)) (omega (arith, c .before .before .before .before .before .before .before .before .field-of .ensures .0,  c .before .before .before .before .before .if3 .left)) (λ e. c .before .before .if4 .left (c .before .before .before .before .before .before .before .before .field-of .ensures .0 ∙ e))
+returns-5 c = c .union .ensures ∙ ap₂ (λ (x y : ℕ). union x y) (c .before .before .before .effect-at2 .ensures ∙ ap (effectAt (c .before .before .before .before .before .before .before .before .before .before .before .args .writes) (now (c .before .before .before .before .before .before .before .before .before .before .before .args .flow)) (now (c .before .before .before .before .before .before .before .before .before .before .before .args .effect)) (tableOf (now (c .before .before .before .before .before .before .before .before .before .before .before .args .numbers)))) (c .before .before .before .before .field-of2 .ensures .0)) (c .before .effect-at3 .ensures) ∙ later-both _ _ (c .before .before .before .before .before .before .before .before .before .before .before .pre .0) _ (c .before .before .before .before .before .before .before .before .before .before .before .pre .2) _ _ _ (omega (arith, c .before .before .before .before .before .before .before .before .field-of .ensures .0, c .before .before .before .before .before .before .if2 .left)) (omega (arith, c .before .before .before .before .before .before .before .before .field-of .ensures .0, c .before .before .before .before .before .if3 .left)) (λ e. c .before .before .if4 .left (c .before .before .before .before .before .before .before .before .field-of .ensures .0 ∙ e))
 
 pub nexts-effect-spec : {M : Type 1} → statement M
 nexts-effect-spec =

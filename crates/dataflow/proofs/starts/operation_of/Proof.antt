@@ -1,6 +1,5 @@
 -- `dataflow::starts::operation_of` meets its contract. Assumes nothing.
 use Rattle.dataflow.specs.Questions.{operationOf}
-use borrow.Author.Needs.{needs}
 use Rattle.dataflow.proofs.starts.operation_of.Statement.{statement}
 use Rattle.dataflow.proofs.starts.operation_of.Tie as tie
 
