@@ -151,6 +151,34 @@ module _ (from to : List ℕ) where
     closed = λ e. subst (Closed from to) (sym (p .still e .0)) (record { edge = λ k f t. p .still e .1 k (omega arith) (omega arith) });
   }
 
+  -- an edge more
+  pub solving-put : {s₀ s s′ : List ℕ} {before after : Bool} (j : ℕ) → j < length from → j < length to → Solving from to s₀ s true
+      → Put (getD from j 0) (getD to j 0) s s′ before after → Solving from to s₀ s′ true
+  solving-put {s₀} {s} {s′} j jf jt h q =
+      let f : ℕ = getD from j 0 in
+      let t : ℕ = getD to j 0 in
+      record {
+        places = ap length (q .becomes) ∙ along-length f t s ∙ h .places;
+        holds = inside-trans (h .holds) (subst (Inside s) (sym (q .becomes)) (along-grows f t s));
+        within = λ r l c a.
+            subst (λ (x : List ℕ). Inside x r) (sym (q .becomes))
+            (along-inside f t s r (h .places ∙ l) (c .edge j jf jt) (h .within r l c a));
+        closed = λ e. absurd (let z : _≡_ {A = ℕ} 0 1 = cc in omega arith);
+      }
+
+  -- from here on
+  pub solving-here : {s₀ s : List ℕ} {b : Bool} → Solving from to s₀ s b → Solving from to s s b
+  solving-here {s₀} {s} h = record { places = refl; holds = inside-refl s; within = λ r l c a. a; closed = h .closed }
+
+  -- one part after another
+  pub solving-both : {s₀ s s′ : List ℕ} {b b′ : Bool} → Solving from to s₀ s b → Solving from to s s′ b′ → Solving from to s₀ s′ b′
+  solving-both h p = record {
+    places = p .places ∙ h .places;
+    holds = inside-trans (h .holds) (p .holds);
+    within = λ r l c a. p .within r (h .places ∙ l) c (h .within r l c a);
+    closed = p .closed;
+  }
+
   pub solving-done : {s₀ s : List ℕ} {b : Bool} → ((i : ℕ) → getD s₀ i 0 < 2 ^ 64) → b ≡ false → Solving from to s₀ s b → s ≡ least from to s₀
   solving-done {s₀} {s} h e p =
       let n : ℕ = length s₀ in

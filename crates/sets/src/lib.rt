@@ -1,9 +1,10 @@
 // Sets of at most 64 elements, each in one number: element i is bit i. And the solver of least closed lists of sets.
 ghost use mathlib.Core.Path.{_≡_};
-ghost use Prim.Native.Nat.{_<_, min};
+ghost use mathlib.Core.Bool.{true};
+ghost use Prim.Native.Nat.{_<_, _≤_, min};
 ghost use lib.ListN.{length, getD};
 ghost use Rattle.sets.specs.Least.{least};
-ghost use Rattle.sets.specs.Pass.{Put, Passed};
+ghost use Rattle.sets.specs.Pass.{Put, Passed, Solving};
 ghost use Rattle.sets.specs.Set.{has, firsts, one, with, union, inter, minus, subset, isEmpty, count, isSingle, only, lowest};
 
 // The element that a question finds, or that there is none.
@@ -219,12 +220,187 @@ fn pass(sets: &mut [u64], from: &[u16], to: &[u16], order: Order) -> bool
     }
 }
 
+// Counts the edges that lead from place p in counts[p + 2], and marks p as a place to look at.
+fn count_edges(from: &[u16], n: usize, counts: &mut [u16; 1026], todo: &mut [u64; 16]) {
+    let mut k = 0;
+    while k < n {
+        if k < from.len() {
+            let f = wide(from[k]);
+            if f < 1024 {
+                counts[f + 2] = std::num::wrapping_add_u16(counts[f + 2], 1);
+                todo[f / 64] = todo[f / 64] | one(f % 64);
+            }
+        }
+        k += 1;
+    }
+}
+
+// Adds up the counts: counts[p + 1] then is how many edges lead from places before p.
+fn add_counts(counts: &mut [u16; 1026], places: usize) {
+    let mut p = 0;
+    while p < places {
+        if p < 1024 {
+            counts[p + 2] = std::num::wrapping_add_u16(counts[p + 2], counts[p + 1]);
+        }
+        p += 1;
+    }
+}
+
+// Lists the edges by the place that they lead from: those from place p then stand from heads[p] on, before heads[p + 1].
+fn list_edges(from: &[u16], n: usize, heads: &mut [u16; 1026], list: &mut [u16; 2048]) {
+    let mut k = 0;
+    while k < n {
+        if k < from.len() {
+            let f = wide(from[k]);
+            if f < 1024 {
+                let at = heads[f + 1];
+                if at < 2048 {
+                    list[wide(at)] = (k % 2048) as u16;
+                    heads[f + 1] = at + 1;
+                }
+            }
+        }
+        k += 1;
+    }
+}
+
+// Goes along edge k, and marks the place that it leads to as one to look at, if that changed.
+fn chase_edge(sets: &mut [u64], from: &[u16], to: &[u16], todo: &mut [u64; 16], k: usize)
+    ensures { λ _. ⌜ Solving (now (from .entry)) (now (to .entry)) (now (sets .entry)) (now (sets .exit)) true ⌝ }
+{
+    if k < from.len() {
+        if k < to.len() {
+            if put_edge(sets, from, to, k, false) {
+                let t = wide(to[k]);
+                if t < 1024 {
+                    todo[t / 64] = todo[t / 64] | one(t % 64);
+                }
+            }
+        }
+    }
+}
+
+// Goes along the listed edges from `begin` on and before `end`.
+fn chase_edges(
+    sets: &mut [u64],
+    from: &[u16],
+    to: &[u16],
+    list: &[u16; 2048],
+    todo: &mut [u64; 16],
+    begin: u16,
+    end: u16,
+)
+    ensures { λ _. ⌜ Solving (now (from .entry)) (now (to .entry)) (now (sets .entry)) (now (sets .exit)) true ⌝ }
+{
+    let mut j = begin;
+    while j < end {
+        chase_edge(sets, from, to, todo, wide(list[wide(j % 2048)]));
+        j += 1;
+    }
+}
+
+// The element of s that the order meets first.
+fn next_element(s: u64, order: Order) -> usize
+    ensures { λ r. ⌜ r < 64 ⌝ }
+{
+    match order {
+        Order::FirstToLast => (u64::trailing_zeros(s) % 64) as usize,
+        Order::LastToFirst => 63 - (u64::leading_zeros(s) % 64) as usize,
+    }
+}
+
+// The number after i of those below n, in the order, round and round.
+fn next_word(i: usize, n: usize, order: Order) -> usize
+    requires { ⌜ (i < 16) × (n ≤ 16) ⌝ }
+    ensures { λ r. ⌜ r < 16 ⌝ }
+{
+    match order {
+        Order::FirstToLast => if i + 1 < n { i + 1 } else { 0 },
+        Order::LastToFirst => {
+            if 0 < i {
+                return i - 1;
+            }
+            if 0 < n { n - 1 } else { 0 }
+        }
+    }
+}
+
+// Looks at marked places, 64 a word in `words` words, until none is left or it was long.
+fn chase_places(
+    sets: &mut [u64],
+    from: &[u16],
+    to: &[u16],
+    heads: &[u16; 1026],
+    list: &[u16; 2048],
+    todo: &mut [u64; 16],
+    words: usize,
+    order: Order,
+)
+    requires { ⌜ words ≤ 16 ⌝ }
+    ensures { λ _. ⌜ Solving (now (from .entry)) (now (to .entry)) (now (sets .entry)) (now (sets .exit)) true ⌝ }
+{
+    let mut i = 0;
+    let mut idle = 0;
+    let mut left: usize = 65536;
+    while 0 < left {
+        left -= 1;
+        if todo[i] == 0 {
+            if words <= idle {
+                return;
+            }
+            idle += 1;
+            i = next_word(i, words, order);
+        } else {
+            idle = 0;
+            let b = next_element(todo[i], order);
+            todo[i] = difference(todo[i], one(b));
+            let p = i * 64 + b;
+            chase_edges(sets, from, to, list, todo, heads[p], heads[p + 1]);
+        }
+    }
+}
+
+// Puts along edges, from places that changed on, for at most 1,024 sets and 2,048 edges. What is left to put then is mostly nothing.
+fn chase(sets: &mut [u64], from: &[u16], to: &[u16], order: Order)
+    ensures { λ _. ⌜ Solving (now (from .entry)) (now (to .entry)) (now (sets .entry)) (now (sets .exit)) true ⌝ }
+{
+    let n = edges(from, to);
+    if n <= 2048 {
+        if sets.len() <= 1024 {
+            let mut heads = [0u16; 1026];
+            let mut list = [0u16; 2048];
+            let mut todo = [0u64; 16];
+            count_edges(from, n, &mut heads, &mut todo);
+            add_counts(&mut heads, sets.len());
+            list_edges(from, n, &mut heads, &mut list);
+            let words = (sets.len() + 63) / 64;
+            chase_places(sets, from, to, &heads, &list, &mut todo, words, order);
+        }
+    }
+}
+
+// At most four passes, and where the last still changed something, a chase. Returns whether anything may be left to put.
+fn few_passes(sets: &mut [u64], from: &[u16], to: &[u16], order: Order) -> bool
+    ensures { λ r. ⌜ Solving (now (from .entry)) (now (to .entry)) (now (sets .entry)) (now (sets .exit)) r ⌝ }
+{
+    let mut left: usize = 4;
+    while 0 < left {
+        if pass(sets, from, to, order) {
+            left -= 1;
+        } else {
+            return false;
+        }
+    }
+    chase(sets, from, to, order);
+    true
+}
+
 // Makes the sets the least ones that hold them and in which, for every edge k, the set at from[k] is inside the set at to[k].
 // An edge from or to a place past the end does nothing. The order changes nothing but the time.
 pub fn solve(sets: &mut [u64], from: &[u16], to: &[u16], order: Order)
     ensures { λ _. ⌜ now (sets .exit) ≡ least (now (from .entry)) (now (to .entry)) (now (sets .entry)) ⌝ }
 {
-    let mut going = true;
+    let mut going = few_passes(sets, from, to, order);
     while going {
         going = pass(sets, from, to, order);
     }

@@ -1,10 +1,10 @@
 -- `sets::solve` meets its contract. Whatever the order, the list stays between the start and the least list, and at the end it is closed. Assumes nothing.
 use Prim.Native.Nat.{_+_}
-use Rattle.sets.proofs.Passes.{turn, solving-start, solving-less, solving-next, solving-done}
+use Rattle.sets.proofs.Passes.{turn, solving-here, solving-both, solving-less, solving-next, solving-done}
 use Rattle.sets.specs.Least.{room}
 use Rattle.sets.specs.Pass.{Solving}
-use borrow.Author.Needs.{needs}
 use native.Mathlib.Omega.{arith}
+use borrow.Author.Needs.{needs}
 use Rattle.sets.proofs.solve.Statement.{statement}
 use Rattle.sets.proofs.solve.Tie as tie
 
@@ -14,8 +14,11 @@ Inv-loop sets₀ from to order going₀ sets going = Solving from to sets₀ set
 abbrev μ-loop : tie.MeasureT-loop
 μ-loop sets₀ from to order going₀ sets going = room sets + turn going
 
+few-passes-requires : tie.Need-few-passes-requires Inv-loop μ-loop
+few-passes-requires c κs = search needs
+
 loop-holds : tie.Need-loop-holds Inv-loop μ-loop
-loop-holds c = solving-start _ _ _
+loop-holds c = solving-here _ _ (c .before .before .few-passes .ensures)
 
 pass-requires : tie.Need-pass-requires Inv-loop μ-loop
 pass-requires c κs = search needs
@@ -30,7 +33,18 @@ same-length : tie.Need-same-length Inv-loop μ-loop
 same-length c = search needs
 
 returns : tie.Need-returns Inv-loop μ-loop
-returns c = solving-done _ _ (λ i. omega (arith, c .before .before .before .before .slice-known .given i)) (c .loop-test .left) (c .before .loop .inv)
+returns c = solving-done _ _ (λ i. omega (arith, c .before .before .before .before .before .before .before .before .slice-known .given i)) (c .loop-test .left) (solving-both _ _ (c .before .before .before .before .few-passes .ensures) (c .before .loop .inv))
 
 pub solve-spec : {M : Type 1} → statement M
-solve-spec = tie.close (tie.spec Inv-loop μ-loop loop-holds pass-requires loop-less loop-again same-length returns)
+solve-spec =
+    tie.close
+    (tie.spec
+    Inv-loop
+    μ-loop
+    few-passes-requires
+    loop-holds
+    pass-requires
+    loop-less
+    loop-again
+    same-length
+    returns)
