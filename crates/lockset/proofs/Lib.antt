@@ -1,3 +1,3 @@
 pub mod StepLaws
-pub mod WayLaws
-pub mod TableLaws
+pub mod MoveLaws
+pub mod RuleLaws
