@@ -1,17 +1,18 @@
 -- Single steps: what a statement brings, a set put into one place, and sets turned round. Assumes nothing.
-use mathlib.Core.Path.{_≡_, refl, sym, ap, _∙_}
+use mathlib.Core.Path.{_≡_, refl, sym, ap, ap₂, _∙_}
 use mathlib.Core.Bool.{Bool, true, false, cond}
 use mathlib.Core.List.{List}
 use mathlib.Core.Logic.{inl, inr}
-use Prim.Native.Nat.{ℕ, _+_, _^_, _≤_, _<_}
+use Prim.Native.Nat.{ℕ, _+_, _^_, _≤_, _<_, zero-le}
 use native.Mathlib.Nat.{le-refl}
 use native.Mathlib.Omega.{arith}
 use borrow.Author.Tests.{ne-eqb}
+use lib.Arith.{lt-of-le-ne}
 use lib.Dec.{eqb}
 use lib.IntN.{ℤ}
 use lib.ListN.{length, getD, set}
 use lib.Seq.{set-out, set-getD, getD-set-same, getD-set-other}
-use Rattle.sets.specs.Set.{has, union, minus}
+use Rattle.sets.specs.Set.{has, union, minus, isSingle}
 use Rattle.sets.specs.SetLaws.{has-union-left, has-union-right, union-cases}
 use Rattle.sets.specs.Least.{SetList, room, putInto}
 use Rattle.sets.specs.InsideLaws.{room-less}
@@ -23,6 +24,24 @@ use Rattle.report.specs.Greatest.{leaving}
 use Rattle.report.specs.GreatestLaws.{minus-has, minus-from}
 use Rattle.report.specs.Held.{onlyLock}
 use Rattle.lockset.specs.Steps.{behind, Became, Turned}
+
+-- ---- the one lock of a flow set
+
+pub only-one : (s : ℕ) {b : Bool} → b ≡ isSingle s → b ≡ true → s ≡ onlyLock s
+unfolding onlyLock
+only-one s e t = rw (sym e ∙ t)
+
+pub only-none : (s : ℕ) {b : Bool} → b ≡ isSingle s → b ≡ false → 0 ≡ onlyLock s
+unfolding onlyLock
+only-none s e t = rw (sym e ∙ t)
+
+-- ---- the number of an operation, by what it is not
+
+pub above-none : (op : ℕ) → (op ≡ 0 → ⊥) → 0 < op
+above-none op d = lt-of-le-ne zero-le (λ e. d (sym e))
+
+pub below-ten : (op : ℕ) → op ≤ 11 → (op ≡ 11 → ⊥) → (op ≡ 10 → ⊥) → op < 10
+below-ten op h d f = let l : op < 11 = lt-of-le-ne h d in lt-of-le-ne (omega arith) f
 
 -- ---- what a statement brings
 
@@ -42,6 +61,9 @@ module _ (f : List ℤ) (flow given : List ℕ) (held handed : ℕ → ℕ) (lin
   pub behind-other : (op ≡ 5 → ⊥) → (op ≡ 6 → ⊥) → (op ≡ 8 → ⊥) → held s ≡ behind f flow given held handed line s op
   unfolding behind
   behind-other a b c = rw (ne-eqb op 5 a, ne-eqb op 6 b, ne-eqb op 8 c)
+
+  pub behind-as : {op′ : ℕ} → op ≡ op′ → behind f flow given held handed line s op ≡ behind f flow given held handed line s op′
+  behind-as e = ap (behind f flow given held handed line s) e
 
   -- no less out of more
   pub behind-more : (held′ handed′ : ℕ → ℕ) → ((p x : ℕ) → has (held p) x ≡ true → has (held′ p) x ≡ true)
@@ -74,6 +96,11 @@ became-same {x} {s} {b} e = record { is = sym e; long = refl; still = λ q. (q, 
 
 pub became-as : {x y s s′ : List ℕ} {b b′ : Bool} → x ≡ y → Became x s s′ b b′ → Became y s s′ b b′
 became-as e p = record { is = p .is ∙ e; long = p .long; still = p .still; moved = p .moved; less = p .less }
+
+-- the same with the place and the set written another way
+pub became-sent : (all : ℕ) {to to′ a a′ : ℕ} {s s′ : List ℕ} {b b′ : Bool} → to ≡ to′ → a ≡ a′ → Became (putInto to (minus all a) s) s s′ b b′
+    → Became (putInto to′ (minus all a′) s) s s′ b b′
+became-sent all {s = s} p q = became-as (ap₂ (λ (i x : ℕ). putInto i (minus all x) s) p q)
 
 -- a set that is put past the end, or is there already
 pub put-past : (t x : ℕ) (s : List ℕ) (b : Bool) → length s ≤ t → Became (putInto t x s) s s b b

@@ -333,9 +333,14 @@ fn note_all(
     }
 }
 
+// x, as an index.
+fn wide(x: u8) -> usize {
+    x as usize
+}
+
 // The routine that is noted for statement `s`.
 fn owner_at(owners: &[u8; 512], s: usize) -> usize {
-    if s < 512 { owners[s] as usize } else { 0 }
+    if s < 512 { wide(owners[s]) } else { 0 }
 }
 
 // Goes the ways of statement `s`, and where that changes anything marks the statements that they lead to. The lists of marks, CALLs and owners

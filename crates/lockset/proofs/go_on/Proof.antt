@@ -1,3 +1,9 @@
+use Rattle.lockset.proofs.RuleLaws.{call-moves, start-moves, other-moves}
+use Rattle.lockset.proofs.StepLaws.{behind-as, became-sent}
+use lib.ListN.{getD}
+use native.Mathlib.Omega.{arith}
+use Prim.Native.Nat.{ℕ}
+use mathlib.Core.Path.{refl, sym, ap, _∙_}
 use borrow.Author.Needs.{needs}
 use Rattle.lockset.proofs.go_on.Statement.{statement}
 use Rattle.lockset.proofs.go_on.Tie as tie
@@ -9,73 +15,56 @@ use Rattle.lockset.proofs.narrow_to.Reads as narrow-to-reads
 use Rattle.lockset.proofs.number_at.Reads as number-at-reads
 use Rattle.table.proofs.field_of.Reads as field-of-reads
 
--- src/lib.rt:111:16
 add-line : tie.Need-add-line
 add-line c = search needs
 
--- src/lib.rt:112:9
 held-after-requires : tie.Need-held-after-requires
 held-after-requires c κs = search needs
 
--- src/lib.rt:113:36
 add-narrow-to : tie.Need-add-narrow-to
 add-narrow-to c = search needs
 
--- src/lib.rt:113:9
 narrow-to-requires : tie.Need-narrow-to-requires
 narrow-to-requires c κs = search needs
 
--- src/lib.rt:115:38
 field-of-requires : tie.Need-field-of-requires
 field-of-requires c κs = search needs
 
--- src/lib.rt:115:13
 number-at-requires : tie.Need-number-at-requires
 number-at-requires c κs = search needs
 
--- src/lib.rt:116:13
 held-at-requires : tie.Need-held-at-requires
 held-at-requires c κs = search needs
 
--- src/lib.rt:117:9
 narrow-to-requires-2 : tie.Need-narrow-to-requires-2
 narrow-to-requires-2 c κs = search needs
 
--- src/lib.rt:117:9
 same-length : tie.Need-same-length
 same-length c = search needs
 
--- src/lib.rt:117:9
 returns : tie.Need-returns
-returns c = ?
+returns c = λ r own. call-moves _ r _ own (sym (c .before .before .before .before .before .before .before .before .before .before .before .before .before .before .before .before .before .before .before .before .pre .1 .0) ∙ c .before .before .before .before .before .before .before .before .if1 .taken) (became-sent _ refl (c .before .before .before .before .before .before .before .before .before .before .before .before .before .held-after .ensures ∙ behind-as _ _ _ _ _ _ _ _ (c .before .before .before .before .before .before .before .before .before .before .before .before .before .before .before .before .before .before .before .before .pre .1 .0)) (c .before .before .before .before .before .before .before .before .before .before .before .narrow-to .ensures)) (became-sent _ (c .before .before .before .before .before .before .number-at .ensures ∙ ap (λ (q : ℕ). getD (c .before .before .before .before .before .before .before .before .before .before .before .before .before .before .before .before .before .before .before .before .args .first .now) q 0) (c .before .before .before .before .before .before .before .field-of .ensures .0)) (c .before .before .before .before .held-at .ensures) (c .before .before .narrow-to2 .ensures))
 
--- src/lib.rt:120:38
 field-of-requires-2 : tie.Need-field-of-requires-2
 field-of-requires-2 c κs = search needs
 
--- src/lib.rt:120:13
 number-at-requires-2 : tie.Need-number-at-requires-2
 number-at-requires-2 c κs = search needs
 
--- src/lib.rt:121:9
 narrow-to-requires-3 : tie.Need-narrow-to-requires-3
 narrow-to-requires-3 c κs = search needs
 
--- src/lib.rt:121:9
 same-length-2 : tie.Need-same-length-2
 same-length-2 c = search needs
 
--- src/lib.rt:121:9
 returns-2 : tie.Need-returns-2
-returns-2 c = ?
+returns-2 c = λ r own. start-moves _ r _ own (sym (c .before .before .before .before .before .before .before .before .before .before .before .before .before .before .before .before .before .before .before .pre .1 .0) ∙ c .before .before .before .before .before .before .if2 .taken) (became-sent _ refl (c .before .before .before .before .before .before .before .before .before .before .before .before .held-after .ensures ∙ behind-as _ _ _ _ _ _ _ _ (c .before .before .before .before .before .before .before .before .before .before .before .before .before .before .before .before .before .before .before .pre .1 .0)) (c .before .before .before .before .before .before .before .before .before .before .narrow-to .ensures)) (became-sent _ (c .before .before .before .before .number-at2 .ensures ∙ ap (λ (q : ℕ). getD (c .before .before .before .before .before .before .before .before .before .before .before .before .before .before .before .before .before .before .before .args .first .now) q 0) (c .before .before .before .before .before .field-of2 .ensures .0)) refl (c .before .before .narrow-to3 .ensures))
 
--- src/lib.rt:94:1
 same-length-3 : tie.Need-same-length-3
 same-length-3 c = search needs
 
--- src/lib.rt:94:1
 returns-3 : tie.Need-returns-3
-returns-3 c = ?
+returns-3 c = λ r own. other-moves _ r _ own (omega (arith, c .before .before .before .before .before .before .before .before .before .before .before .before .before .pre .1 .0, c .before .before .before .before .before .before .before .before .before .before .before .before .before .pre .1 .1)) (omega (arith, c .before .before .before .before .before .before .before .before .before .before .before .before .before .pre .1 .0, c .before .before .before .before .before .before .before .before .before .before .before .before .before .pre .1 .2)) (λ q. c .before .if1 .left (c .before .before .before .before .before .before .before .before .before .before .before .before .before .pre .1 .0 ∙ q)) (λ q. c .if2 .left (c .before .before .before .before .before .before .before .before .before .before .before .before .before .pre .1 .0 ∙ q)) (became-sent _ refl (c .before .before .before .before .before .before .held-after .ensures ∙ behind-as _ _ _ _ _ _ _ _ (c .before .before .before .before .before .before .before .before .before .before .before .before .before .pre .1 .0)) (c .before .before .before .before .narrow-to .ensures))
 
 pub go-on-spec : {M : Type 1} → statement M
 go-on-spec =

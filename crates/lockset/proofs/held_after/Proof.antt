@@ -1,3 +1,5 @@
+use mathlib.Core.Path.{_∙_}
+use Rattle.lockset.proofs.StepLaws.{behind-take, behind-give, behind-call, behind-other}
 use borrow.Author.Needs.{needs}
 use Rattle.lockset.proofs.held_after.Statement.{statement}
 use Rattle.lockset.proofs.held_after.Tie as tie
@@ -32,7 +34,7 @@ union-requires c κs = search needs
 
 -- src/lib.rt:64:9
 returns : tie.Need-returns
-returns c = ?
+returns c = (cc) ∙ behind-take _ _ _ _ _ _ _ _ (c .before .before .before .before .if1 .taken)
 
 -- src/lib.rt:67:52
 field-of-requires-2 : tie.Need-field-of-requires-2
@@ -48,7 +50,7 @@ difference-requires c κs = search needs
 
 -- src/lib.rt:67:9
 returns-2 : tie.Need-returns-2
-returns-2 c = ?
+returns-2 c = (cc) ∙ behind-give _ _ _ _ _ _ _ _ (c .before .before .before .if2 .taken)
 
 -- src/lib.rt:70:13
 field-of-requires-3 : tie.Need-field-of-requires-3
@@ -72,11 +74,11 @@ union-requires-2 c κs = search needs
 
 -- src/lib.rt:72:9
 returns-3 : tie.Need-returns-3
-returns-3 c = ?
+returns-3 c = (cc) ∙ behind-call _ _ _ _ _ _ _ _ (c .before .before .before .before .before .if3 .taken)
 
 -- src/lib.rt:49:1
 returns-4 : tie.Need-returns-4
-returns-4 c = ?
+returns-4 c = c .before .before .before .held-at .ensures ∙ behind-other _ _ _ _ _ _ _ _ (c .before .before .if1 .left) (c .before .if2 .left) (c .if3 .left)
 
 pub held-after-spec : {M : Type 1} → statement M
 held-after-spec =

@@ -1,65 +1,55 @@
+use Prim.Native.Nat.{_-_, _≤_}
+use borrow.Author.Needs.{needs}
+use native.Mathlib.Omega.{arith}
 use Rattle.lockset.proofs.mark_calls.Statement.{statement}
 use Rattle.lockset.proofs.mark_calls.Tie as tie
 use Rattle.lockset.proofs.mark_calls.Reads as reads
 use Rattle.lockset.proofs.mark_calls.Lts as lts
 
 abbrev Inv-loop : tie.InvT-loop
-Inv-loop todo₀ calls r word₀ todo word = ?
+Inv-loop todo₀ calls r word₀ todo word = word ≤ 8
 
 abbrev μ-loop : tie.MeasureT-loop
-μ-loop todo₀ calls r word₀ todo word = ?
+μ-loop todo₀ calls r word₀ todo word = 8 - word
 
--- src/lib.rt:226:5
 loop-holds : tie.Need-loop-holds Inv-loop μ-loop
-loop-holds c = ?
+loop-holds c = search needs
 
--- src/lib.rt:228:26
 mul-todo : tie.Need-mul-todo Inv-loop μ-loop
-mul-todo c = ?
+mul-todo c = search needs
 
--- src/lib.rt:228:26
 element-copy-out-todo : tie.Need-element-copy-out-todo Inv-loop μ-loop
-element-copy-out-todo c = ?
+element-copy-out-todo c = search needs
 
--- src/lib.rt:228:45
 mul-todo-2 : tie.Need-mul-todo-2 Inv-loop μ-loop
-mul-todo-2 c = ?
+mul-todo-2 c = search needs
 
--- src/lib.rt:228:45
 add-todo : tie.Need-add-todo Inv-loop μ-loop
-add-todo c = ?
+add-todo c = search needs
 
--- src/lib.rt:228:39
 mul-todo-3 : tie.Need-mul-todo-3 Inv-loop μ-loop
-mul-todo-3 c = ?
+mul-todo-3 c = search needs
 
--- src/lib.rt:228:39
 element-copy-out-todo-2 : tie.Need-element-copy-out-todo-2 Inv-loop μ-loop
-element-copy-out-todo-2 c = ?
+element-copy-out-todo-2 c = search needs
 
--- src/lib.rt:228:13
 mul-todo-4 : tie.Need-mul-todo-4 Inv-loop μ-loop
-mul-todo-4 c = ?
+mul-todo-4 c = search needs
 
--- src/lib.rt:228:13
 element-write-todo : tie.Need-element-write-todo Inv-loop μ-loop
-element-write-todo c = ?
+element-write-todo c = search needs
 
--- src/lib.rt:230:9
 add-word : tie.Need-add-word Inv-loop μ-loop
-add-word c = ?
+add-word c = search needs
 
--- src/lib.rt:226:5
 loop-less : tie.Need-loop-less Inv-loop μ-loop
-loop-less c = ?
+loop-less c = search needs
 
--- src/lib.rt:226:5
 loop-again : tie.Need-loop-again Inv-loop μ-loop
-loop-again c = ?
+loop-again c = search needs
 
--- src/lib.rt:224:1
 returns : tie.Need-returns Inv-loop μ-loop
-returns c = ?
+returns c = search needs
 
 pub mark-calls-spec : {M : Type 1} → statement M
 mark-calls-spec =

@@ -1,3 +1,6 @@
+use Prim.Native.Nat.{_-_, _≤_, _+_}
+use borrow.Author.Needs.{needs}
+use native.Mathlib.Omega.{arith}
 use Rattle.lockset.proofs.note_routine.Statement.{statement}
 use Rattle.lockset.proofs.note_routine.Tie as tie
 use Rattle.lockset.proofs.note_routine.Reads as reads
@@ -6,46 +9,37 @@ use Rattle.lockset.proofs.note.Reads as note-reads
 use Rattle.lockset.proofs.number_at.Reads as number-at-reads
 
 abbrev Inv-loop : tie.InvT-loop
-Inv-loop todo₀ calls₀ owners₀ numbers first base r end s₀ todo calls owners s = ?
+Inv-loop todo₀ calls₀ owners₀ numbers first base r end s₀ todo calls owners s = s₀ ≤ s
 
 abbrev μ-loop : tie.MeasureT-loop
-μ-loop todo₀ calls₀ owners₀ numbers first base r end s₀ todo calls owners s = ?
+μ-loop todo₀ calls₀ owners₀ numbers first base r end s₀ todo calls owners s = end - s
 
--- src/lib.rt:307:32
 add-number-at : tie.Need-add-number-at Inv-loop μ-loop
-add-number-at c = ?
+add-number-at c = search needs
 
--- src/lib.rt:307:9
 number-at-requires : tie.Need-number-at-requires Inv-loop μ-loop
-number-at-requires c κs = ?
+number-at-requires c κs = search needs
 
--- src/lib.rt:308:9
 number-at-requires-2 : tie.Need-number-at-requires-2 Inv-loop μ-loop
-number-at-requires-2 c κs = ?
+number-at-requires-2 c κs = search needs
 
--- src/lib.rt:309:5
 loop-holds : tie.Need-loop-holds Inv-loop μ-loop
-loop-holds c = ?
+loop-holds c = search needs
 
--- src/lib.rt:310:9
 note-requires : tie.Need-note-requires Inv-loop μ-loop
-note-requires c κs = ?
+note-requires c κs = (c .before .before .before .before .before .before .before .before .pre .0 .base-small, omega (arith, c .before .before .before .loop-test .taken, c .before .before .before .before .before .before .number-at .ensures, c .before .before .before .before .before .before .before .before .pre .0 .first-small (c .before .before .before .before .before .before .before .before .args .r + 1)), c .before .before .before .before .before .before .before .before .pre .1)
 
--- src/lib.rt:311:9
 add-s : tie.Need-add-s Inv-loop μ-loop
-add-s c = ?
+add-s c = search needs
 
--- src/lib.rt:309:5
 loop-less : tie.Need-loop-less Inv-loop μ-loop
-loop-less c = ?
+loop-less c = search needs
 
--- src/lib.rt:309:5
 loop-again : tie.Need-loop-again Inv-loop μ-loop
-loop-again c = ?
+loop-again c = search needs
 
--- src/lib.rt:295:1
 returns : tie.Need-returns Inv-loop μ-loop
-returns c = ?
+returns c = search needs
 
 pub note-routine-spec : {M : Type 1} → statement M
 note-routine-spec =

@@ -1,3 +1,8 @@
+use Rattle.lockset.proofs.MoveLaws.{below-start, below-next, below-done}
+use Rattle.lockset.specs.Rules.{setting, RulesBelow, Moved}
+use Prim.Native.Nat.{_-_, _≤_}
+use borrow.Author.Needs.{needs}
+use native.Mathlib.Omega.{arith}
 use Rattle.lockset.proofs.pass_routine.Statement.{statement}
 use Rattle.lockset.proofs.pass_routine.Tie as tie
 use Rattle.lockset.proofs.pass_routine.Reads as reads
@@ -6,54 +11,43 @@ use Rattle.lockset.proofs.number_at.Reads as number-at-reads
 use Rattle.lockset.proofs.step.Reads as step-reads
 
 abbrev Inv-loop : tie.InvT-loop
-Inv-loop out₀ back₀ numbers first flow given all base r changed end s₀ more₀ out back s more = ?
+Inv-loop out₀ back₀ numbers first flow given all base r changed end s₀ more₀ out back s more = (s₀ ≤ s) × Moved (setting numbers first flow given all base) (RulesBelow (setting numbers first flow given all base) r s) out₀ back₀ out back changed more
 
 abbrev μ-loop : tie.MeasureT-loop
-μ-loop out₀ back₀ numbers first flow given all base r changed end s₀ more₀ out back s more = ?
+μ-loop out₀ back₀ numbers first flow given all base r changed end s₀ more₀ out back s more = end - s
 
--- src/lib.rt:182:32
 add-number-at : tie.Need-add-number-at Inv-loop μ-loop
-add-number-at c = ?
+add-number-at c = omega (arith, c .before .before .before .before .before .pre .1 .1)
 
--- src/lib.rt:182:9
 number-at-requires : tie.Need-number-at-requires Inv-loop μ-loop
-number-at-requires c κs = ?
+number-at-requires c κs = search needs
 
--- src/lib.rt:183:9
 number-at-requires-2 : tie.Need-number-at-requires-2 Inv-loop μ-loop
-number-at-requires-2 c κs = ?
+number-at-requires-2 c κs = search needs
 
--- src/lib.rt:185:5
 loop-holds : tie.Need-loop-holds Inv-loop μ-loop
-loop-holds c = ?
+loop-holds c = (omega arith, below-start (omega (arith, c .number-at2 .ensures)))
 
--- src/lib.rt:186:9
 step-requires : tie.Need-step-requires Inv-loop μ-loop
-step-requires c κs = ?
+step-requires c κs = (c .before .before .before .before .before .before .before .before .before .before .before .pre .0, record { there = c .before .before .before .before .before .before .before .before .before .before .before .pre .1 .0; low = omega (arith, c .before .before .before .loop .inv .0, c .before .before .before .before .number-at2 .ensures); high = omega (arith, c .before .before .loop-test .taken, c .before .before .before .before .before .number-at .ensures) })
 
--- src/lib.rt:187:9
 add-s : tie.Need-add-s Inv-loop μ-loop
-add-s c = ?
+add-s c = search needs
 
--- src/lib.rt:185:5
 loop-less : tie.Need-loop-less Inv-loop μ-loop
-loop-less c = ?
+loop-less c = search needs
 
--- src/lib.rt:185:5
 loop-again : tie.Need-loop-again Inv-loop μ-loop
-loop-again c = ?
+loop-again c = (omega (arith, c .before .before .before .before .before .before .before .before .loop .inv .0), below-next (c .before .before .before .before .before .before .before .before .loop .inv .1) (c .before .before .before .before .step .ensures))
 
--- src/lib.rt:166:1
 same-length : tie.Need-same-length Inv-loop μ-loop
-same-length c = ?
+same-length c = c .before .loop .inv .1 .kept .long
 
--- src/lib.rt:166:1
 same-length-2 : tie.Need-same-length-2 Inv-loop μ-loop
-same-length-2 c = ?
+same-length-2 c = c .before .loop .inv .1 .kept .back-long
 
--- src/lib.rt:166:1
 returns : tie.Need-returns Inv-loop μ-loop
-returns c = ?
+returns c = below-done (omega (arith, c .loop-test .left, c .before .before .before .number-at .ensures)) (c .before .loop .inv .1)
 
 pub pass-routine-spec : {M : Type 1} → statement M
 pass-routine-spec =

@@ -1,3 +1,8 @@
+use Rattle.lockset.proofs.RuleLaws.{jump-moves, jump-zero-moves, return-moves}
+use Rattle.lockset.proofs.StepLaws.{became-sent, above-none, below-ten}
+use native.Mathlib.Omega.{arith}
+use Prim.Native.Nat.{_+_}
+use mathlib.Core.Path.{refl, sym, _∙_}
 use borrow.Author.Needs.{needs}
 use Rattle.lockset.proofs.step.Statement.{statement}
 use Rattle.lockset.proofs.step.Tie as tie
@@ -8,117 +13,89 @@ use Rattle.lockset.proofs.held_at.Reads as held-at-reads
 use Rattle.lockset.proofs.narrow_to.Reads as narrow-to-reads
 use Rattle.table.proofs.field_of.Reads as field-of-reads
 
--- src/lib.rt:144:39
 add-field-of : tie.Need-add-field-of
-add-field-of c = ?
+add-field-of c = omega (arith, c .before .before .before .before .before .pre .0 .base-small, c .before .before .before .before .before .pre .1 .high, c .before .before .before .before .before .pre .0 .first-small (c .before .before .before .before .before .args .r + 1))
 
--- src/lib.rt:144:9
 field-of-requires : tie.Need-field-of-requires
 field-of-requires c κs = search needs
 
--- src/lib.rt:145:9
 held-at-requires : tie.Need-held-at-requires
 held-at-requires c κs = search needs
 
--- src/lib.rt:147:47
 add-field-of-2 : tie.Need-add-field-of-2
-add-field-of-2 c = ?
+add-field-of-2 c = omega (arith, c .before .before .before .before .before .before .before .before .before .pre .0 .base-small, c .before .before .before .before .before .before .before .before .before .pre .1 .high, c .before .before .before .before .before .before .before .before .before .pre .0 .first-small (c .before .before .before .before .before .before .before .before .before .args .r + 1))
 
--- src/lib.rt:147:13
 field-of-requires-2 : tie.Need-field-of-requires-2
 field-of-requires-2 c κs = search needs
 
--- src/lib.rt:148:9
 narrow-to-requires : tie.Need-narrow-to-requires
 narrow-to-requires c κs = search needs
 
--- src/lib.rt:148:9
 same-length : tie.Need-same-length
 same-length c = search needs
 
--- src/lib.rt:148:9
 returns : tie.Need-returns
-returns c = ?
+returns c = jump-moves _ _ _ (c .before .before .before .before .before .before .before .before .before .before .before .before .before .before .pre .1) (sym (c .before .before .before .before .before .before .before .before .field-of .ensures .0) ∙ c .before .before .before .before .before .if1 .taken) (became-sent _ (c .before .before .before .before .field-of2 .ensures .0) (c .before .before .before .before .before .before .held-at .ensures) (c .before .before .narrow-to .ensures))
 
--- src/lib.rt:151:47
 add-field-of-3 : tie.Need-add-field-of-3
-add-field-of-3 c = ?
+add-field-of-3 c = omega (arith, c .before .before .before .before .before .before .before .before .before .before .pre .0 .base-small, c .before .before .before .before .before .before .before .before .before .before .pre .1 .high, c .before .before .before .before .before .before .before .before .before .before .pre .0 .first-small (c .before .before .before .before .before .before .before .before .before .before .args .r + 1))
 
--- src/lib.rt:151:13
 field-of-requires-3 : tie.Need-field-of-requires-3
 field-of-requires-3 c κs = search needs
 
--- src/lib.rt:152:13
 narrow-to-requires-2 : tie.Need-narrow-to-requires-2
 narrow-to-requires-2 c κs = search needs
 
--- src/lib.rt:153:13
 held-at-requires-2 : tie.Need-held-at-requires-2
 held-at-requires-2 c κs = search needs
 
--- src/lib.rt:154:36
 add-narrow-to : tie.Need-add-narrow-to
-add-narrow-to c = ?
+add-narrow-to c = omega (arith, c .before .before .before .before .before .before .before .before .before .before .before .before .before .before .before .before .before .before .pre .0 .base-small, c .before .before .before .before .before .before .before .before .before .before .before .before .before .before .before .before .before .before .pre .1 .high, c .before .before .before .before .before .before .before .before .before .before .before .before .before .before .before .before .before .before .pre .0 .first-small (c .before .before .before .before .before .before .before .before .before .before .before .before .before .before .before .before .before .before .args .r + 1))
 
--- src/lib.rt:154:9
 narrow-to-requires-3 : tie.Need-narrow-to-requires-3
 narrow-to-requires-3 c κs = search needs
 
--- src/lib.rt:154:9
 same-length-2 : tie.Need-same-length-2
 same-length-2 c = search needs
 
--- src/lib.rt:154:9
 returns-2 : tie.Need-returns-2
-returns-2 c = ?
+returns-2 c = jump-zero-moves _ _ _ (c .before .before .before .before .before .before .before .before .before .before .before .before .before .before .before .before .before .before .before .before .before .pre .1) (sym (c .before .before .before .before .before .before .before .before .before .before .before .before .before .before .before .field-of .ensures .0) ∙ c .before .before .before .before .before .before .before .before .before .before .before .if2 .taken) (became-sent _ (c .before .before .before .before .before .before .before .before .before .before .field-of3 .ensures .0) (c .before .before .before .before .before .before .before .before .before .before .before .before .before .held-at .ensures) (c .before .before .before .before .before .before .before .before .narrow-to2 .ensures)) (became-sent _ refl (c .before .before .before .before .held-at2 .ensures) (c .before .before .narrow-to3 .ensures))
 
--- src/lib.rt:157:9
 narrow-to-requires-4 : tie.Need-narrow-to-requires-4
 narrow-to-requires-4 c κs = search needs
 
--- src/lib.rt:157:9
 same-length-3 : tie.Need-same-length-3
 same-length-3 c = search needs
 
--- src/lib.rt:157:9
 same-length-4 : tie.Need-same-length-4
 same-length-4 c = search needs
 
--- src/lib.rt:157:9
 returns-3 : tie.Need-returns-3
-returns-3 c = ?
+returns-3 c = return-moves _ _ _ (c .before .before .before .before .before .before .before .before .before .before .before .before .before .before .before .pre .1) (λ l. omega (arith, c .before .before .before .before .before .before .before .before .before .field-of .ensures .0, c .before .before .before .before .if3 .taken)) (became-sent _ refl (c .before .before .before .before .before .before .before .held-at .ensures) (c .before .before .narrow-to4 .ensures))
 
--- src/lib.rt:160:9
 narrow-to-requires-5 : tie.Need-narrow-to-requires-5
 narrow-to-requires-5 c κs = search needs
 
--- src/lib.rt:160:9
 same-length-5 : tie.Need-same-length-5
 same-length-5 c = search needs
 
--- src/lib.rt:160:9
 same-length-6 : tie.Need-same-length-6
 same-length-6 c = search needs
 
--- src/lib.rt:160:9
 returns-4 : tie.Need-returns-4
-returns-4 c = ?
+returns-4 c = return-moves _ _ _ (c .before .before .before .before .before .before .before .before .before .before .before .before .before .before .before .before .pre .1) (λ l. absurd (omega (arith, l, c .before .before .before .before .before .before .before .before .before .before .field-of .ensures .0, c .before .before .before .before .if4 .taken))) (became-sent _ refl (c .before .before .before .before .before .before .before .before .held-at .ensures) (c .before .before .narrow-to5 .ensures))
 
--- src/lib.rt:162:5
 go-on-requires : tie.Need-go-on-requires
-go-on-requires c κs = ?
+go-on-requires c κs = ((c .before .before .before .before .before .before .before .before .before .before .before .before .before .before .pre .0 .base-small, omega (arith, c .before .before .before .before .before .before .before .before .before .before .before .before .before .before .pre .0 .base-small, c .before .before .before .before .before .before .before .before .before .before .before .before .before .before .pre .1 .high, c .before .before .before .before .before .before .before .before .before .before .before .before .before .before .pre .0 .first-small (c .before .before .before .before .before .before .before .before .before .before .before .before .before .before .args .r + 1))), (c .before .before .before .before .before .before .before .before .field-of .ensures .0, above-none _ (c .before .before .if4 .left), below-ten _ (c .before .before .before .if3 .left) (c .before .before .before .before .if2 .left) (c .before .before .before .before .before .if1 .left)))
 
--- src/lib.rt:127:1
 same-length-7 : tie.Need-same-length-7
 same-length-7 c = search needs
 
--- src/lib.rt:127:1
 same-length-8 : tie.Need-same-length-8
 same-length-8 c = search needs
 
--- src/lib.rt:127:1
 returns-5 : tie.Need-returns-5
-returns-5 c = ?
+returns-5 c = c .before .before .go-on .ensures _ (c .before .before .before .before .before .before .before .before .before .before .before .before .before .before .before .before .before .pre .1)
 
 pub step-spec : {M : Type 1} → statement M
 step-spec =
