@@ -11,8 +11,9 @@ use lib.ListN.{length, getD}
 use Rattle.sets.specs.Set.{has, minus}
 use Rattle.sets.specs.Least.{Inside, room, putInto}
 use Rattle.sets.specs.Rules.{put-inside, still-put}
+use Rattle.table.specs.Header.{routines}
 use Rattle.lockset.specs.Steps.{Became}
-use Rattle.lockset.specs.Rules.{Setting, Lost, RulesBelow, ClosedBelow, Closed, Kept, Moved, Settling, Solved, Rule, RoutineRules}
+use Rattle.lockset.specs.Rules.{Setting, Lost, RulesBelow, RoutinesBelow, Closed, Kept, Moved, Settling, Solved, Rule, RoutineRules}
 
 -- what is left to do, besides the room: one turn while going on
 unfoldable pub turn : Bool → ℕ
@@ -117,13 +118,23 @@ module _ {e : Setting} where
   below-done h = moved-as (λ p. record { at = λ i l k. p .at i l (omega arith) })
 
   -- the routines, one after another
-  pub closed-start : {o b o′ : List ℕ} {x y : Bool} → Became (putInto 0 (minus (e .all) 0) o) o o′ x y → Moved e (ClosedBelow e 0) o b o′ b x y
-  closed-start p = moved-out p (λ R B c i j. c .entry) (λ l. record { entry = l; at = λ r k. absurd (omega arith) })
+  pub routines-start : {o b : List ℕ} {x : Bool} → Moved e (RoutinesBelow e 0) o b o b x x
+  routines-start = record {
+    kept = kept-none;
+    moved = λ t. inl t;
+    still = λ t. (t, refl, refl, record { at = λ r l. absurd (omega arith) });
+  }
 
-  pub closed-next : {o b o′ b′ o″ b″ : List ℕ} {x y z : Bool} {r : ℕ} → Moved e (ClosedBelow e r) o b o′ b′ x y → Moved e (RoutineRules e r) o′ b′ o″ b″ y z
-      → Moved e (ClosedBelow e (r + 1)) o b o″ b″ x z
-  closed-next {o} {b} {r = r} =
-      moved-then (λ p q. record { entry = p .entry; at = below-more (λ (j : ℕ). RoutineRules e j o b) r (p .at) q })
+  pub routines-next : {o b o′ b′ o″ b″ : List ℕ} {x y z : Bool} {r : ℕ} → Moved e (RoutinesBelow e r) o b o′ b′ x y → Moved e (RoutineRules e r) o′ b′ o″ b″ y z
+      → Moved e (RoutinesBelow e (r + 1)) o b o″ b″ x z
+  routines-next {o} {b} {r = r} = moved-then (λ p q. record { at = below-more (λ (j : ℕ). RoutineRules e j o b) r (p .at) q })
+
+  -- the entry of routine 0 first
+  pub routines-done : {o b o′ o″ b″ : List ℕ} {x y z : Bool} {n : ℕ} → n ≡ routines (e .numbers) → Became (putInto 0 (minus (e .all) 0) o) o o′ x y
+      → Moved e (RoutinesBelow e n) o′ b o″ b″ y z → Moved e (Closed e) o b o″ b″ x z
+  routines-done {n = n} h p =
+      moved-then {D = λ o b. Lost (e .all) o 0 0} (λ l q. record { entry = l; at = λ r k. q .at r (omega arith) })
+      (moved-out p (λ R B c i j. c .entry) (λ l. l))
 
   -- ---- passes until one changes nothing
 

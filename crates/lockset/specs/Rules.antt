@@ -71,14 +71,14 @@ module _ (e : Setting) where
   abbrev pub RoutineRules : ℕ → List ℕ → List ℕ → Type 0
   RoutineRules r = RulesBelow r (getD (e .first) (r + 1) 0)
 
-  -- nor the entry of routine 0 and those of the routines below n
-  pub record ClosedBelow (n : ℕ) (out back : List ℕ) : Type 0 where
-    pub entry : Lost (e .all) out 0 0
+  -- nor those of the routines below n
+  pub record RoutinesBelow (n : ℕ) (out back : List ℕ) : Type 0 where
     pub at : (r : ℕ) → r < n → RoutineRules r out back
 
-  -- no way has anything to leave out
-  abbrev pub Closed : List ℕ → List ℕ → Type 0
-  Closed = ClosedBelow (routines (e .numbers))
+  -- no way has anything to leave out, that into the entry of routine 0 included
+  pub record Closed (out back : List ℕ) : Type 0 where
+    pub entry : Lost (e .all) out 0 0
+    pub at : (r : ℕ) → r < routines (e .numbers) → RoutineRules r out back
 
   -- both lists keep their lengths, grow, and stay inside all closed lists that they are inside of
   pub record Kept (out back out′ back′ : List ℕ) : Type 0 where

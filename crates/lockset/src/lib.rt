@@ -377,6 +377,13 @@ fn look(
     }
 }
 
+// The lowest element of a set; 64 if it has none.
+fn lowest_of(set: u64) -> usize
+    ensures { λ i. ⌜ i ≤ 64 ⌝ }
+{
+    u64::trailing_zeros(set) as usize
+}
+
 // Looks at the marked statements of one word, until none is marked or they are many.
 fn chase_word(
     out: &mut [u64],
@@ -396,13 +403,13 @@ fn chase_word(
     requires { ⌜ word < 8 ⌝ }
     ensures { λ _. ⌜ Kept (setting (now (numbers .entry)) (now (first .entry)) (now (flow .entry)) (now (given .entry)) all base) (now (out .entry)) (now (back .entry)) (now (out .exit)) (now (back .exit)) ⌝ }
 {
-    let mut left = 4096;
+    let mut left: usize = 4096;
     while 0 < left {
         let bits = todo[word];
         if bits == 0 {
             return;
         }
-        let s = word * 64 + u64::trailing_zeros(bits) as usize;
+        let s = word * 64 + lowest_of(bits);
         todo[word] = bits & (bits - 1);
         look(out, back, numbers, first, flow, given, all, base, todo, calls, owners, s);
         left -= 1;
@@ -456,7 +463,7 @@ fn chase(
     let mut calls = [0u64; 256];
     let mut owners = [0u8; 512];
     note_all(&mut todo, &mut calls, &mut owners, numbers, first, base);
-    let mut left = 512;
+    let mut left: usize = 512;
     while 0 < left {
         if !any_marked(&todo) {
             return;

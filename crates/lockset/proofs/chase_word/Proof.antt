@@ -1,92 +1,76 @@
+use Rattle.lockset.proofs.MoveLaws.{kept-none, kept-then}
+use Rattle.lockset.specs.Rules.{setting, Kept}
+use borrow.Author.Needs.{needs}
+use native.Mathlib.Omega.{arith}
 use Rattle.lockset.proofs.chase_word.Statement.{statement}
 use Rattle.lockset.proofs.chase_word.Tie as tie
 use Rattle.lockset.proofs.chase_word.Reads as reads
 use Rattle.lockset.proofs.chase_word.Lts as lts
 use Rattle.lockset.proofs.look.Reads as look-reads
+use Rattle.lockset.proofs.lowest_of.Reads as lowest-of-reads
 
 abbrev Inv-loop : tie.InvT-loop
-Inv-loop out₀ back₀ numbers first flow given all base todo₀ calls owners word left₀ out back todo left =
-    ?
+Inv-loop out₀ back₀ numbers first flow given all base todo₀ calls owners word left₀ out back todo left = Kept (setting numbers first flow given all base) out₀ back₀ out back
 
 abbrev μ-loop : tie.MeasureT-loop
-μ-loop out₀ back₀ numbers first flow given all base todo₀ calls owners word left₀ out back todo left =
-    ?
+μ-loop out₀ back₀ numbers first flow given all base todo₀ calls owners word left₀ out back todo left = left
 
--- src/lib.rt:400:5
 loop-holds : tie.Need-loop-holds Inv-loop μ-loop
-loop-holds c = ?
+loop-holds c = kept-none
 
--- src/lib.rt:401:20
 mul-bits : tie.Need-mul-bits Inv-loop μ-loop
-mul-bits c = ?
+mul-bits c = search needs
 
--- src/lib.rt:401:20
 element-copy-out-bits : tie.Need-element-copy-out-bits Inv-loop μ-loop
-element-copy-out-bits c = ?
+element-copy-out-bits c = search needs
 
--- src/lib.rt:403:13
 same-length : tie.Need-same-length Inv-loop μ-loop
-same-length c = ?
+same-length c = c .before .before .before .loop .inv .long
 
--- src/lib.rt:403:13
 same-length-2 : tie.Need-same-length-2 Inv-loop μ-loop
-same-length-2 c = ?
+same-length-2 c = c .before .before .before .loop .inv .back-long
 
--- src/lib.rt:403:13
 returns : tie.Need-returns Inv-loop μ-loop
-returns c = ?
+returns c = c .before .before .before .loop .inv
 
--- src/lib.rt:405:17
 mul-s : tie.Need-mul-s Inv-loop μ-loop
-mul-s c = ?
+mul-s c = search needs
 
--- src/lib.rt:405:29
-cast-s : tie.Need-cast-s Inv-loop μ-loop
-cast-s c = ?
+lowest-of-requires : tie.Need-lowest-of-requires Inv-loop μ-loop
+lowest-of-requires c κs = search needs
 
--- src/lib.rt:405:17
 add-s : tie.Need-add-s Inv-loop μ-loop
-add-s c = ?
+add-s c = search needs
 
--- src/lib.rt:406:30
 sub-todo : tie.Need-sub-todo Inv-loop μ-loop
-sub-todo c = ?
+sub-todo c = search needs
 
--- src/lib.rt:406:9
 mul-todo : tie.Need-mul-todo Inv-loop μ-loop
-mul-todo c = ?
+mul-todo c = search needs
 
--- src/lib.rt:406:9
 element-write-todo : tie.Need-element-write-todo Inv-loop μ-loop
-element-write-todo c = ?
+element-write-todo c = search needs
 
--- src/lib.rt:407:9
 look-requires : tie.Need-look-requires Inv-loop μ-loop
-look-requires c κs = ?
+look-requires c κs = search needs
 
--- src/lib.rt:408:9
 sub-left : tie.Need-sub-left Inv-loop μ-loop
-sub-left c = ?
+sub-left c = search needs
 
--- src/lib.rt:400:5
 loop-less : tie.Need-loop-less Inv-loop μ-loop
-loop-less c = ?
+loop-less c = search needs
 
--- src/lib.rt:400:5
 loop-again : tie.Need-loop-again Inv-loop μ-loop
-loop-again c = ?
+loop-again c = kept-then (c .before .before .before .before .before .before .before .before .before .before .before .before .loop .inv) (c .before .before .before .before .look .ensures)
 
--- src/lib.rt:381:1
 same-length-3 : tie.Need-same-length-3 Inv-loop μ-loop
-same-length-3 c = ?
+same-length-3 c = c .before .loop .inv .long
 
--- src/lib.rt:381:1
 same-length-4 : tie.Need-same-length-4 Inv-loop μ-loop
-same-length-4 c = ?
+same-length-4 c = c .before .loop .inv .back-long
 
--- src/lib.rt:381:1
 returns-2 : tie.Need-returns-2 Inv-loop μ-loop
-returns-2 c = ?
+returns-2 c = c .before .loop .inv
 
 pub chase-word-spec : {M : Type 1} → statement M
 chase-word-spec =
@@ -101,7 +85,7 @@ chase-word-spec =
     same-length-2
     returns
     mul-s
-    cast-s
+    lowest-of-requires
     add-s
     sub-todo
     mul-todo

@@ -1,3 +1,5 @@
+use Prim.Native.Nat.{_+_}
+use native.Mathlib.Omega.{arith}
 use borrow.Author.Needs.{needs}
 use Rattle.lockset.proofs.look.Statement.{statement}
 use Rattle.lockset.proofs.look.Tie as tie
@@ -9,67 +11,51 @@ use Rattle.lockset.proofs.owner_at.Reads as owner-at-reads
 use Rattle.lockset.proofs.step.Reads as step-reads
 use Rattle.table.proofs.field_of.Reads as field-of-reads
 
--- src/lib.rt:365:9
 owner-at-requires : tie.Need-owner-at-requires
 owner-at-requires c κs = search needs
 
--- src/lib.rt:366:8
 field-of-requires : tie.Need-field-of-requires
 field-of-requires c κs = search needs
 
--- src/lib.rt:367:9
 returns : tie.Need-returns
 returns c = search needs
 
--- src/lib.rt:369:12
 number-at-requires : tie.Need-number-at-requires
 number-at-requires c κs = search needs
 
--- src/lib.rt:370:9
 returns-2 : tie.Need-returns-2
 returns-2 c = search needs
 
--- src/lib.rt:372:25
 add-number-at : tie.Need-add-number-at
 add-number-at c = search needs
 
--- src/lib.rt:372:8
 number-at-requires-2 : tie.Need-number-at-requires-2
 number-at-requires-2 c κs = search needs
 
--- src/lib.rt:373:9
 returns-3 : tie.Need-returns-3
 returns-3 c = search needs
 
--- src/lib.rt:375:8
 step-requires : tie.Need-step-requires
-step-requires c κs = ?
+step-requires c κs = (c .before .before .before .before .before .before .before .before .before .before .before .before .before .before .pre, record { there = omega (arith, c .before .before .before .before .before .before .if1 .left, c .before .before .before .before .before .before .before .field-of .ensures .0); low = omega (arith, c .before .before .before .before .if2 .left, c .before .before .before .before .before .number-at .ensures); high = omega (arith, c .before .before .if3 .left, c .before .before .before .number-at2 .ensures) })
 
--- src/lib.rt:376:9
 mark-after-requires : tie.Need-mark-after-requires
-mark-after-requires c κs = ?
+mark-after-requires c κs = (c .before .before .before .before .before .before .before .before .before .before .before .before .before .before .before .before .before .before .before .before .before .pre .base-small, omega (arith, c .before .before .before .before .before .before .before .before .before .if3 .left, c .before .before .before .before .before .before .before .before .before .before .number-at2 .ensures, c .before .before .before .before .before .before .before .before .before .before .before .before .before .before .before .before .before .before .before .before .before .pre .first-small (c .before .before .before .before .before .before .before .before .before .before .before .before .before .before .before .owner-at .result + 1)))
 
--- src/lib.rt:348:1
 same-length : tie.Need-same-length
 same-length c = search needs
 
--- src/lib.rt:348:1
 same-length-2 : tie.Need-same-length-2
 same-length-2 c = search needs
 
--- src/lib.rt:348:1
 returns-4 : tie.Need-returns-4
 returns-4 c = search needs
 
--- src/lib.rt:348:1
 same-length-3 : tie.Need-same-length-3
 same-length-3 c = search needs
 
--- src/lib.rt:348:1
 same-length-4 : tie.Need-same-length-4
 same-length-4 c = search needs
 
--- src/lib.rt:348:1
 returns-5 : tie.Need-returns-5
 returns-5 c = search needs
 

@@ -1,3 +1,9 @@
+use mathlib.Core.Path.{_∙_}
+use Rattle.lockset.proofs.MoveLaws.{routines-start, routines-next, routines-done}
+use Rattle.lockset.specs.Rules.{setting, RoutinesBelow, Moved}
+use Prim.Native.Nat.{_-_, _≤_}
+use borrow.Author.Needs.{needs}
+use native.Mathlib.Omega.{arith}
 use Rattle.lockset.proofs.pass.Statement.{statement}
 use Rattle.lockset.proofs.pass.Tie as tie
 use Rattle.lockset.proofs.pass.Reads as reads
@@ -7,50 +13,40 @@ use Rattle.lockset.proofs.pass_routine.Reads as pass-routine-reads
 use Rattle.table.proofs.field_of.Reads as field-of-reads
 
 abbrev Inv-loop : tie.InvT-loop
-Inv-loop out₀ back₀ numbers first flow given all base count changed₀ r₀ out back changed r = ?
+Inv-loop out₀ back₀ numbers first flow given all base count changed₀ r₀ out back changed r = (r ≤ count) × Moved (setting numbers first flow given all base) (RoutinesBelow (setting numbers first flow given all base) r) out₀ back₀ out back changed₀ changed
 
 abbrev μ-loop : tie.MeasureT-loop
-μ-loop out₀ back₀ numbers first flow given all base count changed₀ r₀ out back changed r = ?
+μ-loop out₀ back₀ numbers first flow given all base count changed₀ r₀ out back changed r = count - r
 
--- src/lib.rt:206:9
 field-of-requires : tie.Need-field-of-requires Inv-loop μ-loop
-field-of-requires c κs = ?
+field-of-requires c κs = search needs
 
--- src/lib.rt:207:9
 narrow-to-requires : tie.Need-narrow-to-requires Inv-loop μ-loop
-narrow-to-requires c κs = ?
+narrow-to-requires c κs = search needs
 
--- src/lib.rt:209:5
 loop-holds : tie.Need-loop-holds Inv-loop μ-loop
-loop-holds c = ?
+loop-holds c = (omega arith, routines-start)
 
--- src/lib.rt:210:9
 pass-routine-requires : tie.Need-pass-routine-requires Inv-loop μ-loop
-pass-routine-requires c κs = ?
+pass-routine-requires c κs = (c .before .before .before .before .before .before .before .before .before .before .before .before .before .before .pre, (omega (arith, c .before .before .loop-test .taken, c .before .before .before .before .before .before .before .before .field-of .ensures .0), omega (arith, c .before .before .loop-test .taken, c .before .before .before .before .before .before .before .before .field-of .ensures .1)))
 
--- src/lib.rt:211:9
 add-r : tie.Need-add-r Inv-loop μ-loop
-add-r c = ?
+add-r c = omega (arith, c .before .before .before .before .before .before .before .loop-test .taken, c .before .before .before .before .before .before .before .before .before .before .before .before .before .field-of .ensures .1)
 
--- src/lib.rt:209:5
 loop-less : tie.Need-loop-less Inv-loop μ-loop
-loop-less c = ?
+loop-less c = search needs
 
--- src/lib.rt:209:5
 loop-again : tie.Need-loop-again Inv-loop μ-loop
-loop-again c = ?
+loop-again c = (omega (arith, c .before .before .before .before .before .before .before .loop-test .taken), routines-next (c .before .before .before .before .before .before .before .before .loop .inv .1) (c .before .before .before .before .pass-routine .ensures))
 
--- src/lib.rt:193:1
 same-length : tie.Need-same-length Inv-loop μ-loop
-same-length c = ?
+same-length c = c .before .loop .inv .1 .kept .long ∙ c .before .before .before .before .narrow-to .ensures .long
 
--- src/lib.rt:193:1
 same-length-2 : tie.Need-same-length-2 Inv-loop μ-loop
-same-length-2 c = ?
+same-length-2 c = c .before .loop .inv .1 .kept .back-long
 
--- src/lib.rt:193:1
 returns : tie.Need-returns Inv-loop μ-loop
-returns c = ?
+returns c = routines-done (omega (arith, c .loop-test .left, c .before .loop .inv .0, c .before .before .before .before .before .before .field-of .ensures .0)) (c .before .before .before .before .narrow-to .ensures) (c .before .loop .inv .1)
 
 pub pass-spec : {M : Type 1} → statement M
 pass-spec =
