@@ -1,3 +1,4 @@
 pub mod StepLaws
 pub mod MoveLaws
 pub mod RuleLaws
+pub mod SolveLaws

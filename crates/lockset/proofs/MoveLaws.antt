@@ -152,6 +152,9 @@ module _ {e : Setting} where
   pub settling-done : {o b o′ b′ : List ℕ} {x : Bool} → x ≡ false → Settling e o b o′ b′ x → Solved e o b o′ b′
   settling-done t p = record { kept = p .kept; closed = p .closed t }
 
+  pub solved-then : {o b o′ b′ o″ b″ : List ℕ} → Kept e o b o′ b′ → Solved e o′ b′ o″ b″ → Solved e o b o″ b″
+  solved-then p q = record { kept = kept-then p (q .kept); closed = q .closed }
+
   -- what is left to do falls with every pass
   pub settling-less : {o b o′ b′ : List ℕ} {x y : Bool} → x ≡ true → Moved e (Closed e) o b o′ b′ false y
       → room o′ + room b′ + turn y < room o + room b + turn x

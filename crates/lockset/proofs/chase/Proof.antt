@@ -1,3 +1,7 @@
+use Rattle.lockset.proofs.MoveLaws.{kept-none, kept-then}
+use Rattle.lockset.specs.Rules.{setting, Kept}
+use borrow.Author.Needs.{needs}
+use native.Mathlib.Omega.{arith}
 use Rattle.lockset.proofs.chase.Statement.{statement}
 use Rattle.lockset.proofs.chase.Tie as tie
 use Rattle.lockset.proofs.chase.Reads as reads
@@ -7,63 +11,49 @@ use Rattle.lockset.proofs.chase_round.Reads as chase-round-reads
 use Rattle.lockset.proofs.note_all.Reads as note-all-reads
 
 abbrev Inv-loop : tie.InvT-loop
-Inv-loop out₀ back₀ numbers first flow given all base todo₀ calls owners left₀ out back todo left =
-    ?
+Inv-loop out₀ back₀ numbers first flow given all base todo₀ calls owners left₀ out back todo left = Kept (setting numbers first flow given all base) out₀ back₀ out back
 
 abbrev μ-loop : tie.MeasureT-loop
-μ-loop out₀ back₀ numbers first flow given all base todo₀ calls owners left₀ out back todo left = ?
+μ-loop out₀ back₀ numbers first flow given all base todo₀ calls owners left₀ out back todo left = left
 
--- src/lib.rt:465:5
 note-all-requires : tie.Need-note-all-requires Inv-loop μ-loop
-note-all-requires c κs = ?
+note-all-requires c κs = search needs
 
--- src/lib.rt:467:5
 loop-holds : tie.Need-loop-holds Inv-loop μ-loop
-loop-holds c = ?
+loop-holds c = kept-none
 
--- src/lib.rt:468:13
 any-marked-requires : tie.Need-any-marked-requires Inv-loop μ-loop
-any-marked-requires c κs = ?
+any-marked-requires c κs = search needs
 
--- src/lib.rt:469:13
 same-length : tie.Need-same-length Inv-loop μ-loop
-same-length c = ?
+same-length c = c .before .before .before .before .loop .inv .long
 
--- src/lib.rt:469:13
 same-length-2 : tie.Need-same-length-2 Inv-loop μ-loop
-same-length-2 c = ?
+same-length-2 c = c .before .before .before .before .loop .inv .back-long
 
--- src/lib.rt:469:13
 returns : tie.Need-returns Inv-loop μ-loop
-returns c = ?
+returns c = c .before .before .before .before .loop .inv
 
--- src/lib.rt:471:9
 chase-round-requires : tie.Need-chase-round-requires Inv-loop μ-loop
-chase-round-requires c κs = ?
+chase-round-requires c κs = search needs
 
--- src/lib.rt:472:9
 sub-left : tie.Need-sub-left Inv-loop μ-loop
-sub-left c = ?
+sub-left c = search needs
 
--- src/lib.rt:467:5
 loop-less : tie.Need-loop-less Inv-loop μ-loop
-loop-less c = ?
+loop-less c = search needs
 
--- src/lib.rt:467:5
 loop-again : tie.Need-loop-again Inv-loop μ-loop
-loop-again c = ?
+loop-again c = kept-then (c .before .before .before .before .before .before .before .before .before .before .before .before .before .before .loop .inv) (c .before .before .before .before .chase-round .ensures)
 
--- src/lib.rt:449:1
 same-length-3 : tie.Need-same-length-3 Inv-loop μ-loop
-same-length-3 c = ?
+same-length-3 c = c .before .loop .inv .long
 
--- src/lib.rt:449:1
 same-length-4 : tie.Need-same-length-4 Inv-loop μ-loop
-same-length-4 c = ?
+same-length-4 c = c .before .loop .inv .back-long
 
--- src/lib.rt:449:1
 returns-2 : tie.Need-returns-2 Inv-loop μ-loop
-returns-2 c = ?
+returns-2 c = c .before .loop .inv
 
 pub chase-spec : {M : Type 1} → statement M
 chase-spec =

@@ -1,3 +1,8 @@
+use Rattle.lockset.proofs.MoveLaws.{kept-none, kept-then}
+use Rattle.lockset.specs.Rules.{setting, Kept}
+use Prim.Native.Nat.{_-_, _≤_}
+use borrow.Author.Needs.{needs}
+use native.Mathlib.Omega.{arith}
 use Rattle.lockset.proofs.chase_round.Statement.{statement}
 use Rattle.lockset.proofs.chase_round.Tie as tie
 use Rattle.lockset.proofs.chase_round.Reads as reads
@@ -5,43 +10,34 @@ use Rattle.lockset.proofs.chase_round.Lts as lts
 use Rattle.lockset.proofs.chase_word.Reads as chase-word-reads
 
 abbrev Inv-loop : tie.InvT-loop
-Inv-loop out₀ back₀ numbers first flow given all base todo₀ calls owners word₀ out back todo word =
-    ?
+Inv-loop out₀ back₀ numbers first flow given all base todo₀ calls owners word₀ out back todo word = (word ≤ 8) × Kept (setting numbers first flow given all base) out₀ back₀ out back
 
 abbrev μ-loop : tie.MeasureT-loop
-μ-loop out₀ back₀ numbers first flow given all base todo₀ calls owners word₀ out back todo word = ?
+μ-loop out₀ back₀ numbers first flow given all base todo₀ calls owners word₀ out back todo word = 8 - word
 
--- src/lib.rt:437:5
 loop-holds : tie.Need-loop-holds Inv-loop μ-loop
-loop-holds c = ?
+loop-holds c = (omega arith, kept-none)
 
--- src/lib.rt:438:9
 chase-word-requires : tie.Need-chase-word-requires Inv-loop μ-loop
-chase-word-requires c κs = ?
+chase-word-requires c κs = search needs
 
--- src/lib.rt:439:9
 add-word : tie.Need-add-word Inv-loop μ-loop
-add-word c = ?
+add-word c = search needs
 
--- src/lib.rt:437:5
 loop-less : tie.Need-loop-less Inv-loop μ-loop
-loop-less c = ?
+loop-less c = search needs
 
--- src/lib.rt:437:5
 loop-again : tie.Need-loop-again Inv-loop μ-loop
-loop-again c = ?
+loop-again c = (omega (arith, c .before .before .before .before .before .before .before .before .loop-test .taken), kept-then (c .before .before .before .before .before .before .before .before .before .loop .inv .1) (c .before .before .before .before .chase-word .ensures))
 
--- src/lib.rt:420:1
 same-length : tie.Need-same-length Inv-loop μ-loop
-same-length c = ?
+same-length c = c .before .loop .inv .1 .long
 
--- src/lib.rt:420:1
 same-length-2 : tie.Need-same-length-2 Inv-loop μ-loop
-same-length-2 c = ?
+same-length-2 c = c .before .loop .inv .1 .back-long
 
--- src/lib.rt:420:1
 returns : tie.Need-returns Inv-loop μ-loop
-returns c = ?
+returns c = c .before .loop .inv .1
 
 pub chase-round-spec : {M : Type 1} → statement M
 chase-round-spec =

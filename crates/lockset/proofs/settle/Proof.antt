@@ -1,3 +1,10 @@
+use borrow.Author.Tests.{not-true}
+use Rattle.lockset.proofs.MoveLaws.{turn, kept-none, kept-then, settling-start, settling-next, settling-less, settling-done, solved-then}
+use Rattle.lockset.specs.Rules.{setting, Settling}
+use Rattle.sets.specs.Least.{room}
+use Prim.Native.Nat.{_+_}
+use borrow.Author.Needs.{needs}
+use mathlib.Core.Path.{_∙_}
 use Rattle.lockset.proofs.settle.Statement.{statement}
 use Rattle.lockset.proofs.settle.Tie as tie
 use Rattle.lockset.proofs.settle.Reads as reads
@@ -6,58 +13,46 @@ use Rattle.lockset.proofs.chase.Reads as chase-reads
 use Rattle.lockset.proofs.pass.Reads as pass-reads
 
 abbrev Inv-loop : tie.InvT-loop
-Inv-loop out₀ back₀ numbers first flow given all base going₀ out back going = ?
+Inv-loop out₀ back₀ numbers first flow given all base going₀ out back going = Settling (setting numbers first flow given all base) out₀ back₀ out back going
 
 abbrev μ-loop : tie.MeasureT-loop
-μ-loop out₀ back₀ numbers first flow given all base going₀ out back going = ?
+μ-loop out₀ back₀ numbers first flow given all base going₀ out back going = room out + room back + turn going
 
--- src/lib.rt:490:9
 pass-requires : tie.Need-pass-requires Inv-loop μ-loop
-pass-requires c κs = ?
+pass-requires c κs = search needs
 
--- src/lib.rt:491:9
 same-length : tie.Need-same-length Inv-loop μ-loop
-same-length c = ?
+same-length c = search needs
 
--- src/lib.rt:491:9
 same-length-2 : tie.Need-same-length-2 Inv-loop μ-loop
-same-length-2 c = ?
+same-length-2 c = search needs
 
--- src/lib.rt:491:9
 returns : tie.Need-returns Inv-loop μ-loop
-returns c = ?
+returns c = settling-done (not-true _ (c .if1 .taken)) (settling-next (settling-start kept-none) (c .before .before .before .before .before .pass .ensures))
 
--- src/lib.rt:493:5
 chase-requires : tie.Need-chase-requires Inv-loop μ-loop
-chase-requires c κs = ?
+chase-requires c κs = search needs
 
--- src/lib.rt:495:5
 loop-holds : tie.Need-loop-holds Inv-loop μ-loop
-loop-holds c = ?
+loop-holds c = settling-start kept-none
 
--- src/lib.rt:496:9
 pass-requires-2 : tie.Need-pass-requires-2 Inv-loop μ-loop
-pass-requires-2 c κs = ?
+pass-requires-2 c κs = search needs
 
--- src/lib.rt:495:5
 loop-less : tie.Need-loop-less Inv-loop μ-loop
-loop-less c = ?
+loop-less c = settling-less (c .before .before .before .before .before .before .before .loop-test .taken) (c .before .before .before .before .pass2 .ensures)
 
--- src/lib.rt:495:5
 loop-again : tie.Need-loop-again Inv-loop μ-loop
-loop-again c = ?
+loop-again c = settling-next (c .before .before .before .before .before .before .before .before .loop .inv) (c .before .before .before .before .pass2 .ensures)
 
--- src/lib.rt:477:1
 same-length-3 : tie.Need-same-length-3 Inv-loop μ-loop
-same-length-3 c = ?
+same-length-3 c = c .before .loop .inv .kept .long ∙ c .before .before .before .before .before .before .chase .ensures .long ∙ c .before .before .before .before .before .before .before .before .before .before .before .before .before .before .pass .ensures .kept .long
 
--- src/lib.rt:477:1
 same-length-4 : tie.Need-same-length-4 Inv-loop μ-loop
-same-length-4 c = ?
+same-length-4 c = c .before .loop .inv .kept .back-long ∙ c .before .before .before .before .before .before .chase .ensures .back-long ∙ c .before .before .before .before .before .before .before .before .before .before .before .before .before .before .pass .ensures .kept .back-long
 
--- src/lib.rt:477:1
 returns-2 : tie.Need-returns-2 Inv-loop μ-loop
-returns-2 c = ?
+returns-2 c = solved-then (kept-then (c .before .before .before .before .before .before .before .before .before .before .before .before .before .before .pass .ensures .kept) (c .before .before .before .before .before .before .chase .ensures)) (settling-done (c .loop-test .left) (c .before .loop .inv))
 
 pub settle-spec : {M : Type 1} → statement M
 settle-spec =

@@ -1,0 +1,249 @@
+-- Closed lists are the held sets: what they leave is one family of sets with document 01's rules, and the greatest one, turned round, is closed.
+-- Assumes nothing.
+use mathlib.Core.Path.{_≡_, refl, sym, ap, _∙_, subst}
+use mathlib.Core.Bool.{Bool, true, false, cond}
+use mathlib.Core.List.{List}
+use mathlib.Core.Logic.{_⊎_, inl, inr}
+use Prim.Native.Nat.{ℕ, zero, suc, _+_, _^_, _≤_, _<_}
+use native.Mathlib.Decide.{decLt}
+use native.Mathlib.Omega.{arith}
+use borrow.Author.Tests.{ltb-true, lt-ltb}
+use lib.IntN.{ℤ}
+use lib.ListN.{length, getD, replicate, length-replicate, getD-replicate}
+use Rattle.sets.specs.Set.{has, union, minus, isSingle}
+use Rattle.sets.specs.SetLaws.{has-union-left, has-union-right, union-cases, has-firsts, inside-both}
+use Rattle.sets.specs.Least.{Inside}
+use Rattle.table.specs.Fields.{field}
+use Rattle.table.specs.Header.{handles, routines, statements, statementLine}
+use Rattle.table.specs.Routines.{firstOf}
+use Rattle.table.specs.Table.{Table, tableOf, routine, statement, argumentsIn, statementIn, InRoutine}
+use Rattle.table.specs.Tabulate.{tabulate}
+use Rattle.table.specs.TabulateLaws.{length-tabulate, getD-tabulate, is-tabulate, entry-tabulate}
+use Rattle.table.specs.LookupLaws.{routines-length, statements-length, routine-says, in-routine, routine-in}
+use Rattle.table.specs.OperationLaws.{statement-in, by-operation}
+use Rattle.table.specs.Accepted.{Accepted, Names}
+use Rattle.table.specs.declared.Arguments.{Arguments}
+use Rattle.table.specs.declared.Statement.{Statement}
+use Rattle.table.specs.declared.Statement.the-variants.{Read, Write, Set, Add, Take, Give, Point, Call, Start, Jump, JumpZero, Return}
+use Rattle.report.specs.OverLaws.{never, none-in, inter-at, inter-has}
+use Rattle.report.specs.Greatest.{leaving, greatest}
+use Rattle.report.specs.GreatestLaws.{minus-has, minus-from}
+use Rattle.report.specs.Layout.{Layout, oneEach, named}
+use Rattle.report.specs.Fits.{Fits, copiesOf}
+use Rattle.report.specs.OneEach.{one-each-fits, statement-below}
+use Rattle.report.specs.Operations.{isReturn}
+use Rattle.report.specs.FlowLaws.{FlowHas}
+use Rattle.report.specs.EffectLaws.{GivesHas}
+use Rattle.report.specs.Held.{allLocks, onlyLock, atReturns, heldSets}
+use Rattle.report.specs.HeldLaws.{HeldHas, single-only, only-single, held-rules, held-greatest}
+use Rattle.report.specs.NextLaws.{goes-placed}
+use Rattle.report.specs.Rules.{Place, Goes, Only, After, AtReturns, HeldRules}
+use Rattle.lockset.specs.Steps.{behind}
+use Rattle.lockset.specs.Rules.{Setting, setting, Lost, Rule, Closed, Kept, Solved, operation, operand}
+
+-- ---- what is left, and what is turned round
+
+-- what cannot be missing is there
+is-there : (a x : ℕ) → ((has a x ≡ true → ⊥) → ⊥) → has a x ≡ true
+is-there a x d = go (has a x) refl
+  where
+    go : (b : Bool) → has a x ≡ b → has a x ≡ true
+    go true e = e
+    go false e = absurd (d (λ h. never (sym h ∙ e)))
+
+-- what is left at a place is brought by every way into it
+left-brought : {all to a : ℕ} {s : List ℕ} → Lost all s to a → to < length s → (x : ℕ) → has (leaving all s to) x ≡ true → has a x ≡ true
+unfolding leaving
+left-brought {all} {to} {a} {s} l h x m =
+    let b = minus-from all (getD s to 0) x m in
+    is-there a x (λ d. b .1 (l .is-out h x (minus-has all a x (b .0) d)))
+
+module _ (all n : ℕ) (g : ℕ → ℕ) where
+  -- the sets of g, turned round
+  abbrev turned : List ℕ
+  turned = tabulate n (λ p. minus all (g p))
+
+  turned-lost : (to a : ℕ) → (to < n → (x : ℕ) → has all x ≡ true → has (g to) x ≡ true → has a x ≡ true) → Lost all turned to a
+  turned-lost to a f = record {
+    is-out = λ l x m.
+        let k : to < n = subst (λ (i : ℕ). to < i) (length-tabulate n (λ p. minus all (g p))) l in
+        let b = minus-from all a x m in
+        ap (λ (y : ℕ). has y x) (getD-tabulate n (λ p. minus all (g p)) to 0 k) ∙ minus-has all (g to) x (b .0) (λ h. b .1 (f k x (b .0) h));
+  }
+
+  turned-left : (p x : ℕ) → p < n → has all x ≡ true → has (g p) x ≡ true → has (leaving all turned p) x ≡ true
+  unfolding leaving
+  turned-left p x l a h =
+      minus-has all (getD turned p 0) x a
+      (λ m. minus-from all (g p) x (ap (λ (y : ℕ). has y x) (sym (getD-tabulate n (λ p. minus all (g p)) p 0 l)) ∙ m) .1 h)
+
+  left-turned : (p x : ℕ) → p < n → has (leaving all turned p) x ≡ true → has (g p) x ≡ true
+  unfolding leaving
+  left-turned p x l h =
+      let b = minus-from all (getD turned p 0) x h in
+      is-there (g p) x (λ d. b .1 (ap (λ (y : ℕ). has y x) (getD-tabulate n (λ p. minus all (g p)) p 0 l) ∙ minus-has all (g p) x (b .0) d))
+
+-- ---- the one lock of a flow set
+
+only-from : (s x : ℕ) → s < 2 ^ 64 → has (onlyLock s) x ≡ true → Only (λ y. has s y ≡ true) x
+unfolding onlyLock
+only-from s x l h = go (isSingle s) refl h
+  where
+    go : (b : Bool) → isSingle s ≡ b → has (cond b s 0) x ≡ true → Only (λ y. has s y ≡ true) x
+    go true e h = single-only s l e x h
+    go false e h = none-in x h
+
+only-has : (s x : ℕ) → s < 2 ^ 64 → Only (λ y. has s y ≡ true) x → has (onlyLock s) x ≡ true
+unfolding onlyLock
+only-has s x l o = rw (only-single s x l o) (o .member)
+
+-- ---- operations by number
+
+-- the number of a statement's operation
+numberOf : Statement → ℕ
+numberOf (Read h) = 1
+numberOf (Write h) = 2
+numberOf (Set n) = 3
+numberOf (Add n) = 4
+numberOf (Take h) = 5
+numberOf (Give h) = 6
+numberOf (Point h g) = 7
+numberOf (Call q a) = 8
+numberOf (Start q a) = 9
+numberOf (Jump z) = 10
+numberOf (JumpZero z) = 11
+numberOf Return = 12
+
+-- a number from 1 to 11 is that of the statement that it says
+number-is : (f : List ℤ) (line op : ℕ) → 0 < op → op < 12 → numberOf (statementIn f line op) ≡ op
+unfolding statementIn
+number-is f line zero l h = absurd (omega arith)
+number-is f line (suc zero) l h = refl
+number-is f line (suc (suc zero)) l h = refl
+number-is f line (suc (suc (suc zero))) l h = refl
+number-is f line (suc (suc (suc (suc zero)))) l h = refl
+number-is f line (suc (suc (suc (suc (suc zero))))) l h = refl
+number-is f line (suc (suc (suc (suc (suc (suc zero)))))) l h = refl
+number-is f line (suc (suc (suc (suc (suc (suc (suc zero))))))) l h = refl
+number-is f line (suc (suc (suc (suc (suc (suc (suc (suc zero)))))))) l h = refl
+number-is f line (suc (suc (suc (suc (suc (suc (suc (suc (suc zero))))))))) l h = refl
+number-is f line (suc (suc (suc (suc (suc (suc (suc (suc (suc (suc zero)))))))))) l h = refl
+number-is f line (suc (suc (suc (suc (suc (suc (suc (suc (suc (suc (suc zero))))))))))) l h = refl
+number-is f line (suc (suc (suc (suc (suc (suc (suc (suc (suc (suc (suc (suc n)))))))))))) l h = absurd (omega arith)
+
+-- and the number of a statement but RETURN is the one that says it
+is-number : (f : List ℤ) (line op : ℕ) → numberOf (statementIn f line op) < 12 → op ≡ numberOf (statementIn f line op)
+is-number f line =
+    by-operation f line (λ op σ. numberOf σ < 12 → op ≡ numberOf σ) (λ h. refl) (λ h. refl) (λ h. refl) (λ h. refl) (λ h. refl) (λ h. refl) (λ h. refl) (λ h. refl) (λ h. refl) (λ h. refl) (λ h. refl)
+    (λ op h. absurd (omega arith))
+
+-- a number that is none of these says RETURN
+no-number : (f : List ℤ) (line op : ℕ) → (0 < op → 11 < op) → statementIn f line op ≡ Return
+no-number f line =
+    by-operation f line (λ op σ. (0 < op → 11 < op) → σ ≡ Return)
+    (λ h. absurd (omega (arith, h (omega arith))))
+    (λ h. absurd (omega (arith, h (omega arith))))
+    (λ h. absurd (omega (arith, h (omega arith))))
+    (λ h. absurd (omega (arith, h (omega arith))))
+    (λ h. absurd (omega (arith, h (omega arith))))
+    (λ h. absurd (omega (arith, h (omega arith))))
+    (λ h. absurd (omega (arith, h (omega arith))))
+    (λ h. absurd (omega (arith, h (omega arith))))
+    (λ h. absurd (omega (arith, h (omega arith))))
+    (λ h. absurd (omega (arith, h (omega arith))))
+    (λ h. absurd (omega (arith, h (omega arith))))
+    (λ op h. refl)
+
+module _ (f : List ℤ) (first flow given : List ℕ) (acc : Accepted (tableOf f)) (most : routines f ≤ 32) (first-is : first ≡ tabulate 33 (firstOf f))
+    (below : (i : ℕ) → getD flow i 0 < 2 ^ 64) where
+  abbrev t : Table
+  t = tableOf f
+
+  abbrev all : ℕ
+  all = allLocks t
+
+  abbrev n : ℕ
+  n = length (t .statements)
+
+  abbrev e : Setting
+  e = setting f first flow given all (1 + handles f + routines f)
+
+  fits : Fits t (oneEach t)
+  fits = one-each-fits t acc
+
+  -- ---- where routines and statements stand
+
+  first-at : (r : ℕ) → r < 33 → getD first r 0 ≡ firstOf f r
+  first-at r l = entry-tabulate 33 (firstOf f) first r first-is l
+
+  first-of : (r : ℕ) → r < length (t .routines) → getD first r 0 ≡ routine t r .first
+  first-of r l = let k : r < routines f = omega (arith, routines-length f) in first-at r (omega arith) ∙ sym (routine-says f r k .first)
+
+  owned : (r s : ℕ) → r < routines f → getD first r 0 ≤ s → s < getD first (r + 1) 0 → InRoutine t r s
+  owned r s l a b = in-routine f r s l (omega (arith, first-at r (omega arith))) (omega (arith, first-at (r + 1) (omega arith)))
+
+  owns : (r s : ℕ) → r < routines f → InRoutine t r s → (getD first r 0 ≤ s) × (s < getD first (r + 1) 0)
+  owns r s l i = let b = routine-in f r s l i in (omega (arith, first-at r (omega arith)), omega (arith, first-at (r + 1) (omega arith)))
+
+  place : (r s : ℕ) → r < routines f → InRoutine t r s → Place (copiesOf fits) r s
+  unfolding oneEach
+  place r s l i = record { there = omega (arith, routines-length f); inside = i }
+
+  unplace : {r s : ℕ} → Place (copiesOf fits) r s → (r < routines f) × InRoutine t r s
+  unfolding oneEach
+  unplace p = (omega (arith, routines-length f, p .there), p .inside)
+
+  below-n : {r s : ℕ} → Place (copiesOf fits) r s → s < n
+  below-n {r} {s} p = let u = unplace p in statement-below t acc r s (omega (arith, routines-length f)) (u .1)
+
+  says : (s : ℕ) → s < n → statement t s ≡ statementIn f (statementLine f s) (operation e s)
+  says s l = statement-in f s (omega (arith, statements-length f))
+
+  -- the number of a statement's operation
+  of-number : {r s : ℕ} {σ : Statement} → Place (copiesOf fits) r s → statement t s ≡ σ → numberOf σ < 12 → operation e s ≡ numberOf σ
+  of-number {r} {s} {σ} p q h =
+      let w : statementIn f (statementLine f s) (operation e s) ≡ σ = sym (says s (below-n p)) ∙ q in
+      is-number f (statementLine f s) (operation e s) (subst (λ (τ : Statement). numberOf τ < 12) (sym w) h) ∙ ap numberOf w
+
+  call-says : {r s q : ℕ} {a : Arguments} → Place (copiesOf fits) r s → statement t s ≡ Call q a → (operation e s ≡ 8) × (operand e s ≡ q)
+  unfolding statementIn
+  call-says {r} {s} {q} {a} p h =
+      let o : operation e s ≡ 8 = of-number p h (omega arith) in
+      let w : Call (operand e s) (argumentsIn f (statementLine f s)) ≡ Call q a = ap (statementIn f (statementLine f s)) (sym o) ∙ sym (says s (below-n p)) ∙ h in
+      (o, cc)
+
+  start-says : {r s q : ℕ} {a : Arguments} → Place (copiesOf fits) r s → statement t s ≡ Start q a → (operation e s ≡ 9) × (operand e s ≡ q)
+  unfolding statementIn
+  start-says {r} {s} {q} {a} p h =
+      let o : operation e s ≡ 9 = of-number p h (omega arith) in
+      let w : Start (operand e s) (argumentsIn f (statementLine f s)) ≡ Start q a = ap (statementIn f (statementLine f s)) (sym o) ∙ sym (says s (below-n p)) ∙ h in
+      (o, cc)
+
+  return-says : {r s : ℕ} → Place (copiesOf fits) r s → statement t s ≡ Return → 0 < operation e s → 11 < operation e s
+  return-says {r} {s} p h l = go (decLt 11 (operation e s))
+    where
+      go : Dec (11 < operation e s) → 11 < operation e s
+      go (yes k) = k
+      go (no d) =
+          let w : numberOf (statementIn f (statementLine f s) (operation e s)) ≡ 12 = ap numberOf (sym (says s (below-n p)) ∙ h) in
+          let v = number-is f (statementLine f s) (operation e s) l (omega arith) in
+          absurd (omega arith)
+
+  leads-is : {s q : ℕ} {a : Arguments} → statement t s ≡ Call q a → (r : ℕ) → oneEach t .leads r s ≡ q
+  unfolding oneEach named
+  leads-is h r = ap named h
+
+  leads-start : {s q : ℕ} {a : Arguments} → statement t s ≡ Start q a → (r : ℕ) → oneEach t .leads r s ≡ q
+  unfolding oneEach named
+  leads-start h r = ap named h
+
+  -- the routine that is named is there
+  named-there : {r s q : ℕ} → Place (copiesOf fits) r s → Names (statement t s) q → q < length (t .routines)
+  unfolding oneEach
+  named-there {r} {s} {q} p h = subst (λ (c : ℕ). c < length (t .routines)) (fits .leads-of r s q (p .there) (p .inside) h) (fits .leads-there r s q (p .there) (p .inside) h)
+
+  in-all : (x : ℕ) → x < t .locks → has all x ≡ true
+  in-all x l = let m : t .locks ≤ 16 = acc .locks-most in has-firsts (t .locks) x (omega arith) ∙ lt-ltb x (t .locks) l
+
+  all-in : (x : ℕ) → has all x ≡ true → x < t .locks
+  all-in x h = let m : t .locks ≤ 16 = acc .locks-most in ltb-true x (t .locks) (sym (has-firsts (t .locks) x (omega arith)) ∙ h)
