@@ -3,7 +3,7 @@
 use mathlib.Core.Path.{_≡_, refl, sym, ap, _∙_, subst}
 use mathlib.Core.Bool.{Bool, true, false, cond}
 use mathlib.Core.List.{List}
-use mathlib.Core.Logic.{_⊎_, inl, inr}
+use mathlib.Core.Logic.{_⊎_, inl, inr, ⊎-elim}
 use Prim.Native.Nat.{ℕ, zero, suc, _+_, _^_, _≤_, _<_}
 use native.Mathlib.Decide.{decLt}
 use native.Mathlib.Omega.{arith}
@@ -100,7 +100,7 @@ only-has s x l o = rw (only-single s x l o) (o .member)
 -- ---- operations by number
 
 -- the number of a statement's operation
-numberOf : Statement → ℕ
+abbrev numberOf : Statement → ℕ
 numberOf (Read h) = 1
 numberOf (Write h) = 2
 numberOf (Set n) = 3
@@ -229,21 +229,127 @@ module _ (f : List ℤ) (first flow given : List ℕ) (acc : Accepted (tableOf f
           let v = number-is f (statementLine f s) (operation e s) l (omega arith) in
           absurd (omega arith)
 
-  leads-is : {s q : ℕ} {a : Arguments} → statement t s ≡ Call q a → (r : ℕ) → oneEach t .leads r s ≡ q
+  -- a CALL leads to the routine that it names
+  call-leads : (r s : ℕ) {q : ℕ} {a : Arguments} → statement t s ≡ Call q a → oneEach t .leads r s ≡ q
   unfolding oneEach named
-  leads-is h r = ap named h
-
-  leads-start : {s q : ℕ} {a : Arguments} → statement t s ≡ Start q a → (r : ℕ) → oneEach t .leads r s ≡ q
-  unfolding oneEach named
-  leads-start h r = ap named h
+  call-leads r s h = ap named h
 
   -- the routine that is named is there
   named-there : {r s q : ℕ} → Place (copiesOf fits) r s → Names (statement t s) q → q < length (t .routines)
   unfolding oneEach
   named-there {r} {s} {q} p h = subst (λ (c : ℕ). c < length (t .routines)) (fits .leads-of r s q (p .there) (p .inside) h) (fits .leads-there r s q (p .there) (p .inside) h)
 
+  -- and its first statement is where the list of first statements says
+  entry-of : {r s q : ℕ} → Place (copiesOf fits) r s → Names (statement t s) q → operand e s ≡ q
+      → (routine t q .first ≡ getD first (operand e s) 0) × (routine t q .first < n)
+  entry-of {r} {s} {q} p h o =
+      let l = named-there p h in
+      let facts = acc .routine-facts q l in
+      (sym (ap (λ (i : ℕ). getD first i 0) o ∙ first-of q l), omega (arith, facts .some-statement, facts .statements-there))
+
   in-all : (x : ℕ) → x < t .locks → has all x ≡ true
   in-all x l = let m : t .locks ≤ 16 = acc .locks-most in has-firsts (t .locks) x (omega arith) ∙ lt-ltb x (t .locks) l
 
   all-in : (x : ℕ) → has all x ≡ true → x < t .locks
   all-in x h = let m : t .locks ≤ 16 = acc .locks-most in ltb-true x (t .locks) (sym (has-firsts (t .locks) x (omega arith)) ∙ h)
+
+  -- ---- what closed lists leave has the rules
+
+  module _ (out back : List ℕ) (out-long : length out ≡ n) (back-long : length back ≡ 32) (closed : Closed e out back) where
+    rule : {r s : ℕ} → Place (copiesOf fits) r s → Rule e r s out back
+    rule {r} {s} p = let u = unplace p in let o = owns r s (u .0) (u .1) in closed .at r (u .0) .at s (o .0) (o .1)
+
+    abbrev Left : ℕ → ℕ → ℕ → Type 0
+    Left c s x = has (leaving all out s) x ≡ true
+
+    brought-here : {p to a : ℕ} → p ≡ to → p < n → Lost all out to a → (x : ℕ) → has (leaving all out p) x ≡ true → has a x ≡ true
+    brought-here q h l x m = left-brought l (omega arith) x (ap (λ (i : ℕ). has (leaving all out i) x) (sym q) ∙ m)
+
+    -- what is left for the RETURNs of routine q to hand back is left before each of them
+    left-returns : (q x : ℕ) → q < 32 → has (leaving all back q) x ≡ true → AtReturns (copiesOf fits) (FlowHas (oneEach t) flow) (GivesHas given) Left q x
+    left-returns q x l h z p r = left-brought (rule p .hand-back (return-says p r)) (omega arith) x h
+
+    -- what is brought is held after the statement
+    module _ (r s x : ℕ) (p : Place (copiesOf fits) r s) where
+      abbrev Behind : Statement → Type 0
+      Behind σ = After (copiesOf fits) (FlowHas (oneEach t) flow) (GivesHas given) Left r s x σ
+
+      abbrev got : ℕ → ℕ
+      got op = behind f flow given (leaving all out) (leaving all back) (statementLine f s) s op
+
+      call-behind : (q : ℕ) (a : Arguments) → statement t s ≡ Call q a → has (union (leaving all back q) (minus (leaving all out s) (getD given q 0))) x ≡ true
+          → Behind (Call q a)
+      call-behind q a h =
+          let l = call-leads r s h in
+          let there = named-there p (subst (λ (σ : Statement). Names σ q) (sym h) refl) in
+          union-cases (leaving all back q) _ x
+          (λ m. inl (subst (λ (c : ℕ). AtReturns (copiesOf fits) (FlowHas (oneEach t) flow) (GivesHas given) Left c x) (sym l) (left-returns q x (omega (arith, routines-length f)) m)))
+          (λ m.
+          let b = minus-from (leaving all out s) (getD given q 0) x m in
+          inr (b .0, λ g. b .1 (subst (λ (c : ℕ). has (getD given c 0) x ≡ true) l g)))
+
+      -- what the operation's way to statement s′ brings
+      record Brings (s′ op : ℕ) : Type 0 where
+        next : 0 < op → op < 10 → s′ ≡ s + 1 → has (got op) x ≡ true
+        jump : 9 < op → op < 12 → s′ ≡ operand e s → has (leaving all out s) x ≡ true
+        pass-by : op ≡ 11 → s′ ≡ s + 1 → has (leaving all out s) x ≡ true
+
+      way-left : (s′ : ℕ) (op : ℕ) → Brings s′ op → statement t s ≡ statementIn f (statementLine f s) op → Goes s (statementIn f (statementLine f s) op) s′
+          → Behind (statementIn f (statementLine f s) op)
+      unfolding behind oneEach
+      way-left s′ =
+          by-operation f (statementLine f s) (λ op σ. Brings s′ op → statement t s ≡ σ → Goes s σ s′ → Behind σ)
+          (λ b h g. b .next (omega arith) (omega arith) g)
+          (λ b h g. b .next (omega arith) (omega arith) g)
+          (λ b h g. b .next (omega arith) (omega arith) g)
+          (λ b h g. b .next (omega arith) (omega arith) g)
+          (λ b h g.
+          union-cases (leaving all out s) _ x (λ k. inl k) (λ k. inr (only-from (getD flow (operand e s) 0) x (below _) k))
+          (b .next (omega arith) (omega arith) g))
+          (λ b h g. minus-from (leaving all out s) (getD flow (operand e s) 0) x (b .next (omega arith) (omega arith) g))
+          (λ b h g. b .next (omega arith) (omega arith) g)
+          (λ b h g. call-behind (operand e s) _ h (b .next (omega arith) (omega arith) g))
+          (λ b h g. b .next (omega arith) (omega arith) g)
+          (λ b h g. b .jump (omega arith) (omega arith) g)
+          (λ b h g. ⊎-elim (λ q. b .jump (omega arith) (omega arith) q) (λ q. b .pass-by refl q) g)
+          (λ op b h g. absurd g)
+
+    left-all : (s x : ℕ) → has (leaving all out s) x ≡ true → has all x ≡ true
+    unfolding leaving
+    left-all s x h = minus-from all (getD out s 0) x h .0
+
+    left-way : (c s s′ x : ℕ) → Place (copiesOf fits) c s → (σ : Statement) → statement t s ≡ σ → Goes s σ s′ → Left c s′ x
+        → After (copiesOf fits) (FlowHas (oneEach t) flow) (GivesHas given) Left c s x σ
+    left-way c s s′ x p σ h g m =
+        let w : statementIn f (statementLine f s) (operation e s) ≡ σ = sym (says s (below-n p)) ∙ h in
+        let l : s′ < n = below-n (goes-placed t (oneEach t) acc fits c s s′ p (subst (λ (τ : Statement). Goes s τ s′) (sym h) g)) in
+        subst (λ (τ : Statement). After (copiesOf fits) (FlowHas (oneEach t) flow) (GivesHas given) Left c s x τ) w
+        (way-left c s x p s′ (operation e s)
+        (record {
+          next = λ a b q. brought-here q l (rule p .next a b) x m;
+          jump = λ a b q. brought-here q l (rule p .jump a b) x m;
+          pass-by = λ a q. brought-here q l (rule p .pass-by a) x m;
+        })
+        (says s (below-n p)) (subst (λ (τ : Statement). Goes s τ s′) (sym w) g))
+
+    left-rules : HeldRules (copiesOf fits) (FlowHas (oneEach t) flow) (GivesHas given) Left
+    left-rules = record {
+      locks = λ c s x p h. all-in x (left-all s x h);
+      way = left-way;
+      by-call = λ c s x q a p h m.
+          let o = call-says p h in
+          let v = entry-of p (subst (λ (σ : Statement). Names σ q) (sym h) refl) (o .1) in
+          brought-here (v .0) (v .1) (rule p .call (o .0)) x m;
+      by-start = λ c s x q a p h m.
+          let o = start-says p h in
+          let v = entry-of p (subst (λ (σ : Statement). Names σ q) (sym h) refl) (o .1) in
+          none-in x (brought-here (v .0) (v .1) (rule p .start (o .0)) x m);
+      by-main = λ x m. none-in x (brought-here (acc .first-first) (omega (arith, acc .first-first, acc .statements-some)) (closed .entry) x m);
+    }
+
+    -- so they are inside the held sets
+    pub left-held : (s x : ℕ) → s < n → has (leaving all out s) x ≡ true → has (getD (heldSets t (oneEach t) flow given) s 0) x ≡ true
+    unfolding oneEach
+    left-held s x l h =
+        let o : (r : ℕ) × (r < length (t .routines)) × InRoutine t r s = acc .owner s l in
+        held-greatest t (oneEach t) acc fits flow below given Left left-rules (o .0) s x (record { there = o .1; inside = o .2 }) h
