@@ -99,6 +99,21 @@ only-has s x l o = rw (only-single s x l o) (o .member)
 
 -- ---- operations by number
 
+return-is : (σ : Statement) → isReturn σ ≡ true → σ ≡ Return
+unfolding isReturn
+return-is (Read h) e = never (sym e)
+return-is (Write h) e = never (sym e)
+return-is (Set n) e = never (sym e)
+return-is (Add n) e = never (sym e)
+return-is (Take h) e = never (sym e)
+return-is (Give h) e = never (sym e)
+return-is (Point h g) e = never (sym e)
+return-is (Call q a) e = never (sym e)
+return-is (Start q a) e = never (sym e)
+return-is (Jump z) e = never (sym e)
+return-is (JumpZero z) e = never (sym e)
+return-is Return e = refl
+
 -- the number of a statement's operation
 abbrev numberOf : Statement → ℕ
 numberOf (Read h) = 1
@@ -353,3 +368,105 @@ module _ (f : List ℤ) (first flow given : List ℕ) (acc : Accepted (tableOf f
     left-held s x l h =
         let o : (r : ℕ) × (r < length (t .routines)) × InRoutine t r s = acc .owner s l in
         held-greatest t (oneEach t) acc fits flow below given Left left-rules (o .0) s x (record { there = o .1; inside = o .2 }) h
+
+  -- ---- the held sets, turned round, are closed
+
+  -- what is held before each statement, and at the RETURNs of each routine
+  abbrev H : ℕ → ℕ
+  H p = getD (heldSets t (oneEach t) flow given) p 0
+
+  abbrev returned : ℕ → ℕ
+  returned r = atReturns t (oneEach t) H r
+
+  abbrev R : List ℕ
+  R = turned all n H
+
+  abbrev B : List ℕ
+  B = turned all 32 returned
+
+  abbrev Held : ℕ → ℕ → ℕ → Type 0
+  Held c s x = has (H s) x ≡ true
+
+  rules : HeldRules (copiesOf fits) (FlowHas (oneEach t) flow) (GivesHas given) Held
+  unfolding oneEach
+  rules = held-rules t (oneEach t) acc fits flow below given
+
+  module _ (r s x : ℕ) (p : Place (copiesOf fits) r s) (lock : has all x ≡ true) where
+    abbrev After-held : Statement → Type 0
+    After-held σ = After (copiesOf fits) (FlowHas (oneEach t) flow) (GivesHas given) Held r s x σ
+
+    abbrev gets : ℕ → ℕ
+    gets op = behind f flow given (leaving all R) (leaving all B) (statementLine f s) s op
+
+    stays : has (H s) x ≡ true → has (leaving all R s) x ≡ true
+    stays = turned-left all n H s x (below-n p) lock
+
+    returns-has : (q : ℕ) → q < routines f → AtReturns (copiesOf fits) (FlowHas (oneEach t) flow) (GivesHas given) Held q x → has (returned q) x ≡ true
+    unfolding atReturns oneEach
+    returns-has q l h =
+        inter-has all _ _ _ x lock (λ z w. go z (place q z l (record { low = w .low; high = w .high })) (isReturn (statement t z)) refl)
+      where
+        go : (z : ℕ) → Place (copiesOf fits) q z → (b : Bool) → isReturn (statement t z) ≡ b → has (cond b (H z) all) x ≡ true
+        go z i true k = h z i (return-is (statement t z) k)
+        go z i false k = lock
+
+    call-has : (q : ℕ) (a : Arguments) → statement t s ≡ Call q a → After-held (Call q a)
+        → has (union (leaving all B q) (minus (leaving all R s) (getD given q 0))) x ≡ true
+    call-has q a h m =
+        let l : oneEach t .leads r s ≡ q = call-leads r s h in
+        let there = named-there p (subst (λ (σ : Statement). Names σ q) (sym h) refl) in
+        let k : q < routines f = omega (arith, routines-length f) in
+        ⊎-elim
+        (λ v.
+        has-union-left (leaving all B q) _ x
+        (turned-left all 32 returned q x (omega arith) lock
+        (returns-has q k (subst (λ (c : ℕ). AtReturns (copiesOf fits) (FlowHas (oneEach t) flow) (GivesHas given) Held c x) l v))))
+        (λ v.
+        has-union-right (leaving all B q) _ x
+        (minus-has (leaving all R s) (getD given q 0) x (stays (v .0)) (λ g. v .1 (subst (λ (c : ℕ). has (getD given c 0) x ≡ true) (sym l) g))))
+        m
+
+    next-has : (op : ℕ) → numberOf (statementIn f (statementLine f s) op) ≡ op → op < 10 → statement t s ≡ statementIn f (statementLine f s) op
+        → (Goes s (statementIn f (statementLine f s) op) (s + 1) → After-held (statementIn f (statementLine f s) op)) → has (gets op) x ≡ true
+    unfolding behind oneEach
+    next-has =
+        by-operation f (statementLine f s) (λ op σ. numberOf σ ≡ op → op < 10 → statement t s ≡ σ → (Goes s σ (s + 1) → After-held σ) → has (gets op) x ≡ true)
+        (λ k l h w. stays (w refl))
+        (λ k l h w. stays (w refl))
+        (λ k l h w. stays (w refl))
+        (λ k l h w. stays (w refl))
+        (λ k l h w.
+        ⊎-elim (λ v. has-union-left (leaving all R s) _ x (stays v))
+        (λ v. has-union-right (leaving all R s) _ x (only-has (getD flow (operand e s) 0) x (below _) v)) (w refl))
+        (λ k l h w. minus-has (leaving all R s) (getD flow (operand e s) 0) x (stays (w refl .0)) (w refl .1))
+        (λ k l h w. stays (w refl))
+        (λ k l h w. call-has (operand e s) _ h (w refl))
+        (λ k l h w. stays (w refl))
+        (λ k l h w. absurd (omega arith))
+        (λ k l h w. absurd (omega arith))
+        (λ op k l h w. absurd (omega arith))
+
+    jump-has : (op : ℕ) → numberOf (statementIn f (statementLine f s) op) ≡ op → 9 < op → op < 12
+        → (Goes s (statementIn f (statementLine f s) op) (operand e s) → After-held (statementIn f (statementLine f s) op)) → has (H s) x ≡ true
+    jump-has =
+        by-operation f (statementLine f s) (λ op σ. numberOf σ ≡ op → 9 < op → op < 12 → (Goes s σ (operand e s) → After-held σ) → has (H s) x ≡ true)
+        (λ k a b w. absurd (omega arith))
+        (λ k a b w. absurd (omega arith))
+        (λ k a b w. absurd (omega arith))
+        (λ k a b w. absurd (omega arith))
+        (λ k a b w. absurd (omega arith))
+        (λ k a b w. absurd (omega arith))
+        (λ k a b w. absurd (omega arith))
+        (λ k a b w. absurd (omega arith))
+        (λ k a b w. absurd (omega arith))
+        (λ k a b w. w refl)
+        (λ k a b w. w (inl refl))
+        (λ op k a b w. absurd (omega arith))
+
+    -- an operation that says a statement, at this statement
+    says-this : (op : ℕ) → operation e s ≡ op → statement t s ≡ statementIn f (statementLine f s) op
+    says-this op o = says s (below-n p) ∙ ap (statementIn f (statementLine f s)) o
+
+    pass-has : operation e s ≡ 11 → has (H (s + 1)) x ≡ true → has (H s) x ≡ true
+    unfolding statementIn
+    pass-has o h = rules .way r s (s + 1) x p (JumpZero (record { statement = operand e s })) (says-this 11 o) (inr refl) h
