@@ -9,23 +9,25 @@ use native.Mathlib.Decide.{decLt}
 use native.Mathlib.Omega.{arith}
 use borrow.Author.Tests.{ltb-true, lt-ltb}
 use lib.IntN.{ℤ}
-use lib.ListN.{length, getD, replicate, length-replicate, getD-replicate}
-use Rattle.sets.specs.Set.{has, union, minus, isSingle}
+use lib.ListN.{length, getD, replicate, length-replicate, getD-replicate, List·getD-eq-default}
+use Rattle.sets.specs.Set.{has, firsts, union, minus, isSingle}
 use Rattle.sets.specs.SetLaws.{has-union-left, has-union-right, union-cases, has-firsts, inside-both}
 use Rattle.sets.specs.Least.{Inside}
 use Rattle.table.specs.Fields.{field}
 use Rattle.table.specs.Header.{handles, routines, statements, statementLine}
 use Rattle.table.specs.Routines.{firstOf}
-use Rattle.table.specs.Table.{Table, tableOf, routine, statement, argumentsIn, statementIn, InRoutine}
+use Rattle.table.specs.Table.{Table, tableOf, countsOf, routine, statement, argumentsIn, statementIn, InRoutine}
 use Rattle.table.specs.Tabulate.{tabulate}
 use Rattle.table.specs.TabulateLaws.{length-tabulate, getD-tabulate, is-tabulate, entry-tabulate}
+use Rattle.table.specs.LayoutLaws.{Laid}
 use Rattle.table.specs.LookupLaws.{routines-length, statements-length, routine-says, in-routine, routine-in}
 use Rattle.table.specs.OperationLaws.{statement-in, by-operation}
 use Rattle.table.specs.Accepted.{Accepted, Names}
 use Rattle.table.specs.declared.Arguments.{Arguments}
+use Rattle.table.specs.declared.Counts.{Counts}
 use Rattle.table.specs.declared.Statement.{Statement}
 use Rattle.table.specs.declared.Statement.the-variants.{Read, Write, Set, Add, Take, Give, Point, Call, Start, Jump, JumpZero, Return}
-use Rattle.report.specs.OverLaws.{never, none-in, inter-at, inter-has}
+use Rattle.report.specs.OverLaws.{never, none-in, inter-at, inter-has, by-length}
 use Rattle.report.specs.Greatest.{leaving, greatest}
 use Rattle.report.specs.GreatestLaws.{minus-has, minus-from}
 use Rattle.report.specs.Layout.{Layout, oneEach, named}
@@ -39,7 +41,7 @@ use Rattle.report.specs.HeldLaws.{HeldHas, single-only, only-single, held-rules
 use Rattle.report.specs.NextLaws.{goes-placed}
 use Rattle.report.specs.Rules.{Place, Goes, Only, After, AtReturns, HeldRules}
 use Rattle.lockset.specs.Steps.{behind}
-use Rattle.lockset.specs.Rules.{Setting, setting, Lost, Rule, Closed, Kept, Solved, operation, operand}
+use Rattle.lockset.specs.Rules.{Setting, setting, Small, Lost, Rule, Closed, Kept, Solved, operation, operand}
 
 -- ---- what is left, and what is turned round
 
@@ -470,3 +472,126 @@ module _ (f : List ℤ) (first flow given : List ℕ) (acc : Accepted (tableOf f
     pass-has : operation e s ≡ 11 → has (H (s + 1)) x ≡ true → has (H s) x ≡ true
     unfolding statementIn
     pass-has o h = rules .way r s (s + 1) x p (JumpZero (record { statement = operand e s })) (says-this 11 o) (inr refl) h
+
+  module _ (r s : ℕ) (p : Place (copiesOf fits) r s) where
+    number : 0 < operation e s → operation e s < 12 → numberOf (statementIn f (statementLine f s) (operation e s)) ≡ operation e s
+    number = number-is f (statementLine f s) (operation e s)
+
+    -- what is held behind statement s, by what is held at a statement that may come next
+    way : (z x : ℕ) → Goes s (statementIn f (statementLine f s) (operation e s)) z → has (H z) x ≡ true
+        → After (copiesOf fits) (FlowHas (oneEach t) flow) (GivesHas given) Held r s x (statementIn f (statementLine f s) (operation e s))
+    way z x g h = rules .way r s z x p _ (says s (below-n p)) g h
+
+    at-entry : Names (statement t s) (operand e s) → (x : ℕ) → has (H (getD first (operand e s) 0)) x ≡ true → has (H (routine t (operand e s) .first)) x ≡ true
+    at-entry h x m = ap (λ (i : ℕ). has (H i) x) (entry-of p h refl .0) ∙ m
+
+    -- what all RETURNs of the routine have, each has
+    returned-held : (x : ℕ) → statement t s ≡ Return → has (returned r) x ≡ true → has (H s) x ≡ true
+    unfolding atReturns oneEach isReturn
+    returned-held x h m =
+        let i = unplace p .1 in
+        ap (λ (σ : Statement). has (cond (isReturn σ) (H s) all) x) (sym h) ∙ inter-at all _ _ _ s x (record { low = i .low; high = i .high }) m
+
+    call-here : operation e s ≡ 8 → statement t s ≡ Call (operand e s) (argumentsIn f (statementLine f s))
+    unfolding statementIn
+    call-here o = says s (below-n p) ∙ ap (statementIn f (statementLine f s)) o
+
+    start-here : operation e s ≡ 9 → statement t s ≡ Start (operand e s) (argumentsIn f (statementLine f s))
+    unfolding statementIn
+    start-here o = says s (below-n p) ∙ ap (statementIn f (statementLine f s)) o
+
+    held-rule : Rule e r s R B
+    held-rule = record {
+      next = λ a b. turned-lost all n H (s + 1) _ (λ l x k h. next-has r s x p k (operation e s) (number a (omega arith)) b (says s (below-n p)) (λ g. way (s + 1) x g h));
+      jump = λ a b.
+          turned-lost all n H (operand e s) _ (λ l x k h. stays r s x p k (jump-has r s x p k (operation e s) (number (omega arith) b) a b (λ g. way (operand e s) x g h)));
+      pass-by = λ a. turned-lost all n H (s + 1) _ (λ l x k h. stays r s x p k (pass-has r s x p k a h));
+      call = λ a.
+          turned-lost all n H _ _
+          (λ l x k h. stays r s x p k (rules .by-call r s x (operand e s) _ p (call-here a) (at-entry (subst (λ (σ : Statement). Names σ (operand e s)) (sym (call-here a)) refl) x h)));
+      start = λ a.
+          turned-lost all n H _ _
+          (λ l x k h. absurd (rules .by-start r s x (operand e s) _ p (start-here a) (at-entry (subst (λ (σ : Statement). Names σ (operand e s)) (sym (start-here a)) refl) x h)));
+      hand-back = λ a. turned-lost all 32 returned r _ (λ l x k h. stays r s x p k (returned-held x (says s (below-n p) ∙ no-number f (statementLine f s) (operation e s) a) h));
+    }
+
+  held-closed : Closed e R B
+  held-closed = record {
+    entry = turned-lost all n H 0 0 (λ l x k h. absurd (rules .by-main x (ap (λ (i : ℕ). has (H i) x) (acc .first-first) ∙ h)));
+    at = λ r l. record { at = λ s a b. held-rule r s (place r s l (owned r s l a b)) };
+  }
+
+  -- ---- the whole
+
+  held-long : length (heldSets t (oneEach t) flow given) ≡ n
+  unfolding heldSets greatest oneEach
+  held-long = length-tabulate n _
+
+  zeros : (m i : ℕ) → _≡_ {A = ℕ} (getD (replicate m 0) i 0) 0
+  zeros m i = by-length i (replicate m 0) (λ l. getD-replicate m i 0 0 (subst (λ (k : ℕ). i < k) (length-replicate m 0) l)) (λ e. e)
+
+  none-inside : (m : ℕ) (s : List ℕ) → Inside (replicate m 0) s
+  none-inside m s = record { at = λ i x h. none-in x (ap (λ (y : ℕ). has y x) (sym (zeros m i)) ∙ h) }
+
+  module _ {out back : List ℕ} (solved : Solved e (replicate n 0) (replicate 32 0) out back) where
+    out-long : length out ≡ n
+    out-long = solved .kept .long ∙ length-replicate {A = ℕ} n 0
+
+    back-long : length back ≡ 32
+    back-long = solved .kept .back-long ∙ length-replicate {A = ℕ} 32 0
+
+    -- what is held is left
+    held-left : (s x : ℕ) → s < n → has (H s) x ≡ true → has (leaving all out s) x ≡ true
+    unfolding leaving
+    held-left s x l h =
+        let o : (r : ℕ) × (r < length (t .routines)) × InRoutine t r s = acc .owner s l in
+        let p = place (o .0) s (omega (arith, routines-length f)) (o .2) in
+        let i = solved .kept .within R B held-closed (length-tabulate n _ ∙ sym (length-replicate {A = ℕ} n 0)) (length-tabulate 32 _ ∙ sym (length-replicate {A = ℕ} 32 0))
+        (none-inside n R) (none-inside 32 B) .0 in
+        let k : has all x ≡ true = in-all x (rules .locks (o .0) s x p h) in
+        minus-has all (getD out s 0) x k
+        (λ m. minus-from all (getD R s 0) x (turned-left all n H s x l k h) .1 (i .at s x m))
+
+    pub solved-held : tabulate n (leaving all out) ≡ heldSets t (oneEach t) flow given
+    solved-held =
+        sym (is-tabulate n (leaving all out) (heldSets t (oneEach t) flow given) 0 held-long
+        (λ s l. inside-both (H s) (leaving all out s) (λ x. held-left s x l) (λ x. left-held out back out-long back-long (solved .closed) s x l)))
+
+-- ---- from the header of a table's numbers
+
+module _ (f : List ℤ) {x : Counts} (is : x ≡ countsOf f) where
+  line-is : 1 + x .handles + x .routines ≡ 1 + handles f + routines f
+  unfolding countsOf
+  line-is = ap (λ (c : Counts). 1 + c .handles + c .routines) is
+
+  locks-are : {all : ℕ} → all ≡ firsts (x .locks) → all ≡ allLocks (tableOf f)
+  unfolding countsOf tableOf
+  locks-are h = h ∙ ap (λ (c : Counts). firsts (c .locks)) is
+
+  module _ {first handle counts : List ℕ} (laid : Laid f first handle counts) where
+    pub header-few : x .handles + x .routines ≤ 160
+    header-few = omega (arith, line-is, laid .handles-most, laid .routines-most)
+
+    pub laid-small : Small first (1 + x .handles + x .routines)
+    laid-small = record { base-small = omega (arith, header-few); first-small = λ k. go k (decLt k 33) }
+      where
+        go : (k : ℕ) → Dec (k < 33) → getD first k 0 < 2 ^ 40
+        go k (yes l) = subst (λ (y : ℕ). y < 2 ^ 40) (sym (entry-tabulate 33 (firstOf f) first k (laid .first-is) l)) (laid .first-small k l)
+        go k (no d) =
+            let long : length first ≡ 33 = ap length (laid .first-is) ∙ length-tabulate 33 (firstOf f) in
+            subst (λ (y : ℕ). y < 2 ^ 40) (sym (List·getD-eq-default first 0 (omega arith))) (omega arith)
+
+    pub held-is : {flow given start out back r : List ℕ} {all : ℕ} → Accepted (tableOf f) → ((i : ℕ) → getD flow i 0 < 2 ^ 64) → all ≡ firsts (x .locks)
+        → start ≡ replicate (statements f) 0 → Solved (setting f first flow given all (1 + x .handles + x .routines)) start (replicate 32 0) out back
+        → r ≡ tabulate (length out) (leaving all out) → r ≡ heldSets (tableOf f) (oneEach (tableOf f)) flow given
+    held-is {flow} {given} {start} {out} {back} {r} {all} acc below a z s q =
+        let t : Table = tableOf f in
+        let m : statements f ≡ length (t .statements) = sym (statements-length f) in
+        let v : Solved (setting f first flow given (allLocks t) (1 + handles f + routines f)) (replicate (length (t .statements)) 0) (replicate 32 0) out back =
+        subst (λ (y : List ℕ). Solved (setting f first flow given (allLocks t) (1 + handles f + routines f)) y (replicate 32 0) out back)
+        (z ∙ ap (λ (k : ℕ). replicate k 0) m)
+        (subst (λ (y : ℕ). Solved (setting f first flow given y (1 + handles f + routines f)) start (replicate 32 0) out back) (locks-are a)
+        (subst (λ (y : ℕ). Solved (setting f first flow given all y) start (replicate 32 0) out back) line-is s)) in
+        q ∙ ap (λ (k : ℕ). tabulate k (leaving all out)) (out-long f first flow given acc (laid .routines-most) (laid .first-is) below v)
+        ∙ ap (λ (y : ℕ). tabulate (length (t .statements)) (leaving y out)) (locks-are a)
+        ∙ solved-held f first flow given acc (laid .routines-most) (laid .first-is) below v

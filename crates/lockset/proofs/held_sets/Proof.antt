@@ -1,3 +1,5 @@
+use Rattle.lockset.proofs.SolveLaws.{header-few, laid-small, held-is}
+use native.Mathlib.Omega.{arith}
 use borrow.Author.Needs.{needs}
 use Rattle.lockset.proofs.held_sets.Statement.{statement}
 use Rattle.lockset.proofs.held_sets.Tie as tie
@@ -8,41 +10,32 @@ use Rattle.lockset.proofs.turn_round.Reads as turn-round-reads
 use Rattle.sets.proofs.firsts.Reads as firsts-reads
 use Rattle.table.proofs.counts_of.Reads as counts-of-reads
 
--- src/lib.rt:527:9
 counts-of-requires : tie.Need-counts-of-requires
 counts-of-requires c κs = search needs
 
--- src/lib.rt:528:9
 firsts-requires : tie.Need-firsts-requires
 firsts-requires c κs = search needs
 
--- src/lib.rt:532:9
 slice-aggregate-settle : tie.Need-slice-aggregate-settle
 slice-aggregate-settle c = search needs
 
--- src/lib.rt:538:9
 add-settle : tie.Need-add-settle
-add-settle c = ?
+add-settle c = omega (arith, header-few _ (c .before .before .before .before .counts-of .ensures) (c .before .before .before .before .before .before .before .before .before .before .before .pre .0))
 
--- src/lib.rt:538:9
 add-settle-2 : tie.Need-add-settle-2
-add-settle-2 c = ?
+add-settle-2 c = omega (arith, header-few _ (c .before .before .before .before .before .counts-of .ensures) (c .before .before .before .before .before .before .before .before .before .before .before .before .pre .0))
 
--- src/lib.rt:530:5
 settle-requires : tie.Need-settle-requires
-settle-requires c κs = ?
+settle-requires c κs = laid-small _ (c .before .before .before .before .before .counts-of .ensures) (c .before .before .before .before .before .before .before .before .before .before .before .before .pre .0)
 
--- src/lib.rt:540:5
 turn-round-requires : tie.Need-turn-round-requires
 turn-round-requires c κs = search needs
 
--- src/lib.rt:513:1
 same-length : tie.Need-same-length
 same-length c = search needs
 
--- src/lib.rt:513:1
 returns : tie.Need-returns
-returns c = ?
+returns c = held-is _ (c .before .before .before .before .before .before .before .before .before .before .before .before .before .counts-of .ensures) (c .before .before .before .before .before .before .before .before .before .before .before .before .before .before .before .before .before .before .before .before .pre .0) (c .before .before .before .before .before .before .before .before .before .before .before .before .before .before .before .before .before .before .before .before .pre .1 .0) (λ i. omega (arith, c .before .before .before .before .before .before .before .before .before .before .before .before .before .before .before .before .shared-slice-known4 .given i)) (c .before .before .before .before .before .before .before .before .before .before .before .before .firsts .ensures) (c .before .before .before .before .before .before .before .before .before .before .before .before .before .before .before .before .before .before .before .before .pre .1 .1) (c .before .before .before .before .before .before .before .settle .ensures) (c .before .before .turn-round .ensures)
 
 pub held-sets-spec : {M : Type 1} → statement M
 held-sets-spec =
