@@ -1,4 +1,5 @@
 pub mod StepLaws
 pub mod MoveLaws
 pub mod RuleLaws
+pub mod NumberLaws
 pub mod SolveLaws

@@ -1,5 +1,5 @@
 -- Steps one after another, and what they keep: from sets put into one place to passes until one changes nothing. Assumes nothing.
-use mathlib.Core.Path.{_≡_, refl, sym, ap, _∙_, subst}
+use mathlib.Core.Path.{_≡_, refl, sym, _∙_, subst}
 use mathlib.Core.Bool.{Bool, true, false}
 use mathlib.Core.List.{List}
 use mathlib.Core.Logic.{inl, inr, ⊎-elim}
@@ -7,8 +7,8 @@ use Prim.Native.Nat.{ℕ, _+_, _≤_, _<_}
 use native.Mathlib.Nat.{le-refl, lt-of-lt-of-le, lt-of-le-of-lt}
 use native.Mathlib.Omega.{arith}
 use borrow.Author.Count.{below-more}
-use lib.ListN.{length, getD}
-use Rattle.sets.specs.Set.{has, minus}
+use lib.ListN.{getD}
+use Rattle.sets.specs.Set.{minus}
 use Rattle.sets.specs.Least.{Inside, room, putInto}
 use Rattle.sets.specs.Rules.{put-inside, still-put}
 use Rattle.table.specs.Header.{routines}

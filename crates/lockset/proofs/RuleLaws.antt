@@ -1,11 +1,11 @@
 -- The ways of one statement, by its operation: each way that the code goes leaves out only what the rules do, and if nothing changes the statement's
 -- rules hold. Assumes nothing.
-use mathlib.Core.Path.{_≡_, sym, ap, _∙_, subst}
+use mathlib.Core.Path.{_≡_}
 use mathlib.Core.Bool.{Bool, true}
 use mathlib.Core.List.{List}
 use Prim.Native.Nat.{ℕ, _+_, _<_}
 use native.Mathlib.Omega.{arith}
-use lib.ListN.{length, getD}
+use lib.ListN.{getD}
 use Rattle.sets.specs.Set.{has, minus}
 use Rattle.sets.specs.SetLaws.{minus-turns}
 use Rattle.sets.specs.Least.{Inside, putInto}

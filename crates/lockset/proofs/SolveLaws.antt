@@ -4,7 +4,7 @@ use mathlib.Core.Path.{_≡_, refl, sym, ap, _∙_, subst}
 use mathlib.Core.Bool.{Bool, true, false, cond}
 use mathlib.Core.List.{List}
 use mathlib.Core.Logic.{_⊎_, inl, inr, ⊎-elim}
-use Prim.Native.Nat.{ℕ, zero, suc, _+_, _^_, _≤_, _<_}
+use Prim.Native.Nat.{ℕ, _+_, _^_, _≤_, _<_}
 use native.Mathlib.Decide.{decLt}
 use native.Mathlib.Omega.{arith}
 use borrow.Author.Tests.{ltb-true, lt-ltb}
@@ -13,7 +13,6 @@ use lib.ListN.{length, getD, replicate, length-replicate, getD-replicate, List·
 use Rattle.sets.specs.Set.{has, firsts, union, minus, isSingle}
 use Rattle.sets.specs.SetLaws.{has-union-left, has-union-right, union-cases, has-firsts, inside-both}
 use Rattle.sets.specs.Least.{Inside}
-use Rattle.table.specs.Fields.{field}
 use Rattle.table.specs.Header.{handles, routines, statements, statementLine}
 use Rattle.table.specs.Routines.{firstOf}
 use Rattle.table.specs.Table.{Table, tableOf, countsOf, routine, statement, argumentsIn, statementIn, InRoutine}
@@ -26,22 +25,23 @@ use Rattle.table.specs.Accepted.{Accepted, Names}
 use Rattle.table.specs.declared.Arguments.{Arguments}
 use Rattle.table.specs.declared.Counts.{Counts}
 use Rattle.table.specs.declared.Statement.{Statement}
-use Rattle.table.specs.declared.Statement.the-variants.{Read, Write, Set, Add, Take, Give, Point, Call, Start, Jump, JumpZero, Return}
+use Rattle.table.specs.declared.Statement.the-variants.{Call, Start, JumpZero, Return}
 use Rattle.report.specs.OverLaws.{never, none-in, inter-at, inter-has, by-length}
 use Rattle.report.specs.Greatest.{leaving, greatest}
 use Rattle.report.specs.GreatestLaws.{minus-has, minus-from}
-use Rattle.report.specs.Layout.{Layout, oneEach, named}
+use Rattle.report.specs.Layout.{oneEach, named}
 use Rattle.report.specs.Fits.{Fits, copiesOf}
 use Rattle.report.specs.OneEach.{one-each-fits, statement-below}
 use Rattle.report.specs.Operations.{isReturn}
 use Rattle.report.specs.FlowLaws.{FlowHas}
 use Rattle.report.specs.EffectLaws.{GivesHas}
 use Rattle.report.specs.Held.{allLocks, onlyLock, atReturns, heldSets}
-use Rattle.report.specs.HeldLaws.{HeldHas, single-only, only-single, held-rules, held-greatest}
+use Rattle.report.specs.HeldLaws.{single-only, only-single, held-rules, held-greatest}
 use Rattle.report.specs.NextLaws.{goes-placed}
 use Rattle.report.specs.Rules.{Place, Goes, Only, After, AtReturns, HeldRules}
 use Rattle.lockset.specs.Steps.{behind}
-use Rattle.lockset.specs.Rules.{Setting, setting, Small, Lost, Rule, Closed, Kept, Solved, operation, operand}
+use Rattle.lockset.specs.Rules.{Setting, setting, Small, Lost, Rule, Closed, Solved, operation, operand}
+use Rattle.lockset.proofs.NumberLaws.{numberOf, number-is, is-number, no-number, return-is}
 
 -- ---- what is left, and what is turned round
 
@@ -79,12 +79,6 @@ module _ (all n : ℕ) (g : ℕ → ℕ) where
       minus-has all (getD turned p 0) x a
       (λ m. minus-from all (g p) x (ap (λ (y : ℕ). has y x) (sym (getD-tabulate n (λ p. minus all (g p)) p 0 l)) ∙ m) .1 h)
 
-  left-turned : (p x : ℕ) → p < n → has (leaving all turned p) x ≡ true → has (g p) x ≡ true
-  unfolding leaving
-  left-turned p x l h =
-      let b = minus-from all (getD turned p 0) x h in
-      is-there (g p) x (λ d. b .1 (ap (λ (y : ℕ). has y x) (getD-tabulate n (λ p. minus all (g p)) p 0 l) ∙ minus-has all (g p) x (b .0) d))
-
 -- ---- the one lock of a flow set
 
 only-from : (s x : ℕ) → s < 2 ^ 64 → has (onlyLock s) x ≡ true → Only (λ y. has s y ≡ true) x
@@ -99,77 +93,7 @@ only-has : (s x : ℕ) → s < 2 ^ 64 → Only (λ y. has s y ≡ true) x → ha
 unfolding onlyLock
 only-has s x l o = rw (only-single s x l o) (o .member)
 
--- ---- operations by number
-
-return-is : (σ : Statement) → isReturn σ ≡ true → σ ≡ Return
-unfolding isReturn
-return-is (Read h) e = never (sym e)
-return-is (Write h) e = never (sym e)
-return-is (Set n) e = never (sym e)
-return-is (Add n) e = never (sym e)
-return-is (Take h) e = never (sym e)
-return-is (Give h) e = never (sym e)
-return-is (Point h g) e = never (sym e)
-return-is (Call q a) e = never (sym e)
-return-is (Start q a) e = never (sym e)
-return-is (Jump z) e = never (sym e)
-return-is (JumpZero z) e = never (sym e)
-return-is Return e = refl
-
--- the number of a statement's operation
-abbrev numberOf : Statement → ℕ
-numberOf (Read h) = 1
-numberOf (Write h) = 2
-numberOf (Set n) = 3
-numberOf (Add n) = 4
-numberOf (Take h) = 5
-numberOf (Give h) = 6
-numberOf (Point h g) = 7
-numberOf (Call q a) = 8
-numberOf (Start q a) = 9
-numberOf (Jump z) = 10
-numberOf (JumpZero z) = 11
-numberOf Return = 12
-
--- a number from 1 to 11 is that of the statement that it says
-number-is : (f : List ℤ) (line op : ℕ) → 0 < op → op < 12 → numberOf (statementIn f line op) ≡ op
-unfolding statementIn
-number-is f line zero l h = absurd (omega arith)
-number-is f line (suc zero) l h = refl
-number-is f line (suc (suc zero)) l h = refl
-number-is f line (suc (suc (suc zero))) l h = refl
-number-is f line (suc (suc (suc (suc zero)))) l h = refl
-number-is f line (suc (suc (suc (suc (suc zero))))) l h = refl
-number-is f line (suc (suc (suc (suc (suc (suc zero)))))) l h = refl
-number-is f line (suc (suc (suc (suc (suc (suc (suc zero))))))) l h = refl
-number-is f line (suc (suc (suc (suc (suc (suc (suc (suc zero)))))))) l h = refl
-number-is f line (suc (suc (suc (suc (suc (suc (suc (suc (suc zero))))))))) l h = refl
-number-is f line (suc (suc (suc (suc (suc (suc (suc (suc (suc (suc zero)))))))))) l h = refl
-number-is f line (suc (suc (suc (suc (suc (suc (suc (suc (suc (suc (suc zero))))))))))) l h = refl
-number-is f line (suc (suc (suc (suc (suc (suc (suc (suc (suc (suc (suc (suc n)))))))))))) l h = absurd (omega arith)
-
--- and the number of a statement but RETURN is the one that says it
-is-number : (f : List ℤ) (line op : ℕ) → numberOf (statementIn f line op) < 12 → op ≡ numberOf (statementIn f line op)
-is-number f line =
-    by-operation f line (λ op σ. numberOf σ < 12 → op ≡ numberOf σ) (λ h. refl) (λ h. refl) (λ h. refl) (λ h. refl) (λ h. refl) (λ h. refl) (λ h. refl) (λ h. refl) (λ h. refl) (λ h. refl) (λ h. refl)
-    (λ op h. absurd (omega arith))
-
--- a number that is none of these says RETURN
-no-number : (f : List ℤ) (line op : ℕ) → (0 < op → 11 < op) → statementIn f line op ≡ Return
-no-number f line =
-    by-operation f line (λ op σ. (0 < op → 11 < op) → σ ≡ Return)
-    (λ h. absurd (omega (arith, h (omega arith))))
-    (λ h. absurd (omega (arith, h (omega arith))))
-    (λ h. absurd (omega (arith, h (omega arith))))
-    (λ h. absurd (omega (arith, h (omega arith))))
-    (λ h. absurd (omega (arith, h (omega arith))))
-    (λ h. absurd (omega (arith, h (omega arith))))
-    (λ h. absurd (omega (arith, h (omega arith))))
-    (λ h. absurd (omega (arith, h (omega arith))))
-    (λ h. absurd (omega (arith, h (omega arith))))
-    (λ h. absurd (omega (arith, h (omega arith))))
-    (λ h. absurd (omega (arith, h (omega arith))))
-    (λ op h. refl)
+-- ---- the rules
 
 module _ (f : List ℤ) (first flow given : List ℕ) (acc : Accepted (tableOf f)) (most : routines f ≤ 32) (first-is : first ≡ tabulate 33 (firstOf f))
     (below : (i : ℕ) → getD flow i 0 < 2 ^ 64) where

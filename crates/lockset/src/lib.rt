@@ -61,7 +61,10 @@ fn held_after(
 {
     let held = held_at(out, all, s);
     if op == 5 {
-        return sets::union(held, only_lock(set_at(flow, table::field_of(numbers, line, 2))));
+        return sets::union(
+            held,
+            only_lock(set_at(flow, table::field_of(numbers, line, 2))),
+        );
     }
     if op == 6 {
         return sets::difference(held, set_at(flow, table::field_of(numbers, line, 2)));
@@ -159,7 +162,19 @@ fn step(
     if op == 0 {
         return narrow_to(back, all, r, held, changed);
     }
-    go_on(out, back, numbers, first, flow, given, all, base, s, op, changed)
+    go_on(
+        out,
+        back,
+        numbers,
+        first,
+        flow,
+        given,
+        all,
+        base,
+        s,
+        op,
+        changed,
+    )
 }
 
 // Goes the ways of every statement of routine `r` once, and returns as narrow_to does.
@@ -183,7 +198,19 @@ fn pass_routine(
     let mut s = number_at(first, r);
     let mut more = changed;
     while s < end {
-        more = step(out, back, numbers, first, flow, given, all, base, s, r, more);
+        more = step(
+            out,
+            back,
+            numbers,
+            first,
+            flow,
+            given,
+            all,
+            base,
+            s,
+            r,
+            more,
+        );
         s += 1;
     }
     more
@@ -207,7 +234,18 @@ fn pass(
     let mut changed = narrow_to(out, all, 0, 0, false);
     let mut r = 0;
     while r < count {
-        changed = pass_routine(out, back, numbers, first, flow, given, all, base, r, changed);
+        changed = pass_routine(
+            out,
+            back,
+            numbers,
+            first,
+            flow,
+            given,
+            all,
+            base,
+            r,
+            changed,
+        );
         r += 1;
     }
     changed
@@ -372,7 +410,19 @@ fn look(
     if number_at(first, r + 1) <= s {
         return;
     }
-    if step(out, back, numbers, first, flow, given, all, base, s, r, false) {
+    if step(
+        out,
+        back,
+        numbers,
+        first,
+        flow,
+        given,
+        all,
+        base,
+        s,
+        r,
+        false,
+    ) {
         mark_after(todo, calls, numbers, first, base, s, r);
     }
 }
@@ -411,7 +461,20 @@ fn chase_word(
         }
         let s = word * 64 + lowest_of(bits);
         todo[word] = bits & (bits - 1);
-        look(out, back, numbers, first, flow, given, all, base, todo, calls, owners, s);
+        look(
+            out,
+            back,
+            numbers,
+            first,
+            flow,
+            given,
+            all,
+            base,
+            todo,
+            calls,
+            owners,
+            s,
+        );
         left -= 1;
     }
 }
@@ -435,7 +498,20 @@ fn chase_round(
 {
     let mut word = 0;
     while word < 8 {
-        chase_word(out, back, numbers, first, flow, given, all, base, todo, calls, owners, word);
+        chase_word(
+            out,
+            back,
+            numbers,
+            first,
+            flow,
+            given,
+            all,
+            base,
+            todo,
+            calls,
+            owners,
+            word,
+        );
         word += 1;
     }
 }
@@ -468,7 +544,19 @@ fn chase(
         if !any_marked(&todo) {
             return;
         }
-        chase_round(out, back, numbers, first, flow, given, all, base, &mut todo, &calls, &owners);
+        chase_round(
+            out,
+            back,
+            numbers,
+            first,
+            flow,
+            given,
+            all,
+            base,
+            &mut todo,
+            &calls,
+            &owners,
+        );
         left -= 1;
     }
 }

@@ -1,14 +1,9 @@
-use Rattle.lockset.proofs.MoveLaws.{kept-none, kept-then}
-use Rattle.lockset.specs.Rules.{setting, Kept}
+-- `lockset::chase` meets its contract. Every round keeps what the rounds before it kept. Assumes nothing.
 use borrow.Author.Needs.{needs}
-use native.Mathlib.Omega.{arith}
+use Rattle.lockset.specs.Rules.{setting, Kept}
+use Rattle.lockset.proofs.MoveLaws.{kept-none, kept-then}
 use Rattle.lockset.proofs.chase.Statement.{statement}
 use Rattle.lockset.proofs.chase.Tie as tie
-use Rattle.lockset.proofs.chase.Reads as reads
-use Rattle.lockset.proofs.chase.Lts as lts
-use Rattle.lockset.proofs.any_marked.Reads as any-marked-reads
-use Rattle.lockset.proofs.chase_round.Reads as chase-round-reads
-use Rattle.lockset.proofs.note_all.Reads as note-all-reads
 
 abbrev Inv-loop : tie.InvT-loop
 Inv-loop out₀ back₀ numbers first flow given all base todo₀ calls owners left₀ out back todo left = Kept (setting numbers first flow given all base) out₀ back₀ out back

@@ -1,13 +1,11 @@
-use Rattle.lockset.proofs.MoveLaws.{kept-none, kept-then}
-use Rattle.lockset.specs.Rules.{setting, Kept}
+-- `lockset::chase_round` meets its contract. Every word keeps what the words before it kept. Assumes nothing.
 use Prim.Native.Nat.{_-_, _≤_}
-use borrow.Author.Needs.{needs}
 use native.Mathlib.Omega.{arith}
+use borrow.Author.Needs.{needs}
+use Rattle.lockset.specs.Rules.{setting, Kept}
+use Rattle.lockset.proofs.MoveLaws.{kept-none, kept-then}
 use Rattle.lockset.proofs.chase_round.Statement.{statement}
 use Rattle.lockset.proofs.chase_round.Tie as tie
-use Rattle.lockset.proofs.chase_round.Reads as reads
-use Rattle.lockset.proofs.chase_round.Lts as lts
-use Rattle.lockset.proofs.chase_word.Reads as chase-word-reads
 
 abbrev Inv-loop : tie.InvT-loop
 Inv-loop out₀ back₀ numbers first flow given all base todo₀ calls owners word₀ out back todo word = (word ≤ 8) × Kept (setting numbers first flow given all base) out₀ back₀ out back

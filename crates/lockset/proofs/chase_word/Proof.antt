@@ -1,13 +1,9 @@
-use Rattle.lockset.proofs.MoveLaws.{kept-none, kept-then}
-use Rattle.lockset.specs.Rules.{setting, Kept}
+-- `lockset::chase_word` meets its contract. Every statement that is looked at keeps what those before it kept. Assumes nothing.
 use borrow.Author.Needs.{needs}
-use native.Mathlib.Omega.{arith}
+use Rattle.lockset.specs.Rules.{setting, Kept}
+use Rattle.lockset.proofs.MoveLaws.{kept-none, kept-then}
 use Rattle.lockset.proofs.chase_word.Statement.{statement}
 use Rattle.lockset.proofs.chase_word.Tie as tie
-use Rattle.lockset.proofs.chase_word.Reads as reads
-use Rattle.lockset.proofs.chase_word.Lts as lts
-use Rattle.lockset.proofs.look.Reads as look-reads
-use Rattle.lockset.proofs.lowest_of.Reads as lowest-of-reads
 
 abbrev Inv-loop : tie.InvT-loop
 Inv-loop out₀ back₀ numbers first flow given all base todo₀ calls owners word left₀ out back todo left = Kept (setting numbers first flow given all base) out₀ back₀ out back

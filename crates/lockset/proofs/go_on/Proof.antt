@@ -1,19 +1,13 @@
+-- `lockset::go_on` meets its contract. Each way through it is one law of `RuleLaws`. Assumes nothing.
+use mathlib.Core.Path.{refl, sym, ap, _∙_}
+use Prim.Native.Nat.{ℕ}
+use native.Mathlib.Omega.{arith}
+use lib.ListN.{getD}
+use borrow.Author.Needs.{needs}
 use Rattle.lockset.proofs.RuleLaws.{call-moves, start-moves, other-moves}
 use Rattle.lockset.proofs.StepLaws.{behind-as, became-sent}
-use lib.ListN.{getD}
-use native.Mathlib.Omega.{arith}
-use Prim.Native.Nat.{ℕ}
-use mathlib.Core.Path.{refl, sym, ap, _∙_}
-use borrow.Author.Needs.{needs}
 use Rattle.lockset.proofs.go_on.Statement.{statement}
 use Rattle.lockset.proofs.go_on.Tie as tie
-use Rattle.lockset.proofs.go_on.Reads as reads
-use Rattle.lockset.proofs.go_on.Lts as lts
-use Rattle.lockset.proofs.held_after.Reads as held-after-reads
-use Rattle.lockset.proofs.held_at.Reads as held-at-reads
-use Rattle.lockset.proofs.narrow_to.Reads as narrow-to-reads
-use Rattle.lockset.proofs.number_at.Reads as number-at-reads
-use Rattle.table.proofs.field_of.Reads as field-of-reads
 
 add-line : tie.Need-add-line
 add-line c = search needs

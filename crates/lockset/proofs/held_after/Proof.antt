@@ -1,16 +1,9 @@
+-- `lockset::held_after` meets its contract. Each way through it is one law of `StepLaws`. Assumes nothing.
 use mathlib.Core.Path.{_∙_}
-use Rattle.lockset.proofs.StepLaws.{behind-take, behind-give, behind-call, behind-other}
 use borrow.Author.Needs.{needs}
+use Rattle.lockset.proofs.StepLaws.{behind-take, behind-give, behind-call, behind-other}
 use Rattle.lockset.proofs.held_after.Statement.{statement}
 use Rattle.lockset.proofs.held_after.Tie as tie
-use Rattle.lockset.proofs.held_after.Reads as reads
-use Rattle.lockset.proofs.held_after.Lts as lts
-use Rattle.lockset.proofs.held_at.Reads as held-at-reads
-use Rattle.lockset.proofs.only_lock.Reads as only-lock-reads
-use Rattle.lockset.proofs.set_at.Reads as set-at-reads
-use Rattle.sets.proofs.difference.Reads as difference-reads
-use Rattle.sets.proofs.union.Reads as union-reads
-use Rattle.table.proofs.field_of.Reads as field-of-reads
 
 -- src/lib.rt:62:9
 held-at-requires : tie.Need-held-at-requires

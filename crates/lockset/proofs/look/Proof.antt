@@ -1,15 +1,9 @@
+-- `lockset::look` meets its contract. What the lists say is tested before the step. Assumes nothing.
 use Prim.Native.Nat.{_+_}
 use native.Mathlib.Omega.{arith}
 use borrow.Author.Needs.{needs}
 use Rattle.lockset.proofs.look.Statement.{statement}
 use Rattle.lockset.proofs.look.Tie as tie
-use Rattle.lockset.proofs.look.Reads as reads
-use Rattle.lockset.proofs.look.Lts as lts
-use Rattle.lockset.proofs.mark_after.Reads as mark-after-reads
-use Rattle.lockset.proofs.number_at.Reads as number-at-reads
-use Rattle.lockset.proofs.owner_at.Reads as owner-at-reads
-use Rattle.lockset.proofs.step.Reads as step-reads
-use Rattle.table.proofs.field_of.Reads as field-of-reads
 
 owner-at-requires : tie.Need-owner-at-requires
 owner-at-requires c κs = search needs

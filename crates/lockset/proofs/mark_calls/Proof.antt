@@ -1,10 +1,8 @@
+-- `lockset::mark_calls` meets its contract. Assumes nothing.
 use Prim.Native.Nat.{_-_, _≤_}
 use borrow.Author.Needs.{needs}
-use native.Mathlib.Omega.{arith}
 use Rattle.lockset.proofs.mark_calls.Statement.{statement}
 use Rattle.lockset.proofs.mark_calls.Tie as tie
-use Rattle.lockset.proofs.mark_calls.Reads as reads
-use Rattle.lockset.proofs.mark_calls.Lts as lts
 
 abbrev Inv-loop : tie.InvT-loop
 Inv-loop todo₀ calls r word₀ todo word = word ≤ 8

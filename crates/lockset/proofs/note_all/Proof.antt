@@ -1,12 +1,8 @@
+-- `lockset::note_all` meets its contract. Assumes nothing.
 use Prim.Native.Nat.{_-_, _≤_}
 use borrow.Author.Needs.{needs}
-use native.Mathlib.Omega.{arith}
 use Rattle.lockset.proofs.note_all.Statement.{statement}
 use Rattle.lockset.proofs.note_all.Tie as tie
-use Rattle.lockset.proofs.note_all.Reads as reads
-use Rattle.lockset.proofs.note_all.Lts as lts
-use Rattle.lockset.proofs.note_routine.Reads as note-routine-reads
-use Rattle.table.proofs.field_of.Reads as field-of-reads
 
 abbrev Inv-loop : tie.InvT-loop
 Inv-loop todo₀ calls₀ owners₀ numbers first base count r₀ todo calls owners r = r ≤ 32

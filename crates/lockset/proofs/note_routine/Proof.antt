@@ -1,12 +1,9 @@
+-- `lockset::note_routine` meets its contract. Assumes nothing.
 use Prim.Native.Nat.{_-_, _≤_, _+_}
-use borrow.Author.Needs.{needs}
 use native.Mathlib.Omega.{arith}
+use borrow.Author.Needs.{needs}
 use Rattle.lockset.proofs.note_routine.Statement.{statement}
 use Rattle.lockset.proofs.note_routine.Tie as tie
-use Rattle.lockset.proofs.note_routine.Reads as reads
-use Rattle.lockset.proofs.note_routine.Lts as lts
-use Rattle.lockset.proofs.note.Reads as note-reads
-use Rattle.lockset.proofs.number_at.Reads as number-at-reads
 
 abbrev Inv-loop : tie.InvT-loop
 Inv-loop todo₀ calls₀ owners₀ numbers first base r end s₀ todo calls owners s = s₀ ≤ s

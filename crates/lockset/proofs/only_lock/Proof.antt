@@ -1,10 +1,8 @@
-use Rattle.lockset.proofs.StepLaws.{only-one, only-none}
+-- `lockset::only_lock` meets its contract. Assumes nothing.
 use borrow.Author.Needs.{needs}
+use Rattle.lockset.proofs.StepLaws.{only-one, only-none}
 use Rattle.lockset.proofs.only_lock.Statement.{statement}
 use Rattle.lockset.proofs.only_lock.Tie as tie
-use Rattle.lockset.proofs.only_lock.Reads as reads
-use Rattle.lockset.proofs.only_lock.Lts as lts
-use Rattle.sets.proofs.is_single.Reads as is-single-reads
 
 -- src/lib.rt:45:8
 is-single-requires : tie.Need-is-single-requires

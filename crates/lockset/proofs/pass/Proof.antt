@@ -1,16 +1,12 @@
+-- `lockset::pass` meets its contract. Its loop has gone the ways of the routines below r. Assumes nothing.
 use mathlib.Core.Path.{_∙_}
-use Rattle.lockset.proofs.MoveLaws.{routines-start, routines-next, routines-done}
-use Rattle.lockset.specs.Rules.{setting, RoutinesBelow, Moved}
 use Prim.Native.Nat.{_-_, _≤_}
-use borrow.Author.Needs.{needs}
 use native.Mathlib.Omega.{arith}
+use borrow.Author.Needs.{needs}
+use Rattle.lockset.specs.Rules.{setting, RoutinesBelow, Moved}
+use Rattle.lockset.proofs.MoveLaws.{routines-start, routines-next, routines-done}
 use Rattle.lockset.proofs.pass.Statement.{statement}
 use Rattle.lockset.proofs.pass.Tie as tie
-use Rattle.lockset.proofs.pass.Reads as reads
-use Rattle.lockset.proofs.pass.Lts as lts
-use Rattle.lockset.proofs.narrow_to.Reads as narrow-to-reads
-use Rattle.lockset.proofs.pass_routine.Reads as pass-routine-reads
-use Rattle.table.proofs.field_of.Reads as field-of-reads
 
 abbrev Inv-loop : tie.InvT-loop
 Inv-loop out₀ back₀ numbers first flow given all base count changed₀ r₀ out back changed r = (r ≤ count) × Moved (setting numbers first flow given all base) (RoutinesBelow (setting numbers first flow given all base) r) out₀ back₀ out back changed₀ changed

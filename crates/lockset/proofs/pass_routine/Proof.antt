@@ -1,14 +1,11 @@
-use Rattle.lockset.proofs.MoveLaws.{below-start, below-next, below-done}
-use Rattle.lockset.specs.Rules.{setting, RulesBelow, Moved}
+-- `lockset::pass_routine` meets its contract. Its loop has gone the ways of the routine's statements below s. Assumes nothing.
 use Prim.Native.Nat.{_-_, _≤_}
-use borrow.Author.Needs.{needs}
 use native.Mathlib.Omega.{arith}
+use borrow.Author.Needs.{needs}
+use Rattle.lockset.specs.Rules.{setting, RulesBelow, Moved}
+use Rattle.lockset.proofs.MoveLaws.{below-start, below-next, below-done}
 use Rattle.lockset.proofs.pass_routine.Statement.{statement}
 use Rattle.lockset.proofs.pass_routine.Tie as tie
-use Rattle.lockset.proofs.pass_routine.Reads as reads
-use Rattle.lockset.proofs.pass_routine.Lts as lts
-use Rattle.lockset.proofs.number_at.Reads as number-at-reads
-use Rattle.lockset.proofs.step.Reads as step-reads
 
 abbrev Inv-loop : tie.InvT-loop
 Inv-loop out₀ back₀ numbers first flow given all base r changed end s₀ more₀ out back s more = (s₀ ≤ s) × Moved (setting numbers first flow given all base) (RulesBelow (setting numbers first flow given all base) r s) out₀ back₀ out back changed more

@@ -1,16 +1,13 @@
-use borrow.Author.Tests.{not-true}
-use Rattle.lockset.proofs.MoveLaws.{turn, kept-none, kept-then, settling-start, settling-next, settling-less, settling-done, solved-then}
-use Rattle.lockset.specs.Rules.{setting, Settling}
-use Rattle.sets.specs.Least.{room}
+-- `lockset::settle` meets its contract. What a pass changes leaves less room; the pass that changes nothing shows that the lists are closed. Assumes nothing.
+use mathlib.Core.Path.{_∙_}
 use Prim.Native.Nat.{_+_}
 use borrow.Author.Needs.{needs}
-use mathlib.Core.Path.{_∙_}
+use borrow.Author.Tests.{not-true}
+use Rattle.sets.specs.Least.{room}
+use Rattle.lockset.specs.Rules.{setting, Settling}
+use Rattle.lockset.proofs.MoveLaws.{turn, kept-none, kept-then, settling-start, settling-next, settling-less, settling-done, solved-then}
 use Rattle.lockset.proofs.settle.Statement.{statement}
 use Rattle.lockset.proofs.settle.Tie as tie
-use Rattle.lockset.proofs.settle.Reads as reads
-use Rattle.lockset.proofs.settle.Lts as lts
-use Rattle.lockset.proofs.chase.Reads as chase-reads
-use Rattle.lockset.proofs.pass.Reads as pass-reads
 
 abbrev Inv-loop : tie.InvT-loop
 Inv-loop out₀ back₀ numbers first flow given all base going₀ out back going = Settling (setting numbers first flow given all base) out₀ back₀ out back going

@@ -1,17 +1,12 @@
+-- `lockset::step` meets its contract. Each way through it is one law of `RuleLaws`, or what `go_on` ensures. Assumes nothing.
+use mathlib.Core.Path.{refl, sym, _∙_}
+use Prim.Native.Nat.{_+_}
+use native.Mathlib.Omega.{arith}
+use borrow.Author.Needs.{needs}
 use Rattle.lockset.proofs.RuleLaws.{jump-moves, jump-zero-moves, return-moves}
 use Rattle.lockset.proofs.StepLaws.{became-sent, above-none, below-ten}
-use native.Mathlib.Omega.{arith}
-use Prim.Native.Nat.{_+_}
-use mathlib.Core.Path.{refl, sym, _∙_}
-use borrow.Author.Needs.{needs}
 use Rattle.lockset.proofs.step.Statement.{statement}
 use Rattle.lockset.proofs.step.Tie as tie
-use Rattle.lockset.proofs.step.Reads as reads
-use Rattle.lockset.proofs.step.Lts as lts
-use Rattle.lockset.proofs.go_on.Reads as go-on-reads
-use Rattle.lockset.proofs.held_at.Reads as held-at-reads
-use Rattle.lockset.proofs.narrow_to.Reads as narrow-to-reads
-use Rattle.table.proofs.field_of.Reads as field-of-reads
 
 add-field-of : tie.Need-add-field-of
 add-field-of c = omega (arith, c .before .before .before .before .before .pre .0 .base-small, c .before .before .before .before .before .pre .1 .high, c .before .before .before .before .before .pre .0 .first-small (c .before .before .before .before .before .args .r + 1))
