@@ -37,11 +37,11 @@ only-none s e t = rw (sym e ∙ t)
 
 -- ---- the number of an operation, by what it is not
 
-pub above-none : (op : ℕ) → (op ≡ 0 → ⊥) → 0 < op
-above-none op d = lt-of-le-ne zero-le (λ e. d (sym e))
+pub not-none : (op : ℕ) → (op ≡ 0 → ⊥) → 0 < op
+not-none op d = lt-of-le-ne zero-le (λ e. d (sym e))
 
-pub below-ten : (op : ℕ) → op ≤ 11 → (op ≡ 11 → ⊥) → (op ≡ 10 → ⊥) → op < 10
-below-ten op h d f = let l : op < 11 = lt-of-le-ne h d in lt-of-le-ne (omega arith) f
+pub eleven : (op : ℕ) → op ≤ 11 → 10 ≤ op → (op ≡ 10 → ⊥) → op ≡ 11
+eleven op h l d = let k : 10 < op = lt-of-le-ne l (λ e. d (sym e)) in omega arith
 
 -- ---- what a statement brings
 

@@ -146,35 +146,34 @@ fn step(
 {
     let op = table::field_of(numbers, base + s, 1);
     let held = held_at(out, all, s);
-    if op == 10 {
-        let target = table::field_of(numbers, base + s, 2);
-        return narrow_to(out, all, target, held, changed);
-    }
-    if op == 11 {
-        let target = table::field_of(numbers, base + s, 2);
-        let more = narrow_to(out, all, target, held, changed);
-        let still_held = held_at(out, all, s);
-        return narrow_to(out, all, s + 1, still_held, more);
-    }
     if 11 < op {
         return narrow_to(back, all, r, held, changed);
     }
     if op == 0 {
         return narrow_to(back, all, r, held, changed);
     }
-    go_on(
-        out,
-        back,
-        numbers,
-        first,
-        flow,
-        given,
-        all,
-        base,
-        s,
-        op,
-        changed,
-    )
+    if op < 10 {
+        return go_on(
+            out,
+            back,
+            numbers,
+            first,
+            flow,
+            given,
+            all,
+            base,
+            s,
+            op,
+            changed,
+        );
+    }
+    let target = table::field_of(numbers, base + s, 2);
+    let more = narrow_to(out, all, target, held, changed);
+    if op == 10 {
+        return more;
+    }
+    let still_held = held_at(out, all, s);
+    narrow_to(out, all, s + 1, still_held, more)
 }
 
 // Goes the ways of every statement of routine `r` once, and returns as narrow_to does.
