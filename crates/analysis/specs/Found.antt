@@ -11,10 +11,9 @@ use Rattle.table.specs.Accepted.{Accepted}
 use Rattle.table.specs.LayoutLaws.{Laid}
 use Rattle.report.specs.Layout.{oneEach}
 use Rattle.report.specs.Operations.{reading, writing}
-use Rattle.report.specs.Findings.{Sets, setsOf, sharedCells, commonLocks, ownAccess, isStray}
+use Rattle.report.specs.Findings.{Sets, setsOf, sharedCells, commonLocks, accessCount, isStray}
 use Rattle.report.specs.Report.{bit}
 use Rattle.analysis.specs.Steps.{entry}
-use Rattle.analysis.specs.declared.Summary.{Summary}
 
 -- the sets of a table with one copy of each routine
 abbrev pub setsIn : Table → Sets
@@ -29,13 +28,14 @@ pub record Known (f : List ℤ) (flow reads writes held laterReads laterWrites :
   pub later-reads-is : laterReads ≡ setsIn (tableOf f) .futureReads
   pub later-writes-is : laterWrites ≡ setsIn (tableOf f) .futureWrites
 
--- what is found of a table
-pub record Found (t : Table) (r : Summary) : Type 0 where
-  pub shared-is : r .shared ≡ sharedCells t (oneEach t) (setsIn t)
-  pub common-is : (x : ℕ) → x < t .cells → entry (r .common) x ≡ commonLocks t (oneEach t) (setsIn t) x
-  pub reads-is : (p : ℕ) → p < length (t .statements) → entry (r .reads) p ≡ ownAccess t (oneEach t) (setsIn t) reading p
-  pub writes-is : (p : ℕ) → p < length (t .statements) → entry (r .writes) p ≡ ownAccess t (oneEach t) (setsIn t) writing p
-  pub strays-is : (p : ℕ) → p < length (t .statements) → entry (r .strays) p ≡ bit (isStray t (oneEach t) (setsIn t) p)
+-- what is found of a table: the shared cells; for each cell the locks common to all its accesses, and how many statements read and write it; for
+-- each statement 1 if it is a stray GIVE, else 0
+pub record Found (t : Table) (shared : ℕ) (common reads writes marks : List ℕ) : Type 0 where
+  pub shared-is : shared ≡ sharedCells t (oneEach t) (setsIn t)
+  pub common-is : (x : ℕ) → x < t .cells → entry common x ≡ commonLocks t (oneEach t) (setsIn t) x
+  pub reads-is : (x : ℕ) → x < t .cells → entry reads x ≡ accessCount t (oneEach t) (setsIn t) reading x
+  pub writes-is : (x : ℕ) → x < t .cells → entry writes x ≡ accessCount t (oneEach t) (setsIn t) writing x
+  pub strays-is : (p : ℕ) → p < length (t .statements) → entry marks p ≡ bit (isStray t (oneEach t) (setsIn t) p)
 
 -- an accepted table's numbers, and where its routines' statements and handles stand
 pub record Base (f : List ℤ) (first handle counts : List ℕ) : Type 0 where
