@@ -92,6 +92,9 @@ module _ (f : List ℤ) {flow reads₀ writes₀ held laterReads laterWrites : L
     found =
         let n = statements-length f in
         record {
+          common-long = noted .common-long;
+          reads-long = noted .reads-long;
+          writes-long = noted .writes-long;
           shared-is = shared-made ∙ shared-all;
           common-is = λ x h. noted .common-is x (cell-few x h) ∙ common-at x;
           reads-is = λ x h. noted .reads-is x (cell-few x h) ∙ counted reading x;

@@ -24,6 +24,9 @@ use Rattle.analysis.specs.FoldLaws.{Folding, folding-start, folding-next
 
 -- what is noted of the first `count` statements
 pub record Noted (f : List ℤ) (flow held : List ℕ) (all count : ℕ) (common reads writes : List ℕ) : Type 0 where
+  pub common-long : length common ≡ 64
+  pub reads-long : length reads ≡ 64
+  pub writes-long : length writes ≡ 64
   pub common-is : (x : ℕ) → x < 64 → entry common x ≡ foldFrom inter all 0 count (heldAt f flow held all x)
   pub reads-is : (x : ℕ) → x < 64 → entry reads x ≡ foldFrom _+_ 0 0 count (accessMark f flow reading x)
   pub writes-is : (x : ℕ) → x < 64 → entry writes x ≡ foldFrom _+_ 0 0 count (accessMark f flow writing x)
@@ -292,6 +295,9 @@ module _ {f : List ℤ} {flow held : List ℕ} {all count : ℕ} {common reads w
 
   pub noting-done : s ≤ 0 → Noted f flow held all count common reads writes
   noting-done z = record {
+    common-long = n .common-long;
+    reads-long = n .reads-long;
+    writes-long = n .writes-long;
     common-is = λ x l. folding-done inter all count (heldAt f flow held all x) (entry common x) s (n .common-is x l) z;
     reads-is = λ x l. folding-done _+_ 0 count (accessMark f flow reading x) (entry reads x) s (n .reads-is x l) z;
     writes-is = λ x l. folding-done _+_ 0 count (accessMark f flow writing x) (entry writes x) s (n .writes-is x l) z;
