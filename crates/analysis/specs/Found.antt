@@ -2,19 +2,19 @@
 use mathlib.Core.Path.{_≡_}
 use mathlib.Core.Bool.{true}
 use mathlib.Core.List.{List}
-use Prim.Native.Nat.{ℕ, _<_}
+use Prim.Native.Nat.{ℕ, _+_, _*_, _≤_, _<_}
 use lib.IntN.{ℤ, pos}
-use lib.ListN.{length, getD}
+use lib.ListN.{length, getD, replicate}
 use Rattle.lines.specs.Field.{inField}
+use Rattle.table.specs.Header.{handles, routines, statements}
 use Rattle.table.specs.Table.{Table, tableOf}
 use Rattle.table.specs.Accepted.{Accepted}
 use Rattle.table.specs.LayoutLaws.{Laid}
 use Rattle.report.specs.Layout.{oneEach}
 use Rattle.report.specs.Operations.{reading, writing}
-use Rattle.report.specs.Findings.{Sets, setsOf, sharedCells, commonLocks, ownAccess, isStray}
+use Rattle.report.specs.Findings.{Sets, setsOf, sharedCells, commonLocks, accessCount, isStray}
 use Rattle.report.specs.Report.{bit}
 use Rattle.analysis.specs.Steps.{entry}
-use Rattle.analysis.specs.declared.Summary.{Summary}
 
 -- the sets of a table with one copy of each routine
 abbrev pub setsIn : Table → Sets
@@ -29,13 +29,17 @@ pub record Known (f : List ℤ) (flow reads writes held laterReads laterWrites :
   pub later-reads-is : laterReads ≡ setsIn (tableOf f) .futureReads
   pub later-writes-is : laterWrites ≡ setsIn (tableOf f) .futureWrites
 
--- what is found of a table
-pub record Found (t : Table) (r : Summary) : Type 0 where
-  pub shared-is : r .shared ≡ sharedCells t (oneEach t) (setsIn t)
-  pub common-is : (x : ℕ) → x < t .cells → entry (r .common) x ≡ commonLocks t (oneEach t) (setsIn t) x
-  pub reads-is : (p : ℕ) → p < length (t .statements) → entry (r .reads) p ≡ ownAccess t (oneEach t) (setsIn t) reading p
-  pub writes-is : (p : ℕ) → p < length (t .statements) → entry (r .writes) p ≡ ownAccess t (oneEach t) (setsIn t) writing p
-  pub strays-is : (p : ℕ) → p < length (t .statements) → entry (r .strays) p ≡ bit (isStray t (oneEach t) (setsIn t) p)
+-- what is found of a table: the shared cells; for each cell the locks common to all its accesses, and how many statements read and write it; for
+-- each statement 1 if it is a stray GIVE, else 0
+pub record Found (t : Table) (shared : ℕ) (common reads writes marks : List ℕ) : Type 0 where
+  pub common-long : length common ≡ 64
+  pub reads-long : length reads ≡ 64
+  pub writes-long : length writes ≡ 64
+  pub shared-is : shared ≡ sharedCells t (oneEach t) (setsIn t)
+  pub common-is : (x : ℕ) → x < t .cells → entry common x ≡ commonLocks t (oneEach t) (setsIn t) x
+  pub reads-is : (x : ℕ) → x < t .cells → entry reads x ≡ accessCount t (oneEach t) (setsIn t) reading x
+  pub writes-is : (x : ℕ) → x < t .cells → entry writes x ≡ accessCount t (oneEach t) (setsIn t) writing x
+  pub strays-is : (p : ℕ) → p < length (t .statements) → entry marks p ≡ bit (isStray t (oneEach t) (setsIn t) p)
 
 -- an accepted table's numbers, and where its routines' statements and handles stand
 pub record Base (f : List ℤ) (first handle counts : List ℕ) : Type 0 where
@@ -46,3 +50,27 @@ pub record Base (f : List ℤ) (first handle counts : List ℕ) : Type 0 where
 pub record AcceptedNumbers (f : List ℤ) : Type 0 where
   pub accepted : Accepted (tableOf f)
   pub in-field : (i : ℕ) → inField (getD f i (pos 0)) ≡ true
+
+-- ---- lists that are lent
+
+-- for the futures, and for edges
+pub record Working (f : List ℤ) (laterReads laterWrites from to : List ℕ) : Type 0 where
+  pub later-reads-long : length laterReads ≡ statements f + routines f
+  pub later-writes-long : length laterWrites ≡ statements f + routines f
+  pub from-long : 4 * statements f ≤ length from
+  pub to-long : 4 * statements f ≤ length to
+
+-- and for what is held at each statement
+pub record Lent (f : List ℤ) (held laterReads laterWrites from to : List ℕ) : Type 0 where
+  pub held-is : held ≡ replicate (statements f) 0
+  pub working : Working f laterReads laterWrites from to
+
+-- lists with room for whatever a text of so many lines says
+pub record Space (lines : ℕ) (numbers : List ℤ) (held laterReads laterWrites from to : List ℕ) : Type 0 where
+  pub numbers-long : length numbers ≡ 8 * lines
+  pub held-is : held ≡ replicate (length held) 0
+  pub held-long : (n : ℕ) → n ≤ lines → n ≤ 512 → n ≤ length held
+  pub later-reads-long : (n : ℕ) → n ≤ lines → n ≤ 544 → n ≤ length laterReads
+  pub later-writes-long : (n : ℕ) → n ≤ lines → n ≤ 544 → n ≤ length laterWrites
+  pub from-long : (n : ℕ) → n ≤ lines → n ≤ 512 → 4 * n ≤ length from
+  pub to-long : (n : ℕ) → n ≤ lines → n ≤ 512 → 4 * n ≤ length to

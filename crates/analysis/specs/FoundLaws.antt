@@ -25,15 +25,15 @@ use Rattle.report.specs.OneCopy.{count-one-copy, stray-one-copy}
 use Rattle.report.specs.Report.{bit, cellLine, cellLines, strayLine, strayLines, totalLine, findingLines, linesFor, reportLines, textOf, reportText}
 use Rattle.report.specs.ReportLaws.{unguardedCell, unguarded-counted, stray-counted}
 use Rattle.report.specs.ReportTextLaws.{Line8, lines-8}
-use Rattle.analysis.specs.Steps.{entry, foldFrom, ownBy, sharedBy, strayMark, heldAt, hasMark, unguardedMark, cellNumbers, totalNumbers, cellsBy, straysBy, textFrom, reportBy, AllFitting}
+use Rattle.analysis.specs.Steps.{entry, foldFrom, ownBy, sharedBy, strayMark, accessMark, heldAt, hasMark, unguardedMark, cellNumbers, totalNumbers, cellsBy, straysBy, textFrom, reportBy, AllFitting}
 use Rattle.analysis.specs.FoldLaws.{fold-same, fold-union, fold-inter, fold-count}
 use Rattle.analysis.specs.PrintLaws.{text-append, text-one}
 use Rattle.analysis.specs.Found.{setsIn, Known, Found}
-use Rattle.analysis.specs.declared.Summary.{Summary}
+use Rattle.analysis.specs.NoteLaws.{Noted}
 
 -- ---- from the given sets to the findings
 
-module _ (f : List ℤ) {flow reads writes held laterReads laterWrites : List ℕ} (known : Known f flow reads writes held laterReads laterWrites) where
+module _ (f : List ℤ) {flow reads₀ writes₀ held laterReads laterWrites : List ℕ} (known : Known f flow reads₀ writes₀ held laterReads laterWrites) where
   abbrev t : Table
   t = tableOf f
 
@@ -41,11 +41,11 @@ module _ (f : List ℤ) {flow reads writes held laterReads laterWrites : List �
   unfolding ownBy ownAccess oneEach
   own-is w p h = rw (statement-is f p h, known .flow-is)
 
-  shared-at : (p : ℕ) → p < statements f → sharedBy f reads writes laterReads laterWrites p ≡ sharedAt t (oneEach t) (setsIn t) p
+  shared-at : (p : ℕ) → p < statements f → sharedBy f reads₀ writes₀ laterReads laterWrites p ≡ sharedAt t (oneEach t) (setsIn t) p
   unfolding sharedBy sharedAt oneEach
   shared-at p h = rw (statement-is f p h, known .reads-is, known .writes-is, known .later-reads-is, known .later-writes-is)
 
-  pub shared-all : foldFrom union 0 0 (statements f) (sharedBy f reads writes laterReads laterWrites) ≡ sharedCells t (oneEach t) (setsIn t)
+  pub shared-all : foldFrom union 0 0 (statements f) (sharedBy f reads₀ writes₀ laterReads laterWrites) ≡ sharedCells t (oneEach t) (setsIn t)
   unfolding sharedCells oneEach
   shared-all =
       fold-same union 0 0 (statements f) _ (sharedAt t (oneEach t) (setsIn t)) (λ i h. shared-at i (omega arith))
@@ -56,58 +56,52 @@ module _ (f : List ℤ) {flow reads writes held laterReads laterWrites : List �
   unfolding strayMark strayAt oneEach
   stray-is p h = rw (stray-one-copy t (setsIn t) p, statement-is f p h, known .flow-is, known .held-is)
 
-  module _ (acc : Accepted t) (r : Summary)
-      (shared-made : r .shared ≡ foldFrom union 0 0 (statements f) (sharedBy f reads writes laterReads laterWrites))
-      (reads-made : r .reads ≡ tabulate 512 (ownBy f flow reading))
-      (writes-made : r .writes ≡ tabulate 512 (ownBy f flow writing))
-      (common-made : r .common ≡ tabulate 64 (λ x. foldFrom inter (firsts (locks f)) 0 (statements f) (heldAt (r .reads) (r .writes) held (firsts (locks f)) x)))
-      (strays-made : r .strays ≡ tabulate 512 (strayMark f flow held)) where
-    few : statements f ≤ 512
-    few = let a : length (t .statements) ≤ 512 = acc .statements-most in let b = statements-length f in omega arith
+  mark-at : (w : Bool) (x p : ℕ) → p < statements f → accessMark f flow w x p ≡ bit (has (ownAccess t (oneEach t) (setsIn t) w p) x)
+  unfolding accessMark
+  mark-at w x p h = ap (λ (s : ℕ). bit (has s x)) (own-is w p h)
 
-    reads-at : (p : ℕ) → p < statements f → entry (r .reads) p ≡ ownAccess t (oneEach t) (setsIn t) reading p
-    reads-at p h =
-        let l : p < 512 = omega (arith, few) in
-        ap (λ (a : List ℕ). entry a p) reads-made ∙ getD-tabulate 512 (ownBy f flow reading) p 0 l ∙ own-is reading p h
+  counted : (w : Bool) (x : ℕ) → foldFrom _+_ 0 0 (statements f) (accessMark f flow w x) ≡ accessCount t (oneEach t) (setsIn t) w x
+  counted w x =
+      fold-same _+_ 0 0 (statements f) _ (λ p. bit (has (ownAccess t (oneEach t) (setsIn t) w p) x)) (λ i h. mark-at w x i (omega arith))
+      ∙ ap (λ (n : ℕ). foldFrom _+_ 0 0 n (λ p. bit (has (ownAccess t (oneEach t) (setsIn t) w p) x))) (sym (statements-length f))
+      ∙ fold-count 0 (length (t .statements)) (λ p. has (ownAccess t (oneEach t) (setsIn t) w p) x) ∙ sym (count-one-copy t (setsIn t) w x)
 
-    writes-at : (p : ℕ) → p < statements f → entry (r .writes) p ≡ ownAccess t (oneEach t) (setsIn t) writing p
-    writes-at p h =
-        let l : p < 512 = omega (arith, few) in
-        ap (λ (a : List ℕ). entry a p) writes-made ∙ getD-tabulate 512 (ownBy f flow writing) p 0 l ∙ own-is writing p h
+  abbrev left : ℕ → ℕ → ℕ
+  left x p = cond (touchesAt t (oneEach t) (setsIn t) x p) (getD (setsIn t .held) p 0) (allLocks t)
 
-    strays-at : (p : ℕ) → p < statements f → entry (r .strays) p ≡ bit (isStray t (oneEach t) (setsIn t) p)
-    strays-at p h =
-        let l : p < 512 = omega (arith, few) in
-        ap (λ (a : List ℕ). entry a p) strays-made ∙ getD-tabulate 512 (strayMark f flow held) p 0 l ∙ stray-is p h
+  held-at : (x p : ℕ) → p < statements f → heldAt f flow held (firsts (locks f)) x p ≡ left x p
+  unfolding heldAt touchesAt
+  held-at x p h = rw (own-is reading p h, own-is writing p h, known .held-is, locks-is f)
 
-    abbrev left : ℕ → ℕ → ℕ
-    left x p = cond (touchesAt t (oneEach t) (setsIn t) x p) (getD (setsIn t .held) p 0) (allLocks t)
+  common-at : (x : ℕ) → foldFrom inter (firsts (locks f)) 0 (statements f) (heldAt f flow held (firsts (locks f)) x) ≡ commonLocks t (oneEach t) (setsIn t) x
+  unfolding commonLocks oneEach
+  common-at x =
+      fold-same inter (firsts (locks f)) 0 (statements f) _ (left x) (λ i b. held-at x i (omega arith))
+      ∙ ap₂ (λ (s n : ℕ). foldFrom inter s 0 n (left x)) (ap firsts (sym (locks-is f))) (sym (statements-length f))
+      ∙ fold-inter (allLocks t) 0 (length (t .statements)) (left x)
 
-    held-at : (x p : ℕ) → p < statements f → heldAt (r .reads) (r .writes) held (firsts (locks f)) x p ≡ left x p
-    unfolding heldAt touchesAt
-    held-at x p h = rw (reads-at p h, writes-at p h, known .held-is, locks-is f)
+  -- what the loops over the statements make is what is found
+  module _ (acc : Accepted t) (shared : ℕ) (common reads writes marks : List ℕ)
+      (shared-made : shared ≡ foldFrom union 0 0 (statements f) (sharedBy f reads₀ writes₀ laterReads laterWrites))
+      (noted : Noted f flow held (firsts (locks f)) (statements f) common reads writes)
+      (strays-made : marks ≡ tabulate (statements f) (strayMark f flow held)) where
+    cell-few : (x : ℕ) → x < t .cells → x < 64
+    cell-few x h = let a : t .cells ≤ 64 = acc .cells-most in omega arith
 
-    common-at : (x : ℕ) → x < t .cells → entry (r .common) x ≡ commonLocks t (oneEach t) (setsIn t) x
-    unfolding commonLocks oneEach
-    common-at x h =
-        let a : t .cells ≤ 64 = acc .cells-most in
-        let l : x < 64 = omega arith in
-        let all : ℕ = firsts (locks f) in
-        ap (λ (s : List ℕ). entry s x) common-made
-        ∙ getD-tabulate 64 (λ y. foldFrom inter all 0 (statements f) (heldAt (r .reads) (r .writes) held all y)) x 0 l
-        ∙ fold-same inter all 0 (statements f) _ (left x) (λ i b. held-at x i (omega arith))
-        ∙ ap₂ (λ (s n : ℕ). foldFrom inter s 0 n (left x)) (ap firsts (sym (locks-is f))) (sym (statements-length f))
-        ∙ fold-inter (allLocks t) 0 (length (t .statements)) (left x)
-
-    pub found : Found t r
+    pub found : Found t shared common reads writes marks
     found =
         let n = statements-length f in
         record {
+          common-long = noted .common-long;
+          reads-long = noted .reads-long;
+          writes-long = noted .writes-long;
           shared-is = shared-made ∙ shared-all;
-          common-is = common-at;
-          reads-is = λ p h. reads-at p (omega arith);
-          writes-is = λ p h. writes-at p (omega arith);
-          strays-is = λ p h. strays-at p (omega arith);
+          common-is = λ x h. noted .common-is x (cell-few x h) ∙ common-at x;
+          reads-is = λ x h. noted .reads-is x (cell-few x h) ∙ counted reading x;
+          writes-is = λ x h. noted .writes-is x (cell-few x h) ∙ counted writing x;
+          strays-is = λ p h.
+              let l : p < statements f = omega arith in
+              ap (λ (a : List ℕ). entry a p) strays-made ∙ getD-tabulate (statements f) (strayMark f flow held) p 0 l ∙ stray-is p l;
         }
 
 -- ---- from the findings to the report
@@ -118,60 +112,53 @@ joined-same from zero g h e = refl
 joined-same from (suc n) g h e =
     ap₂ {C = List (List ℕ)} (λ (a b : List (List ℕ)). a ++ b) (e from (omega arith)) (joined-same (from + 1) n g h (λ i b. e i (omega arith)))
 
-module _ (t : Table) (r : Summary) (is : Found t r) where
+module _ (t : Table) (shared : ℕ) (common reads writes marks : List ℕ) (is : Found t shared common reads writes marks) where
   abbrev a : Sets
   a = setsIn t
 
   abbrev n : ℕ
   n = length (t .statements)
 
-  count-at : (sets : List ℕ) (w : Bool) → ((p : ℕ) → p < n → entry sets p ≡ ownAccess t (oneEach t) a w p) → (x : ℕ)
-      → foldFrom _+_ 0 0 n (hasMark sets x) ≡ accessCount t (oneEach t) a w x
-  unfolding hasMark
-  count-at sets w e x =
-      fold-same _+_ 0 0 n (hasMark sets x) (λ p. bit (has (ownAccess t (oneEach t) a w p) x)) (λ p h. ap (λ (s : ℕ). bit (has s x)) (e p (omega arith)))
-      ∙ fold-count 0 n (λ p. has (ownAccess t (oneEach t) a w p) x) ∙ sym (count-one-copy t a w x)
-
   -- line 51
   abbrev said : ℕ → List (List ℕ)
   said x = cellLine t (oneEach t) a (sharedCells t (oneEach t) a) x ∷ []
 
-  cell-is : (x : ℕ) → x < t .cells → cellsBy (r .shared) (r .common) (r .reads) (r .writes) n x ≡ said x
+  cell-is : (x : ℕ) → x < t .cells → cellsBy shared common reads writes x ≡ said x
   unfolding cellsBy cellNumbers cellLine
-  cell-is x h = rw (count-at (r .reads) reading (is .reads-is) x, count-at (r .writes) writing (is .writes-is) x, is .common-is x h, is .shared-is)
+  cell-is x h = rw (is .reads-is x h, is .writes-is x h, is .common-is x h, is .shared-is)
 
   -- line 52
   abbrev strayed : ℕ → List (List ℕ)
   strayed s = cond (isStray t (oneEach t) a s) (strayLine s ∷ []) []
 
-  stray-said : (s : ℕ) → s < n → straysBy (r .strays) s ≡ strayed s
+  stray-said : (s : ℕ) → s < n → straysBy marks s ≡ strayed s
   unfolding straysBy
   stray-said s h = rw (is .strays-is s h, mark (isStray t (oneEach t) a s))
 
   -- the totals
-  pub strays-counted : foldFrom _+_ 0 0 n (hasMark (r .strays) 0) ≡ countFrom 0 n (isStray t (oneEach t) a)
+  pub strays-counted : foldFrom _+_ 0 0 n (hasMark marks 0) ≡ countFrom 0 n (isStray t (oneEach t) a)
   unfolding hasMark
   strays-counted =
-      fold-same _+_ 0 0 n (hasMark (r .strays) 0) (λ p. bit (isStray t (oneEach t) a p))
+      fold-same _+_ 0 0 n (hasMark marks 0) (λ p. bit (isStray t (oneEach t) a p))
       (λ p h. ap bit (ap (λ (s : ℕ). has s 0) (is .strays-is p (omega arith)) ∙ mark (isStray t (oneEach t) a p)))
       ∙ fold-count 0 n (isStray t (oneEach t) a)
 
-  pub unguarded-found : foldFrom _+_ 0 0 (t .cells) (unguardedMark (r .shared) (r .common)) ≡ countFrom 0 (t .cells) (unguardedCell t (oneEach t))
+  pub unguarded-found : foldFrom _+_ 0 0 (t .cells) (unguardedMark shared common) ≡ countFrom 0 (t .cells) (unguardedCell t (oneEach t))
   unfolding unguardedMark unguardedCell
   unguarded-found =
-      fold-same _+_ 0 0 (t .cells) (unguardedMark (r .shared) (r .common)) (λ x. bit (unguardedCell t (oneEach t) x))
+      fold-same _+_ 0 0 (t .cells) (unguardedMark shared common) (λ x. bit (unguardedCell t (oneEach t) x))
       (λ x h. ap₂ (λ (s c : ℕ). bit (isUnguarded s c x)) (is .shared-is) (is .common-is x (omega arith)))
       ∙ fold-count 0 (t .cells) (unguardedCell t (oneEach t))
 
-  module _ (unguarded strays : ℕ) (u : unguarded ≡ foldFrom _+_ 0 0 (t .cells) (unguardedMark (r .shared) (r .common)))
-      (z : strays ≡ foldFrom _+_ 0 0 n (hasMark (r .strays) 0)) where
+  module _ (unguarded strays : ℕ) (u : unguarded ≡ foldFrom _+_ 0 0 (t .cells) (unguardedMark shared common))
+      (z : strays ≡ foldFrom _+_ 0 0 n (hasMark marks 0)) where
     -- line 59
     total-is : totalNumbers unguarded strays ≡ totalLine (findingLines t (oneEach t))
     unfolding totalNumbers totalLine
     total-is = rw (u ∙ unguarded-found ∙ sym (unguarded-counted t (oneEach t)), z ∙ strays-counted ∙ sym (stray-counted t (oneEach t)))
 
     -- all lines
-    pub report-is : reportBy (r .shared) (r .common) (r .reads) (r .writes) (r .strays) n (t .cells) unguarded strays ≡ reportText t
+    pub report-is : reportBy shared common reads writes marks n (t .cells) unguarded strays ≡ reportText t
     unfolding reportBy textFrom reportText reportLines linesFor findingLines cellLines strayLines
     report-is =
         ap₂ (λ (x y : List ℕ). x ++ y)
@@ -188,13 +175,13 @@ module _ (t : Table) (r : Summary) (is : Found t r) where
       unfolding linesFor
       in-findings l m = lines-8 t (oneEach t) acc l (Memᴰ·append-left (totalLine (findingLines t (oneEach t)) ∷ []) m)
 
-      cells-eight : (i : ℕ) → i < t .cells → (l : List ℕ) → List·Memᴰ l (cellsBy (r .shared) (r .common) (r .reads) (r .writes) n i) → Line8 l
+      cells-eight : (i : ℕ) → i < t .cells → (l : List ℕ) → List·Memᴰ l (cellsBy shared common reads writes i) → Line8 l
       unfolding findingLines cellLines
       cells-eight i h l m =
           in-findings l (Memᴰ·append-left (strayLines t (oneEach t) a)
           (joined-has 0 (t .cells) said i l (below-within h) (subst (λ (x : List (List ℕ)). List·Memᴰ l x) (cell-is i h) m)))
 
-      strays-eight : (i : ℕ) → i < n → (l : List ℕ) → List·Memᴰ l (straysBy (r .strays) i) → Line8 l
+      strays-eight : (i : ℕ) → i < n → (l : List ℕ) → List·Memᴰ l (straysBy marks i) → Line8 l
       unfolding findingLines strayLines
       strays-eight i h l m =
           in-findings l (Memᴰ·append-right (cellLines t (oneEach t) a)
@@ -207,7 +194,7 @@ module _ (t : Table) (r : Summary) (is : Found t r) where
           (lines-8 t (oneEach t) acc (totalLine (findingLines t (oneEach t))) (Memᴰ·append-right (findingLines t (oneEach t)) (List·Memᴰ·head refl)))
 
       pub all-fitting : (out : List ℕ) → length (reportText t) ≤ length out
-          → AllFitting (r .shared) (r .common) (r .reads) (r .writes) (r .strays) n (t .cells) unguarded strays out
+          → AllFitting shared common reads writes marks n (t .cells) unguarded strays out
       all-fitting out h = record {
         cells-eight = cells-eight;
         strays-eight = strays-eight;

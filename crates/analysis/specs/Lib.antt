@@ -1,9 +1,12 @@
 pub mod Reported
 pub mod Steps
 pub mod FoldLaws
+pub mod NoteLaws
+pub mod LineLaws
 pub mod PrintLaws
 pub mod Found
 pub mod FoundLaws
-pub mod ReportedLaws
+pub mod LengthLaws
 pub mod SetsLaws
+pub mod ReportedLaws
 pub mod LoadLaws

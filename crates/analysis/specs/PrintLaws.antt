@@ -201,7 +201,7 @@ unmarked-line marks s e = rw e
 module _ {shared : ℕ} {common reads writes marks : List ℕ} {count cells unguarded strays : ℕ} {out : List ℕ}
     (h : AllFitting shared common reads writes marks count cells unguarded strays out) where
   abbrev cellText : List ℕ
-  cellText = textFrom 0 cells (cellsBy shared common reads writes count)
+  cellText = textFrom 0 cells (cellsBy shared common reads writes)
 
   abbrev strayText : List ℕ
   strayText = textFrom 0 count (straysBy marks)
@@ -219,7 +219,7 @@ module _ {shared : ℕ} {common reads writes marks : List ℕ} {count cells ungu
       let r : length (reportBy shared common reads writes marks count cells unguarded strays) ≤ length out = h .room in
       omega arith
 
-  pub cells-fitting : Fitting (cellsBy shared common reads writes count) cells 0 out
+  pub cells-fitting : Fitting (cellsBy shared common reads writes) cells 0 out
   cells-fitting = record { eight = h .cells-eight; room = omega (arith, whole-room) }
 
   module _ (p : ℕ) (o : List ℕ) (e : p ≡ 0 + length cellText) (q : o ≡ putAt out 0 cellText) where

@@ -7,18 +7,18 @@ use native.Mathlib.Omega.{arith}
 use native.Mathlib.Nat.{zero-add}
 use lib.Dec.{eqb, ltb}
 use lib.IntN.{ℤ, pos}
-use lib.ListN.{length, drop}
+use lib.ListN.{length, take, drop, replicate, length-take}
 use borrow.Author.Tests.{lt-ltb, le-ltb}
-use Rattle.lines.specs.Line.{numbersOf}
+use Rattle.lines.specs.Line.{lineCount, numbersOf}
 use Rattle.lines.specs.LineLaws.{numbers-in-field}
-use Rattle.table.specs.Header.{cells, statements}
+use Rattle.table.specs.Header.{cells, statements, statementLine}
 use Rattle.table.specs.Table.{tableOf, countsOf}
 use Rattle.table.specs.LookupLaws.{cells-is, statements-length}
 use Rattle.table.specs.Accepted as Facts
 use Rattle.table.specs.AcceptedLaws.{accepted}
-use Rattle.table.specs.Verdict.{verdict, readingOf, numbersFor}
+use Rattle.table.specs.Verdict.{verdict}
 use Rattle.table.specs.declared.Counts.{Counts}
-use Rattle.table.specs.declared.Reading.{Reading}
+use Rattle.table.specs.declared.Verdict.{Verdict}
 use Rattle.table.specs.declared.Verdict.the-variants.{Accepted, Refused}
 use Rattle.report.specs.Layout.{oneEach}
 use Rattle.report.specs.Findings.{setsOf}
@@ -27,56 +27,85 @@ use Rattle.report.specs.ReportLaws.{unguarded-total, stray-total}
 use Rattle.report.specs.ReportTextLaws.{report-length}
 use Rattle.analysis.specs.Reported.{tableIn, turnedDown, answerOf, reportAnswer, printedOver, reportedInto, isNone, countsNothing, loadable}
 use Rattle.analysis.specs.Steps.{foldFrom, hasMark, unguardedMark, putAt, reportBy, AllFitting}
-use Rattle.analysis.specs.Found.{Found, AcceptedNumbers}
+use Rattle.analysis.specs.Found.{Found, AcceptedNumbers, Lent, Space}
 use Rattle.analysis.specs.FoundLaws.{strays-counted, unguarded-found, report-is, all-fitting}
 use Rattle.analysis.specs.declared.Answer.{Answer}
-use Rattle.analysis.specs.declared.Summary.{Summary}
+use Rattle.analysis.specs.LengthLaws.{text-lines}
+use Rattle.analysis.specs.SetsLaws.{take-replicate, routines-are, statements-are, routines-few, statements-few}
 
 -- ---- what was read
 
-module _ (text : List ℕ) (r : Reading) (e : r ≡ readingOf text) where
-  said : verdict text ≡ r .verdict
-  unfolding readingOf
-  said = ap (λ (x : Reading). x .verdict) (sym e)
+module _ (text : List ℕ) (v : Verdict) (numbers : List ℤ) (said : v ≡ verdict text) (filled : v ≡ Accepted → numbers ≡ numbersOf text) where
+  module _ (yes : v ≡ Accepted) where
+    is-accepted : verdict text ≡ Accepted
+    is-accepted = sym said ∙ yes
 
-  pub read-accepted : r .verdict ≡ Accepted → verdict text ≡ Accepted
-  read-accepted v = said ∙ v
+    pub read-facts : AcceptedNumbers numbers
+    read-facts = rw (filled yes) (record { accepted = accepted text is-accepted; in-field = numbers-in-field text })
 
-  pub read-refused : (number line : ℕ) → r .verdict ≡ Refused number line → verdict text ≡ Refused number line
-  read-refused number line v = said ∙ v
+    -- the lists have room for what the header says
+    pub read-lines : lineCount text ≡ statementLine numbers (statements numbers)
+    read-lines = rw (filled yes) (text-lines text is-accepted)
 
-  pub read-numbers : r .verdict ≡ Accepted → r .numbers ≡ numbersOf text
-  unfolding readingOf
-  read-numbers v = ap (λ (x : Reading). x .numbers) e ∙ ap (λ v. numbersFor v (numbersOf text)) (read-accepted v)
+    pub accepted-answer : (room : ℕ) → answerOf (reportText (tableOf numbers)) room ≡ reportAnswer text room
+    unfolding reportAnswer
+    accepted-answer room = rw (is-accepted, filled yes)
 
-  pub read-facts : r .verdict ≡ Accepted → AcceptedNumbers (r .numbers)
-  read-facts v = rw (read-numbers v) (record { accepted = accepted text (read-accepted v); in-field = numbers-in-field text })
+    pub accepted-written : (out : List ℕ) → printedOver (reportText (tableOf numbers)) out ≡ reportedInto text out
+    unfolding reportedInto
+    accepted-written out = rw (is-accepted, filled yes)
 
-  -- ---- the answers
+    pub accepted-loads : countsNothing (tableOf numbers) ≡ loadable text
+    unfolding loadable
+    accepted-loads = rw (is-accepted, filled yes)
 
-  pub accepted-answer : r .verdict ≡ Accepted → (room : ℕ) → answerOf (reportText (tableOf (r .numbers))) room ≡ reportAnswer text room
-  unfolding reportAnswer
-  accepted-answer v room = rw (read-accepted v, read-numbers v)
+  module _ (number line : ℕ) (no : v ≡ Refused number line) where
+    is-refused : verdict text ≡ Refused number line
+    is-refused = sym said ∙ no
 
-  pub accepted-written : r .verdict ≡ Accepted → (out : List ℕ) → printedOver (reportText (tableOf (r .numbers))) out ≡ reportedInto text out
-  unfolding reportedInto
-  accepted-written v out = rw (read-accepted v, read-numbers v)
+    pub refused-answer : (room : ℕ) → turnedDown number line ≡ reportAnswer text room
+    unfolding reportAnswer
+    refused-answer room = rw is-refused
 
-  pub refused-answer : (number line : ℕ) → r .verdict ≡ Refused number line → (room : ℕ) → turnedDown number line ≡ reportAnswer text room
-  unfolding reportAnswer
-  refused-answer number line v room = rw (read-refused number line v)
+    pub refused-written : (out : List ℕ) → out ≡ reportedInto text out
+    unfolding reportedInto
+    refused-written out = rw is-refused
 
-  pub refused-written : (number line : ℕ) → r .verdict ≡ Refused number line → (out : List ℕ) → out ≡ reportedInto text out
-  unfolding reportedInto
-  refused-written number line v out = rw (read-refused number line v)
+    pub refused-stays : false ≡ loadable text
+    unfolding loadable
+    refused-stays = rw is-refused
 
-  pub accepted-loads : r .verdict ≡ Accepted → countsNothing (tableOf (r .numbers)) ≡ loadable text
-  unfolding loadable
-  accepted-loads v = rw (read-accepted v, read-numbers v)
+-- lists with room for the text, cut to what its header says
+module _ (f : List ℤ) {lines : ℕ} {numbers : List ℤ} {held laterReads laterWrites from to : List ℕ} (space : Space lines numbers held laterReads laterWrites from to)
+    (acc : Facts.Accepted (tableOf f)) (said : lines ≡ statementLine f (statements f)) (k : Counts) (e : k ≡ countsOf f) where
+  pub held-fits : k .statements ≤ length held
+  held-fits = space .held-long (k .statements) (omega (arith, statements-are f acc k e)) (statements-few f acc k e)
 
-  pub refused-stays : (number line : ℕ) → r .verdict ≡ Refused number line → false ≡ loadable text
-  unfolding loadable
-  refused-stays number line v = rw (read-refused number line v)
+  pub later-reads-fit : k .statements + k .routines ≤ length laterReads
+  later-reads-fit =
+      space .later-reads-long (k .statements + k .routines) (omega (arith, statements-are f acc k e, routines-are f acc k e))
+      (omega (arith, statements-few f acc k e, routines-few f acc k e))
+
+  pub later-writes-fit : k .statements + k .routines ≤ length laterWrites
+  later-writes-fit =
+      space .later-writes-long (k .statements + k .routines) (omega (arith, statements-are f acc k e, routines-are f acc k e))
+      (omega (arith, statements-few f acc k e, routines-few f acc k e))
+
+  pub cut : Lent f (take (k .statements) held) (take (k .statements + k .routines) laterReads) (take (k .statements + k .routines) laterWrites) from to
+  cut =
+      let s = statements-are f acc k e in
+      let r = routines-are f acc k e in
+      let few = statements-few f acc k e in
+      record {
+        held-is =
+            ap (take (k .statements)) (space .held-is) ∙ take-replicate (k .statements) (length held) 0 held-fits ∙ ap (λ (n : ℕ). replicate {A = ℕ} n 0) s;
+        working = record {
+          later-reads-long = length-take (k .statements + k .routines) laterReads ∙ omega (arith, later-reads-fit);
+          later-writes-long = length-take (k .statements + k .routines) laterWrites ∙ omega (arith, later-writes-fit);
+          from-long = space .from-long (statements f) (omega arith) (omega arith);
+          to-long = space .to-long (statements f) (omega arith) (omega arith);
+        };
+      }
 
 -- ---- a report that fits, or not
 
@@ -94,41 +123,38 @@ has-room report out bytes e h =
 
 -- ---- the report of what is found
 
-module _ (f : List ℤ) (acc : Facts.Accepted (tableOf f)) (r : Summary) (is : Found (tableOf f) r) (k : Counts) (e : k ≡ countsOf f) where
+module _ (f : List ℤ) (acc : Facts.Accepted (tableOf f)) (shared : ℕ) (common reads writes marks : List ℕ) (is : Found (tableOf f) shared common reads writes marks)
+    (k : Counts) (e : k ≡ countsOf f) where
   cells-are : k .cells ≡ tableOf f .cells
   unfolding countsOf
   cells-are = ap (λ (x : Counts). x .cells) e ∙ sym (cells-is f)
 
-  statements-are : k .statements ≡ length (tableOf f .statements)
-  unfolding countsOf
-  statements-are = ap (λ (x : Counts). x .statements) e ∙ sym (statements-length f)
+  statements-said : k .statements ≡ length (tableOf f .statements)
+  statements-said = statements-are f acc k e ∙ sym (statements-length f)
 
   pub few-cells : k .cells ≤ 64
   few-cells = let a : tableOf f .cells ≤ 64 = acc .cells-most in omega (arith, cells-are)
 
-  pub few-statements : k .statements ≤ 512
-  few-statements = let a : length (tableOf f .statements) ≤ 512 = acc .statements-most in omega (arith, statements-are)
-
-  module _ (strays : ℕ) (z : strays ≡ foldFrom _+_ 0 0 (k .statements) (hasMark (r .strays) 0)) where
-    strays-by : strays ≡ foldFrom _+_ 0 0 (length (tableOf f .statements)) (hasMark (r .strays) 0)
-    strays-by = z ∙ ap (λ (n : ℕ). foldFrom _+_ 0 0 n (hasMark (r .strays) 0)) statements-are
+  module _ (strays : ℕ) (z : strays ≡ foldFrom _+_ 0 0 (k .statements) (hasMark marks 0)) where
+    strays-by : strays ≡ foldFrom _+_ 0 0 (length (tableOf f .statements)) (hasMark marks 0)
+    strays-by = z ∙ ap (λ (n : ℕ). foldFrom _+_ 0 0 n (hasMark marks 0)) statements-said
 
     pub report-bytes : 49 * (k .cells + strays + 1) ≡ length (reportText (tableOf f))
     report-bytes =
-        ap₂ (λ (x y : ℕ). 49 * (x + y + 1)) cells-are (strays-by ∙ strays-counted (tableOf f) r is) ∙ sym (report-length (tableOf f) acc)
+        ap₂ (λ (x y : ℕ). 49 * (x + y + 1)) cells-are (strays-by ∙ strays-counted (tableOf f) shared common reads writes marks is) ∙ sym (report-length (tableOf f) acc)
 
-    module _ (unguarded : ℕ) (u : unguarded ≡ foldFrom _+_ 0 0 (k .cells) (unguardedMark (r .shared) (r .common))) where
-      unguarded-by : unguarded ≡ foldFrom _+_ 0 0 (tableOf f .cells) (unguardedMark (r .shared) (r .common))
-      unguarded-by = u ∙ ap (λ (n : ℕ). foldFrom _+_ 0 0 n (unguardedMark (r .shared) (r .common))) cells-are
+    module _ (unguarded : ℕ) (u : unguarded ≡ foldFrom _+_ 0 0 (k .cells) (unguardedMark shared common)) where
+      unguarded-by : unguarded ≡ foldFrom _+_ 0 0 (tableOf f .cells) (unguardedMark shared common)
+      unguarded-by = u ∙ ap (λ (n : ℕ). foldFrom _+_ 0 0 n (unguardedMark shared common)) cells-are
 
       pub report-fitting : (out : List ℕ) → length (reportText (tableOf f)) ≤ length out
-          → AllFitting (r .shared) (r .common) (r .reads) (r .writes) (r .strays) (k .statements) (k .cells) unguarded strays out
-      report-fitting out h = rw (statements-are, cells-are) (all-fitting (tableOf f) r is unguarded strays unguarded-by strays-by acc out h)
+          → AllFitting shared common reads writes marks (k .statements) (k .cells) unguarded strays out
+      report-fitting out h = rw (statements-said, cells-are) (all-fitting (tableOf f) shared common reads writes marks is unguarded strays unguarded-by strays-by acc out h)
 
-      pub report-found : reportBy (r .shared) (r .common) (r .reads) (r .writes) (r .strays) (k .statements) (k .cells) unguarded strays ≡ reportText (tableOf f)
-      report-found = rw (statements-are, cells-are) (report-is (tableOf f) r is unguarded strays unguarded-by strays-by)
+      pub report-found : reportBy shared common reads writes marks (k .statements) (k .cells) unguarded strays ≡ reportText (tableOf f)
+      report-found = rw (statements-said, cells-are) (report-is (tableOf f) shared common reads writes marks is unguarded strays unguarded-by strays-by)
 
       pub totals-found : (eqb unguarded 0 && eqb strays 0) ≡ countsNothing (tableOf f)
       unfolding countsNothing
       totals-found =
-          rw (unguarded-total (tableOf f), stray-total (tableOf f), unguarded-by ∙ unguarded-found (tableOf f) r is, strays-by ∙ strays-counted (tableOf f) r is)
+          rw (unguarded-total (tableOf f), stray-total (tableOf f), unguarded-by ∙ unguarded-found (tableOf f) shared common reads writes marks is, strays-by ∙ strays-counted (tableOf f) shared common reads writes marks is)

@@ -1,14 +1,14 @@
--- The sets of a table, each in an array with zeros behind them: the first places are the list. Assumes nothing.
+-- The sets of a table, each computed out of those before it, in lent lists. Assumes nothing.
 use mathlib.Core.Path.{_≡_, refl, sym, ap, ap₂, _∙_}
-use mathlib.Core.Bool.{Bool, true, false}
-use mathlib.Core.List.{List, _++_}
-use Prim.Native.Nat.{ℕ, zero, suc, _+_, _*_, _^_, _≤_, _<_, zero-le}
+use mathlib.Core.Bool.{true, false}
+use mathlib.Core.List.{List, _∷_}
+use Prim.Native.Nat.{ℕ, zero, suc, _*_, _^_, _≤_, _<_, zero-le}
 use native.Mathlib.Omega.{arith}
+use native.Mathlib.Nat.{le-of-suc-le-suc}
 use lib.IntN.{ℤ, pos, negsuc}
 use borrow.Author.Tests.{ltb-true}
 use Rattle.lines.specs.Field.{inField}
-use lib.ListN.{length, take, getD, length-append}
-use lib.Seq.{take-at}
+use lib.ListN.{length, take, replicate, length-replicate}
 use Rattle.table.specs.Fields.{field, plain}
 use Rattle.table.specs.Header.{handles, routines, statements}
 use Rattle.table.specs.Handles.{handlesFrom, parameters}
@@ -21,19 +21,13 @@ use Rattle.table.specs.LayoutLaws.{Laid}
 use Rattle.table.specs.Accepted.{Accepted}
 use Rattle.table.specs.declared.Counts.{Counts}
 use Rattle.report.specs.Layout.{Layout, oneEach}
-use Rattle.report.specs.OneEach.{one-each-fits}
-use Rattle.report.specs.Fits.{Fits}
 use Rattle.report.specs.Greatest.{greatest, leaving, leftOut}
 use Rattle.report.specs.Held.{heldSets, allLocks, allWays}
 use Rattle.report.specs.Flow.{flowSets}
 use Rattle.report.specs.Effect.{effects, gives}
 use Rattle.report.specs.Future.{futures}
 use Rattle.report.specs.Findings.{setsOf}
-use Rattle.report.specs.FlowLaws.{flow-sets}
-use Rattle.report.specs.EffectLaws.{effects-sets, gives-sets}
-use Rattle.report.specs.FutureLaws.{futures-sets}
-use Rattle.report.specs.ReportRules.{effectList}
-use Rattle.analysis.specs.Found.{setsIn, Base, AcceptedNumbers}
+use Rattle.analysis.specs.Found.{setsIn, Base, AcceptedNumbers, Space}
 
 -- ---- the three lists
 
@@ -69,120 +63,93 @@ module _ (f : List ℤ) (read : AcceptedNumbers f) where
       } in
       record { laid = few; accepted = acc }
 
--- ---- how long each list is
+-- ---- the first places of a list of one value
 
-module _ (t : Table) (acc : Accepted t) where
-  fits : Fits t (oneEach t)
-  fits = one-each-fits t acc
+module _ {A : Type 0} where
+  pub take-replicate : (n m : ℕ) (x : A) → n ≤ m → take n (replicate m x) ≡ replicate n x
+  take-replicate zero m x h = refl
+  take-replicate (suc n) zero x h = absurd (omega arith)
+  take-replicate (suc n) (suc m) x h = ap (λ (l : List A). x ∷ l) (take-replicate n m x (le-of-suc-le-suc h))
 
-  flow-below : (i : ℕ) → getD (setsIn t .flow) i 0 < 2 ^ 64
-  unfolding setsOf
-  flow-below i = flow-sets t (oneEach t) acc fits .below i
+  pub cut-long : (n m : ℕ) (x : A) → n ≤ m → n ≡ length (take n (replicate m x))
+  cut-long n m x h = sym (ap length (take-replicate n m x h) ∙ length-replicate n x)
 
-  effect-below : (w : Bool) (i : ℕ) → getD (effectList (setsIn t) w) i 0 < 2 ^ 64
-  unfolding setsOf
-  effect-below true i = effects-sets t (oneEach t) fits (setsIn t .flow) flow-below true .below i
-  effect-below false i = effects-sets t (oneEach t) fits (setsIn t .flow) flow-below false .below i
+-- ---- the sets, each out of those before it
 
-  pub flow-length : length (setsIn t .flow) ≡ length (t .handles)
-  unfolding setsOf oneEach
-  flow-length = flow-sets t (oneEach t) acc fits .places
-
-  pub reads-length : length (setsIn t .reads) ≡ length (t .routines)
-  unfolding setsOf oneEach
-  reads-length = effects-sets t (oneEach t) fits (setsIn t .flow) flow-below false .places
-
-  pub writes-length : length (setsIn t .writes) ≡ length (t .routines)
-  unfolding setsOf oneEach
-  writes-length = effects-sets t (oneEach t) fits (setsIn t .flow) flow-below true .places
-
-  pub given-length : length (setsIn t .given) ≡ length (t .routines)
-  unfolding setsOf oneEach
-  given-length = gives-sets t (oneEach t) fits (setsIn t .flow) flow-below .places
-
-  pub held-length : length (setsIn t .held) ≡ length (t .statements)
-  unfolding setsOf heldSets greatest oneEach
-  held-length = length-tabulate (length (t .statements)) _
-
-  pub later-reads-length : length (setsIn t .futureReads) ≡ length (t .statements) + length (t .routines)
-  unfolding setsOf oneEach
-  later-reads-length = futures-sets t (oneEach t) acc fits (setsIn t .flow) flow-below (effectList (setsIn t)) effect-below false .places
-
-  pub later-writes-length : length (setsIn t .futureWrites) ≡ length (t .statements) + length (t .routines)
-  unfolding setsOf oneEach
-  later-writes-length = futures-sets t (oneEach t) acc fits (setsIn t .flow) flow-below (effectList (setsIn t)) effect-below true .places
-
--- ---- the arrays' first places
-
--- the first n places of an array are a list
-pub record Part (n : ℕ) (array list : List ℕ) : Type 0 where
-  pub is : take n array ≡ list
-  pub fits : n ≤ length array
-  pub long : n ≡ length (take n array)
-
-first-places : (array list rest : List ℕ) (n m : ℕ) → array ≡ list ++ rest → length list ≡ n → m ≡ n → Part m array list
-first-places array list rest n m e l q =
-    let taken : take m array ≡ list = ap₂ {C = List ℕ} take q e ∙ take-at list rest n l in
-    record { is = taken; fits = omega (arith, ap length e, length-append list rest); long = q ∙ sym l ∙ sym (ap length taken) }
-
-module _ (f : List ℤ) (acc : Accepted (tableOf f)) (k : Counts) (e : k ≡ countsOf f) where
-  abbrev t : Table
-  t = tableOf f
-
+module _ (t : Table) where
   abbrev one : Layout
   one = oneEach t
 
-  handles-are : k .handles ≡ length (t .handles)
-  unfolding countsOf
-  handles-are = ap (λ (x : Counts). x .handles) e ∙ sym (handles-length f)
+  pub flow-known : (a : List ℕ) → a ≡ flowSets t one → a ≡ setsIn t .flow
+  unfolding setsOf
+  flow-known a e = e
 
-  routines-are : k .routines ≡ length (t .routines)
-  unfolding countsOf
-  routines-are = ap (λ (x : Counts). x .routines) e ∙ sym (routines-length f)
-
-  statements-are : k .statements ≡ length (t .statements)
-  unfolding countsOf
-  statements-are = ap (λ (x : Counts). x .statements) e ∙ sym (statements-length f)
-
-  places-are : k .statements + k .routines ≡ length (t .statements) + length (t .routines)
-  places-are = ap₂ (λ (x y : ℕ). x + y) statements-are routines-are
-
-  pub places-few : k .statements + k .routines ≤ 544
-  places-few =
-      let s : length (t .statements) ≤ 512 = acc .statements-most in
-      let r : length (t .routines) ≤ 32 = acc .routines-most in
-      omega (arith, places-are)
-
-  module _ (array rest : List ℕ) where
-    pub flow-part : array ≡ flowSets t one ++ rest → Part (k .handles) array (setsIn t .flow)
+  module _ (flow : List ℕ) (is : flow ≡ setsIn t .flow) where
+    pub reads-known : (a : List ℕ) → a ≡ effects t one flow false → a ≡ setsIn t .reads
     unfolding setsOf
-    flow-part a = first-places array _ rest _ _ a (flow-length t acc) handles-are
+    reads-known a e = e ∙ ap (λ (l : List ℕ). effects t one l false) is
 
-    module _ (flow : List ℕ) (is : flow ≡ setsIn t .flow) where
-      pub reads-part : array ≡ effects t one flow false ++ rest → Part (k .routines) array (setsIn t .reads)
-      unfolding setsOf
-      reads-part a = first-places array _ rest _ _ (a ∙ ap (λ (l : List ℕ). effects t one l false ++ rest) is) (reads-length t acc) routines-are
+    pub writes-known : (a : List ℕ) → a ≡ effects t one flow true → a ≡ setsIn t .writes
+    unfolding setsOf
+    writes-known a e = e ∙ ap (λ (l : List ℕ). effects t one l true) is
 
-      pub writes-part : array ≡ effects t one flow true ++ rest → Part (k .routines) array (setsIn t .writes)
-      unfolding setsOf
-      writes-part a = first-places array _ rest _ _ (a ∙ ap (λ (l : List ℕ). effects t one l true ++ rest) is) (writes-length t acc) routines-are
+    pub given-known : (a : List ℕ) → a ≡ gives t one flow → a ≡ setsIn t .given
+    unfolding setsOf
+    given-known a e = e ∙ ap (gives t one) is
 
-      pub given-part : array ≡ gives t one flow ++ rest → Part (k .routines) array (setsIn t .given)
-      unfolding setsOf
-      given-part a = first-places array _ rest _ _ (a ∙ ap (λ (l : List ℕ). gives t one l ++ rest) is) (given-length t acc) routines-are
+    pub held-known : (given a : List ℕ) → given ≡ setsIn t .given → a ≡ heldSets t one flow given → a ≡ setsIn t .held
+    unfolding setsOf
+    held-known given a g e = e ∙ ap₂ {C = List ℕ} (heldSets t one) is g
 
-      pub held-part : (given : List ℕ) → given ≡ setsIn t .given → array ≡ heldSets t one flow given ++ rest → Part (k .statements) array (setsIn t .held)
-      unfolding setsOf
-      held-part given g a = first-places array _ rest _ _ (a ∙ ap₂ (λ (l m : List ℕ). heldSets t one l m ++ rest) is g) (held-length t acc) statements-are
+    pub later-reads-known : (reads a : List ℕ) → reads ≡ setsIn t .reads → a ≡ futures t one flow reads false → a ≡ setsIn t .futureReads
+    unfolding setsOf
+    later-reads-known reads a g e = e ∙ ap₂ {C = List ℕ} (λ (l m : List ℕ). futures t one l m false) is g
 
-      pub later-reads-part : (reads : List ℕ) → reads ≡ setsIn t .reads → array ≡ futures t one flow reads false ++ rest
-          → Part (k .statements + k .routines) array (setsIn t .futureReads)
-      unfolding setsOf
-      later-reads-part reads r a =
-          first-places array _ rest _ _ (a ∙ ap₂ (λ (l m : List ℕ). futures t one l m false ++ rest) is r) (later-reads-length t acc) places-are
+    pub later-writes-known : (writes a : List ℕ) → writes ≡ setsIn t .writes → a ≡ futures t one flow writes true → a ≡ setsIn t .futureWrites
+    unfolding setsOf
+    later-writes-known writes a g e = e ∙ ap₂ {C = List ℕ} (λ (l m : List ℕ). futures t one l m true) is g
 
-      pub later-writes-part : (writes : List ℕ) → writes ≡ setsIn t .writes → array ≡ futures t one flow writes true ++ rest
-          → Part (k .statements + k .routines) array (setsIn t .futureWrites)
-      unfolding setsOf
-      later-writes-part writes r a =
-          first-places array _ rest _ _ (a ∙ ap₂ (λ (l m : List ℕ). futures t one l m true ++ rest) is r) (later-writes-length t acc) places-are
+-- the held sets of a table are as many as its statements
+pub held-length : (f : List ℤ) (held : List ℕ) → held ≡ setsIn (tableOf f) .held → length held ≡ statements f
+unfolding setsOf heldSets greatest oneEach
+held-length f held e = ap length e ∙ length-tabulate (length (tableOf f .statements)) _ ∙ statements-length f
+
+-- ---- how many there are of each
+
+module _ (f : List ℤ) (acc : Accepted (tableOf f)) (k : Counts) (e : k ≡ countsOf f) where
+  pub handles-are : k .handles ≡ handles f
+  unfolding countsOf
+  handles-are = ap (λ (x : Counts). x .handles) e
+
+  pub routines-are : k .routines ≡ routines f
+  unfolding countsOf
+  routines-are = ap (λ (x : Counts). x .routines) e
+
+  pub statements-are : k .statements ≡ statements f
+  unfolding countsOf
+  statements-are = ap (λ (x : Counts). x .statements) e
+
+  pub handles-few : k .handles ≤ 128
+  handles-few = let h : length (tableOf f .handles) ≤ 128 = acc .handles-most in omega (arith, handles-are, handles-length f)
+
+  pub routines-few : k .routines ≤ 32
+  routines-few = let h : length (tableOf f .routines) ≤ 32 = acc .routines-most in omega (arith, routines-are, routines-length f)
+
+  pub statements-few : k .statements ≤ 512
+  statements-few = let h : length (tableOf f .statements) ≤ 512 = acc .statements-most in omega (arith, statements-are, statements-length f)
+
+-- ---- room for a text
+
+-- lists of zeros with room for a text of so many lines
+pub spaced : (lines size held later edges : ℕ) → 8 * lines ≤ size → ((n : ℕ) → n ≤ lines → n ≤ 512 → n ≤ held)
+    → ((n : ℕ) → n ≤ lines → n ≤ 544 → n ≤ later) → ((n : ℕ) → n ≤ lines → n ≤ 512 → 4 * n ≤ edges)
+    → Space lines (take (8 * lines) (replicate size (pos 0))) (replicate held 0) (replicate later 0) (replicate later 0) (replicate edges 0) (replicate edges 0)
+spaced lines size held later edges fits a b c = record {
+  numbers-long = sym (cut-long (8 * lines) size (pos 0) fits);
+  held-is = ap (λ (n : ℕ). replicate {A = ℕ} n 0) (sym (length-replicate {A = ℕ} held 0));
+  held-long = λ n l m. omega (arith, a n l m, length-replicate {A = ℕ} held 0);
+  later-reads-long = λ n l m. omega (arith, b n l m, length-replicate {A = ℕ} later 0);
+  later-writes-long = λ n l m. omega (arith, b n l m, length-replicate {A = ℕ} later 0);
+  from-long = λ n l m. omega (arith, c n l m, length-replicate {A = ℕ} edges 0);
+  to-long = λ n l m. omega (arith, c n l m, length-replicate {A = ℕ} edges 0);
+}

@@ -9,7 +9,7 @@ use Rattle.lines.specs.Line.{lineText}
 use Rattle.sets.specs.Set.{has}
 use Rattle.table.specs.Table.{statementOf}
 use Rattle.report.specs.Layout.{named}
-use Rattle.report.specs.Operations.{accessed, byNaming}
+use Rattle.report.specs.Operations.{reading, writing, accessed, byNaming}
 use Rattle.report.specs.Findings.{clash, strayBy, isUnguarded}
 use Rattle.report.specs.Over.{joinedFrom}
 use Rattle.report.specs.Report.{bit, strayLine, textOf}
@@ -39,9 +39,13 @@ sharedBy f reads writes futureReads futureWrites s =
 unfoldable pub strayMark : List ℤ → List ℕ → List ℕ → ℕ → ℕ
 strayMark f flow held s = bit (strayBy (entry flow) (entry held s) (statementOf f s))
 
+-- 1 if statement p reads, or writes, cell x itself, else 0
+unfoldable pub accessMark : List ℤ → List ℕ → Bool → ℕ → ℕ → ℕ
+accessMark f flow w x p = bit (has (ownBy f flow w p) x)
+
 -- what statement p leaves of the locks common to all accesses of cell x
-unfoldable pub heldAt : List ℕ → List ℕ → List ℕ → ℕ → ℕ → ℕ → ℕ
-heldAt reads writes held all x p = cond (has (entry reads p) x || has (entry writes p) x) (entry held p) all
+unfoldable pub heldAt : List ℤ → List ℕ → List ℕ → ℕ → ℕ → ℕ → ℕ
+heldAt f flow held all x p = cond (has (ownBy f flow reading p) x || has (ownBy f flow writing p) x) (entry held p) all
 
 -- 1 if cell x is in set p of a list, else 0
 unfoldable pub hasMark : List ℕ → ℕ → ℕ → ℕ
@@ -62,10 +66,9 @@ cellNumbers x reading writing shared common =
 unfoldable pub totalNumbers : ℕ → ℕ → List ℕ
 totalNumbers unguarded strays = 59 ∷ unguarded ∷ strays ∷ 0 ∷ 0 ∷ 0 ∷ 0 ∷ 0 ∷ []
 
--- the line of cell x, from lists of sets
-unfoldable pub cellsBy : ℕ → List ℕ → List ℕ → List ℕ → ℕ → ℕ → List (List ℕ)
-cellsBy shared common reads writes count x =
-    cellNumbers x (foldFrom _+_ 0 0 count (hasMark reads x)) (foldFrom _+_ 0 0 count (hasMark writes x)) shared (entry common x) ∷ []
+-- the line of cell x, from lists of how many statements read and write each cell, and of its common locks
+unfoldable pub cellsBy : ℕ → List ℕ → List ℕ → List ℕ → ℕ → List (List ℕ)
+cellsBy shared common reads writes x = cellNumbers x (entry reads x) (entry writes x) shared (entry common x) ∷ []
 
 -- the line of statement s if it is marked, else none
 unfoldable pub straysBy : List ℕ → ℕ → List (List ℕ)
@@ -82,7 +85,7 @@ putAt out at text = take at out ++ text ++ drop (at + length text) out
 -- the bytes of all lines
 unfoldable pub reportBy : ℕ → List ℕ → List ℕ → List ℕ → List ℕ → ℕ → ℕ → ℕ → ℕ → List ℕ
 reportBy shared common reads writes marks count cells unguarded strays =
-    (textFrom 0 cells (cellsBy shared common reads writes count) ++ textFrom 0 count (straysBy marks)) ++ lineText (map pos (totalNumbers unguarded strays))
+    (textFrom 0 cells (cellsBy shared common reads writes) ++ textFrom 0 count (straysBy marks)) ++ lineText (map pos (totalNumbers unguarded strays))
 
 -- the lines of n numbers are lines, and fit behind the first `at` places of a buffer
 pub record Fitting (lines : ℕ → List (List ℕ)) (n at : ℕ) (out : List ℕ) : Type 0 where
@@ -91,7 +94,7 @@ pub record Fitting (lines : ℕ → List (List ℕ)) (n at : ℕ) (out : List �
 
 -- so are all lines of the report
 pub record AllFitting (shared : ℕ) (common reads writes marks : List ℕ) (count cells unguarded strays : ℕ) (out : List ℕ) : Type 0 where
-  pub cells-eight : (i : ℕ) → i < cells → (l : List ℕ) → List·Memᴰ l (cellsBy shared common reads writes count i) → Line8 l
+  pub cells-eight : (i : ℕ) → i < cells → (l : List ℕ) → List·Memᴰ l (cellsBy shared common reads writes i) → Line8 l
   pub strays-eight : (i : ℕ) → i < count → (l : List ℕ) → List·Memᴰ l (straysBy marks i) → Line8 l
   pub total-eight : Line8 (totalNumbers unguarded strays)
   pub room : length (reportBy shared common reads writes marks count cells unguarded strays) ≤ length out

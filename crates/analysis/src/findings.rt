@@ -1,31 +1,24 @@
-// What the report says of cells and GIVEs, from the sets of a table.
+// What the report says of cells and GIVEs, from the sets of a table. A statement is seen by the fields of its line.
 ghost use mathlib.Core.Path.{_≡_};
-ghost use mathlib.Core.Bool.{cond};
-ghost use Prim.Native.Nat.{_+_, _≤_};
-ghost use Rattle.sets.specs.Set.{union, inter};
+ghost use mathlib.Core.Bool.{true};
+ghost use Prim.Native.Nat.{ℕ, _+_, _≤_, _<_, _^_};
+ghost use lib.ListN.{length, replicate};
+ghost use Rattle.sets.specs.Set.{has, union};
+ghost use Rattle.table.specs.Header.{statementLine, handles, routines, statements};
 ghost use Rattle.table.specs.Tabulate.{tabulate};
-ghost use Rattle.report.specs.Operations.{accessed};
+ghost use Rattle.table.specs.Table.{statementOf};
+ghost use Rattle.report.specs.Operations.{reading, writing};
 ghost use Rattle.report.specs.Findings.{clash, strayBy};
 ghost use Rattle.report.specs.Report.{bit};
-ghost use Rattle.analysis.specs.Steps.{entry, foldFrom, ownBy, sharedBy, strayMark, heldAt, hasMark, unguardedMark};
-ghost use Rattle.table.specs.Table.{tableOf};
-ghost use Rattle.table.specs.Accepted.{Accepted};
-ghost use Rattle.analysis.specs.Found.{Known, Found};
-use crate::Summary;
-use table::Statement;
+ghost use Rattle.analysis.specs.Steps.{entry, foldFrom, ownBy, sharedBy, strayMark, hasMark, unguardedMark};
+ghost use Rattle.analysis.specs.NoteLaws.{Noted, NotedAt, Marked};
+use sets::Which;
 
 // The set at place `i` of a list; the empty set past the end.
 pub fn set_at(list: &[u64], i: usize) -> u64
     ensures { λ x. ⌜ x ≡ entry (now (list .entry)) i ⌝ }
 {
     if i < list.len() { list[i] } else { 0 }
-}
-
-// `a` where the test passes, else `b`.
-fn pick(test: bool, a: u64, b: u64) -> u64
-    ensures { λ x. ⌜ x ≡ cond test a b ⌝ }
-{
-    if test { a } else { b }
 }
 
 // 1 or 0.
@@ -36,28 +29,100 @@ fn mark(test: bool) -> usize
     if test { 1 } else { 0 }
 }
 
-// The cells that a statement itself reads, or writes.
-fn accessed(statement: Statement, flow: &[u64], writes: bool) -> u64
-    ensures { λ x. ⌜ x ≡ accessed writes (entry (now (flow .entry))) 0 statement ⌝ }
+// The line of statement 0.
+fn first_line(numbers: &[i32]) -> usize
+    ensures is { λ r. ⌜ r ≡ statementLine (now (numbers .entry)) 0 ⌝ }
+    ensures small { λ r. ⌜ r < 2 ^ 33 ⌝ }
 {
-    match statement {
-        Statement::Read(h) => pick(writes, 0, set_at(flow, h.number)),
-        Statement::Write(h) => pick(writes, set_at(flow, h.number), 0),
-        _ => 0,
+    1 + table::field_of(numbers, 0, 3) + table::field_of(numbers, 0, 4)
+}
+
+// The lowest cell of a set that has one.
+fn lowest_cell(cells: u64) -> usize
+    requires { ⌜ (cells ≡ 0 → ⊥) ⌝ }
+    ensures { λ x. ⌜ (has cells x ≡ true) × (x < 64) ⌝ }
+{
+    match sets::lowest(cells) {
+        Which::Element(x) => x,
+        Which::Nothing => 0,
     }
 }
 
-// For each statement, the cells that it reads, or writes, itself.
-fn own_accesses(numbers: &[i32], flow: &[u64], writes: bool) -> [u64; 512]
-    ensures { λ a. ⌜ a ≡ tabulate 512 (ownBy (now (numbers .entry)) (now (flow .entry)) writes) ⌝ }
+// Counts each cell of a set once more, and leaves of its common locks those that are held too.
+fn note(cells: u64, held: u64, counts: &mut [usize; 64], common: &mut [u64; 64])
+    requires { ⌜ (length (now counts) ≡ 64) × (length (now common) ≡ 64) ⌝ }
+    requires { ⌜ ((x : ℕ) → x < 64 → entry (now counts) x < 2 ^ 32) ⌝ }
+    ensures { λ _. ⌜ Marked cells held (now (counts .entry)) (now (common .entry)) (now (counts .exit)) (now (common .exit)) ⌝ }
 {
-    let mut own = [0u64; 512];
-    let mut s = 0;
-    while s < 512 {
-        own[s] = accessed(table::statement_of(numbers, s), flow, writes);
-        s += 1;
+    let mut rest = cells;
+    while rest != 0 {
+        let x = lowest_cell(rest);
+        counts[x] = counts[x] + 1;
+        common[x] = sets::intersection(held, common[x]);
+        rest = sets::difference(rest, sets::one(x));
     }
-    own
+}
+
+// Notes what statement `s`, whose line is `line`, reads or writes itself while `held` is held.
+fn note_access(
+    numbers: &[i32],
+    s: usize,
+    line: usize,
+    flow: &[u64],
+    held: u64,
+    common: &mut [u64; 64],
+    reads: &mut [usize; 64],
+    writes: &mut [usize; 64],
+)
+    requires { ⌜ line ≡ statementLine (now numbers) s ⌝ }
+    requires { ⌜ (length (now common) ≡ 64) × (length (now reads) ≡ 64) × (length (now writes) ≡ 64) ⌝ }
+    requires { ⌜ ((x : ℕ) → x < 64 → entry (now reads) x < 2 ^ 32) ⌝ }
+    requires { ⌜ ((x : ℕ) → x < 64 → entry (now writes) x < 2 ^ 32) ⌝ }
+    ensures { λ _. ⌜ NotedAt (ownBy (now (numbers .entry)) (now (flow .entry)) reading s) (ownBy (now (numbers .entry)) (now (flow .entry)) writing s) held (now (common .entry)) (now (reads .entry)) (now (writes .entry)) (now (common .exit)) (now (reads .exit)) (now (writes .exit)) ⌝ }
+{
+    let op = table::field_of(numbers, line, 1);
+    if op == 1 {
+        note(set_at(flow, table::field_of(numbers, line, 2)), held, reads, common);
+        return;
+    }
+    if op == 2 {
+        note(set_at(flow, table::field_of(numbers, line, 2)), held, writes, common);
+    }
+}
+
+// Puts a set into every place.
+fn fill(list: &mut [u64; 64], x: u64)
+    requires { ⌜ length (now list) ≡ 64 ⌝ }
+    ensures { λ _. ⌜ now (list .exit) ≡ tabulate 64 (λ i. x) ⌝ }
+{
+    let mut i = 0;
+    while i < 64 {
+        list[i] = x;
+        i += 1;
+    }
+}
+
+// For each cell, how many of the first `count` statements read it and write it themselves, and the locks common to all these accesses.
+pub fn note_accesses(
+    numbers: &[i32],
+    flow: &[u64],
+    held: &[u64],
+    all: u64,
+    count: usize,
+    common: &mut [u64; 64],
+    reads: &mut [usize; 64],
+    writes: &mut [usize; 64],
+)
+    requires { ⌜ (length (now common) ≡ 64) × (now reads ≡ replicate 64 0) × (now writes ≡ replicate 64 0) × (count ≤ 512) ⌝ }
+    ensures { λ _. ⌜ Noted (now (numbers .entry)) (now (flow .entry)) (now (held .entry)) all count (now (common .exit)) (now (reads .exit)) (now (writes .exit)) ⌝ }
+{
+    fill(common, all);
+    let base = first_line(numbers);
+    let mut s = count;
+    while 0 < s {
+        s -= 1;
+        note_access(numbers, s, base + s, flow, set_at(held, s), common, reads, writes);
+    }
 }
 
 // The cells that both of two effects touch and one of them writes.
@@ -71,34 +136,33 @@ fn clash(reads: u64, writes: u64, later_reads: u64, later_writes: u64) -> u64
     sets::intersection(both, sets::union(writes, later_writes))
 }
 
-// The cells shared at statement `s`.
+// The cells shared at statement `s`, whose line is `line`.
 fn shared_at(
     numbers: &[i32],
+    s: usize,
+    line: usize,
     reads: &[u64],
     writes: &[u64],
     later_reads: &[u64],
     later_writes: &[u64],
-    s: usize,
 ) -> u64
+    requires { ⌜ line ≡ statementLine (now numbers) s ⌝ }
     ensures { λ x. ⌜ x ≡ sharedBy (now (numbers .entry)) (now (reads .entry)) (now (writes .entry)) (now («later_reads» .entry)) (now («later_writes» .entry)) s ⌝ }
 {
-    let statement = table::statement_of(numbers, s);
-    match statement {
-        Statement::Start {
-            routine,
-            arguments: _,
-        } => clash(
-            set_at(reads, routine),
-            set_at(writes, routine),
+    if table::field_of(numbers, line, 1) == 9 {
+        let q = table::field_of(numbers, line, 2);
+        return clash(
+            set_at(reads, q),
+            set_at(writes, q),
             set_at(later_reads, s),
             set_at(later_writes, s),
-        ),
-        _ => 0,
+        );
     }
+    0
 }
 
 // The cells shared at one of the first `count` statements.
-fn shared_cells(
+pub fn shared_cells(
     numbers: &[i32],
     reads: &[u64],
     writes: &[u64],
@@ -106,62 +170,53 @@ fn shared_cells(
     later_writes: &[u64],
     count: usize,
 ) -> u64
+    requires { ⌜ count ≤ 512 ⌝ }
     ensures { λ x. ⌜ x ≡ foldFrom union 0 0 count (sharedBy (now (numbers .entry)) (now (reads .entry)) (now (writes .entry)) (now («later_reads» .entry)) (now («later_writes» .entry))) ⌝ }
 {
+    let base = first_line(numbers);
     let mut shared = 0;
     let mut s = count;
     while 0 < s {
         s -= 1;
         shared = sets::union(
-            shared_at(numbers, reads, writes, later_reads, later_writes, s),
+            shared_at(
+                numbers,
+                s,
+                base + s,
+                reads,
+                writes,
+                later_reads,
+                later_writes,
+            ),
             shared,
         );
     }
     shared
 }
 
-// The locks that the statement at place `p` leaves to those common to all accesses of cell `x`.
-fn held_at(reads: &[u64], writes: &[u64], held: &[u64], all: u64, x: usize, p: usize) -> u64
-    ensures { λ r. ⌜ r ≡ heldAt (now (reads .entry)) (now (writes .entry)) (now (held .entry)) all x p ⌝ }
+// Whether statement `s`, whose line is `line`, is a GIVE that is stray where `held` is held.
+fn is_stray(numbers: &[i32], s: usize, line: usize, flow: &[u64], held: u64) -> bool
+    requires { ⌜ line ≡ statementLine (now numbers) s ⌝ }
+    ensures { λ b. ⌜ b ≡ strayBy (entry (now (flow .entry))) held (statementOf (now (numbers .entry)) s) ⌝ }
 {
-    pick(
-        sets::has(set_at(reads, p), x) | sets::has(set_at(writes, p), x),
-        set_at(held, p),
-        all,
-    )
+    if table::field_of(numbers, line, 1) == 6 {
+        let locks = set_at(flow, table::field_of(numbers, line, 2));
+        return !(sets::is_single(locks) & sets::subset(locks, held));
+    }
+    false
 }
 
-// The locks common to all accesses of cell `x` by the first `count` statements; `all` if there are none.
-fn common_locks(
-    reads: &[u64],
-    writes: &[u64],
-    held: &[u64],
-    all: u64,
-    x: usize,
-    count: usize,
-) -> u64
-    ensures { λ r. ⌜ r ≡ foldFrom inter all 0 count (heldAt (now (reads .entry)) (now (writes .entry)) (now (held .entry)) all x) ⌝ }
+// Turns what is held at each statement into 1 if it is a stray GIVE, else 0.
+pub fn mark_strays(numbers: &[i32], flow: &[u64], held: &mut [u64])
+    requires { ⌜ length (now held) ≤ 512 ⌝ }
+    ensures { λ _. ⌜ now (held .exit) ≡ tabulate (length (now (held .entry))) (strayMark (now (numbers .entry)) (now (flow .entry)) (now (held .entry))) ⌝ }
 {
-    let mut common = all;
-    let mut s = count;
-    while 0 < s {
-        s -= 1;
-        common = sets::intersection(held_at(reads, writes, held, all, x, s), common);
+    let base = first_line(numbers);
+    let mut s = 0;
+    while s < held.len() {
+        held[s] = mark(is_stray(numbers, s, base + s, flow, held[s])) as u64;
+        s += 1;
     }
-    common
-}
-
-// For each cell, the locks common to all its accesses.
-fn common_sets(reads: &[u64], writes: &[u64], held: &[u64], all: u64, count: usize) -> [u64; 64]
-    ensures { λ a. ⌜ a ≡ tabulate 64 (λ x. foldFrom inter all 0 count (heldAt (now (reads .entry)) (now (writes .entry)) (now (held .entry)) all x)) ⌝ }
-{
-    let mut common = [0u64; 64];
-    let mut x = 0;
-    while x < 64 {
-        common[x] = common_locks(reads, writes, held, all, x, count);
-        x += 1;
-    }
-    common
 }
 
 // In how many of the first `count` sets cell `x` is.
@@ -190,62 +245,4 @@ pub fn unguarded_count(shared: u64, common: &[u64], count: usize) -> usize
         n = mark(sets::has(shared, x) & sets::is_empty(set_at(common, x))) + n;
     }
     n
-}
-
-// Whether a statement is a GIVE that is stray where `held` is held.
-fn is_stray(statement: Statement, flow: &[u64], held: u64) -> bool
-    ensures { λ b. ⌜ b ≡ strayBy (entry (now (flow .entry))) held statement ⌝ }
-{
-    match statement {
-        Statement::Give(h) => {
-            let locks = set_at(flow, h.number);
-            !(sets::is_single(locks) & sets::subset(locks, held))
-        }
-        _ => false,
-    }
-}
-
-// For each statement, 1 if it is a stray GIVE, else 0.
-fn stray_marks(numbers: &[i32], flow: &[u64], held: &[u64]) -> [u64; 512]
-    ensures { λ a. ⌜ a ≡ tabulate 512 (strayMark (now (numbers .entry)) (now (flow .entry)) (now (held .entry))) ⌝ }
-{
-    let mut strays = [0u64; 512];
-    let mut s = 0;
-    while s < 512 {
-        strays[s] = pick(
-            is_stray(table::statement_of(numbers, s), flow, set_at(held, s)),
-            1,
-            0,
-        );
-        s += 1;
-    }
-    strays
-}
-
-// What is found of a table with these sets.
-pub fn summary_from(
-    numbers: &[i32],
-    flow: &[u64],
-    reads: &[u64],
-    writes: &[u64],
-    held: &[u64],
-    later_reads: &[u64],
-    later_writes: &[u64],
-) -> Summary
-    requires { ⌜ Known (now numbers) (now flow) (now reads) (now writes) (now held) (now «later_reads») (now «later_writes») ⌝ }
-    requires { ⌜ Accepted (tableOf (now numbers)) ⌝ }
-    ensures { λ r. ⌜ Found (tableOf (now (numbers .entry))) r ⌝ }
-{
-    let counts = table::counts_of(numbers);
-    let count = counts.statements;
-    let all = sets::firsts(counts.locks);
-    let own_reads = own_accesses(numbers, flow, false);
-    let own_writes = own_accesses(numbers, flow, true);
-    Summary {
-        shared: shared_cells(numbers, reads, writes, later_reads, later_writes, count),
-        common: common_sets(&own_reads[..], &own_writes[..], held, all, count),
-        reads: own_reads,
-        writes: own_writes,
-        strays: stray_marks(numbers, flow, held),
-    }
 }

@@ -2,30 +2,22 @@
 mod findings;
 mod print;
 mod stages;
+mod stubs;
 
 ghost use mathlib.Core.Path.{_≡_};
 ghost use mathlib.Core.Bool.{true};
 ghost use mathlib.Core.List.{List};
-ghost use Prim.Native.Nat.{ℕ};
+ghost use Prim.Native.Nat.{ℕ, _≤_};
 ghost use lib.ListN.{length};
+ghost use Rattle.lines.specs.Line.{lineCount};
 ghost use Rattle.table.specs.Table.{tableOf};
 ghost use Rattle.machine.specs.State.{start};
 ghost use Rattle.machine.specs.Step.{run};
 ghost use Rattle.machine.specs.Words.{Safe};
 ghost use Rattle.report.specs.Report.{reportText};
-ghost use Rattle.analysis.specs.Found.{AcceptedNumbers};
+ghost use Rattle.analysis.specs.Found.{AcceptedNumbers, Found, Lent, Space};
 ghost use Rattle.analysis.specs.Reported.{tableIn, answerOf, printedOver, reportAnswer, reportedInto, countsNothing, loadable};
 use table::Verdict;
-
-// What is found of a table: the shared cells; for each cell the locks common to all its accesses; for each statement the cells that it reads
-// and those that it writes itself, and 1 if it is a stray GIVE, else 0.
-pub struct Summary {
-    pub shared: u64,
-    pub common: [u64; 64],
-    pub reads: [u64; 512],
-    pub writes: [u64; 512],
-    pub strays: [u64; 512],
-}
 
 // What `report` answers: the number of the refusal, or 0, the line that goes with it, and how many bytes are written.
 pub struct Answer {
@@ -34,18 +26,25 @@ pub struct Answer {
     pub bytes: usize,
 }
 
-// Writes the report of an accepted table to the start of `out`, the places behind it stay; if it does not fit, 13 and no byte is written.
-fn report_of(numbers: &[i32], out: &mut [u8]) -> Answer
+// Writes what is found of an accepted table to the start of `out`, the places behind it stay; if it does not fit, 13 and no byte is written.
+fn print_found(
+    numbers: &[i32],
+    shared: u64,
+    common: &[u64],
+    reading: &[usize],
+    writing: &[usize],
+    marks: &[u64],
+    out: &mut [u8],
+) -> Answer
     requires { ⌜ AcceptedNumbers (now numbers) ⌝ }
+    requires { ⌜ Found (tableOf (now numbers)) shared (now common) (now reading) (now writing) (now marks) ⌝ }
     ensures answer { λ r. ⌜ r ≡ answerOf (reportText (tableOf (now (numbers .entry)))) (length (now (out .entry))) ⌝ }
     ensures buffer { λ _. ⌜ now (out .exit) ≡ printedOver (reportText (tableOf (now (numbers .entry)))) (now (out .entry)) ⌝ }
 {
-    let summary = stages::summary_of(numbers);
     let counts = table::counts_of(numbers);
     let cells = counts.cells;
     let count = counts.statements;
-    let marks = summary.strays;
-    let strays = findings::access_count(&marks[..], 0, count);
+    let strays = findings::access_count(marks, 0, count);
     let bytes = 49 * (cells + strays + 1);
     if out.len() < bytes {
         return Answer {
@@ -54,18 +53,14 @@ fn report_of(numbers: &[i32], out: &mut [u8]) -> Answer
             bytes: 0,
         };
     }
-    let shared = summary.shared;
-    let common = summary.common;
-    let reads = summary.reads;
-    let writes = summary.writes;
-    let unguarded = findings::unguarded_count(shared, &common[..], cells);
+    let unguarded = findings::unguarded_count(shared, common, cells);
     print::print_report(
         out,
         shared,
-        &common[..],
-        &reads[..],
-        &writes[..],
-        &marks[..],
+        common,
+        reading,
+        writing,
+        marks,
         count,
         cells,
         unguarded,
@@ -78,18 +73,76 @@ fn report_of(numbers: &[i32], out: &mut [u8]) -> Answer
     }
 }
 
-// The report of a table text, written to the start of `out`; the places behind it stay. The answer is 0, line 0 and the bytes written; or the
-// first refusal 1 to 12 that applies to the text, or 13 where `out` is too short, with its line, and then no byte is written.
-pub fn report(text: &[u8], out: &mut [u8]) -> Answer
+// The report of an accepted table, as print_found writes it.
+fn report_of(
+    numbers: &[i32],
+    held: &mut [u64],
+    later_reads: &mut [u64],
+    later_writes: &mut [u64],
+    from: &mut [u16],
+    to: &mut [u16],
+    out: &mut [u8],
+) -> Answer
+    requires { ⌜ AcceptedNumbers (now numbers) ⌝ }
+    requires { ⌜ Lent (now numbers) (now held) (now «later_reads») (now «later_writes») (now from) (now to) ⌝ }
+    ensures answer { λ r. ⌜ r ≡ answerOf (reportText (tableOf (now (numbers .entry)))) (length (now (out .entry))) ⌝ }
+    ensures buffer { λ _. ⌜ now (out .exit) ≡ printedOver (reportText (tableOf (now (numbers .entry)))) (now (out .entry)) ⌝ }
+{
+    let mut common = [0u64; 64];
+    let mut reading = [0usize; 64];
+    let mut writing = [0usize; 64];
+    let shared = stages::summary_of(
+        numbers,
+        held,
+        later_reads,
+        later_writes,
+        from,
+        to,
+        &mut common,
+        &mut reading,
+        &mut writing,
+    );
+    print_found(
+        numbers,
+        shared,
+        &common[..],
+        &reading[..],
+        &writing[..],
+        held,
+        out,
+    )
+}
+
+// `report`, with lists that have room for the text.
+fn report_in(
+    text: &[u8],
+    numbers: &mut [i32],
+    held: &mut [u64],
+    later_reads: &mut [u64],
+    later_writes: &mut [u64],
+    from: &mut [u16],
+    to: &mut [u16],
+    out: &mut [u8],
+) -> Answer
+    requires { ⌜ Space (lineCount (now text)) (now numbers) (now held) (now «later_reads») (now «later_writes») (now from) (now to) ⌝ }
     ensures answer { λ r. ⌜ r ≡ reportAnswer (now (text .entry)) (length (now (out .entry))) ⌝ }
     ensures buffer { λ _. ⌜ now (out .exit) ≡ reportedInto (now (text .entry)) (now (out .entry)) ⌝ }
 {
-    let reading = table::read(text);
-    let verdict = reading.verdict;
+    let verdict = crate::stubs::read_into(text, numbers);
     match verdict {
         Verdict::Accepted => {
-            let numbers = reading.numbers;
-            report_of(&numbers[..], out)
+            let size = table::counts_of(numbers);
+            let count = size.statements;
+            let places = count + size.routines;
+            report_of(
+                numbers,
+                &mut held[..count],
+                &mut later_reads[..places],
+                &mut later_writes[..places],
+                from,
+                to,
+                out,
+            )
         }
         Verdict::Refused { number, line } => Answer {
             number,
@@ -99,20 +152,148 @@ pub fn report(text: &[u8], out: &mut [u8]) -> Answer
     }
 }
 
-// Whether the report of an accepted table counts no unguarded cell and no stray GIVE.
-fn is_clean(numbers: &[i32]) -> bool
+// `report` of a text of 64 lines at most: small lists are soon cleared.
+fn report_small(text: &[u8], out: &mut [u8]) -> Answer
+    requires { ⌜ lineCount (now text) ≤ 64 ⌝ }
+    ensures answer { λ r. ⌜ r ≡ reportAnswer (now (text .entry)) (length (now (out .entry))) ⌝ }
+    ensures buffer { λ _. ⌜ now (out .exit) ≡ reportedInto (now (text .entry)) (now (out .entry)) ⌝ }
+{
+    let mut numbers = [0i32; 512];
+    let mut held = [0u64; 64];
+    let mut later_reads = [0u64; 64];
+    let mut later_writes = [0u64; 64];
+    let mut from = [0u16; 256];
+    let mut to = [0u16; 256];
+    let count = 8 * crate::stubs::line_count(text);
+    report_in(
+        text,
+        &mut numbers[..count],
+        &mut held[..],
+        &mut later_reads[..],
+        &mut later_writes[..],
+        &mut from[..],
+        &mut to[..],
+        out,
+    )
+}
+
+// `report` of any text.
+fn report_large(text: &[u8], out: &mut [u8]) -> Answer
+    ensures answer { λ r. ⌜ r ≡ reportAnswer (now (text .entry)) (length (now (out .entry))) ⌝ }
+    ensures buffer { λ _. ⌜ now (out .exit) ≡ reportedInto (now (text .entry)) (now (out .entry)) ⌝ }
+{
+    let mut numbers = [0i32; 5384];
+    let mut held = [0u64; 512];
+    let mut later_reads = [0u64; 544];
+    let mut later_writes = [0u64; 544];
+    let mut from = [0u16; 2048];
+    let mut to = [0u16; 2048];
+    let count = 8 * crate::stubs::line_count(text);
+    report_in(
+        text,
+        &mut numbers[..count],
+        &mut held[..],
+        &mut later_reads[..],
+        &mut later_writes[..],
+        &mut from[..],
+        &mut to[..],
+        out,
+    )
+}
+
+// The report of a table text, written to the start of `out`; the places behind it stay. The answer is 0, line 0 and the bytes written; or the
+// first refusal 1 to 12 that applies to the text, or 13 where `out` is too short, with its line, and then no byte is written.
+pub fn report(text: &[u8], out: &mut [u8]) -> Answer
+    ensures answer { λ r. ⌜ r ≡ reportAnswer (now (text .entry)) (length (now (out .entry))) ⌝ }
+    ensures buffer { λ _. ⌜ now (out .exit) ≡ reportedInto (now (text .entry)) (now (out .entry)) ⌝ }
+{
+    if crate::stubs::line_count(text) <= 64 {
+        return report_small(text, out);
+    }
+    report_large(text, out)
+}
+
+// Whether what is found of an accepted table is no unguarded cell and no stray GIVE.
+fn is_clean(numbers: &[i32], shared: u64, common: &[u64], reading: &[usize], writing: &[usize], marks: &[u64]) -> bool
     requires { ⌜ AcceptedNumbers (now numbers) ⌝ }
+    requires { ⌜ Found (tableOf (now numbers)) shared (now common) (now reading) (now writing) (now marks) ⌝ }
     ensures { λ b. ⌜ b ≡ countsNothing (tableOf (now (numbers .entry))) ⌝ }
 {
-    let summary = stages::summary_of(numbers);
     let counts = table::counts_of(numbers);
     let cells = counts.cells;
     let count = counts.statements;
-    let marks = summary.strays;
-    let common = summary.common;
-    let strays = findings::access_count(&marks[..], 0, count);
-    let unguarded = findings::unguarded_count(summary.shared, &common[..], cells);
+    let strays = findings::access_count(marks, 0, count);
+    let unguarded = findings::unguarded_count(shared, common, cells);
     (unguarded == 0) & (strays == 0)
+}
+
+// Whether the report of an accepted table counts no unguarded cell and no stray GIVE.
+fn clean_of(
+    numbers: &[i32],
+    held: &mut [u64],
+    later_reads: &mut [u64],
+    later_writes: &mut [u64],
+    from: &mut [u16],
+    to: &mut [u16],
+) -> bool
+    requires { ⌜ AcceptedNumbers (now numbers) ⌝ }
+    requires { ⌜ Lent (now numbers) (now held) (now «later_reads») (now «later_writes») (now from) (now to) ⌝ }
+    ensures { λ b. ⌜ b ≡ countsNothing (tableOf (now (numbers .entry))) ⌝ }
+{
+    let mut common = [0u64; 64];
+    let mut reading = [0usize; 64];
+    let mut writing = [0usize; 64];
+    let shared = stages::summary_of(
+        numbers,
+        held,
+        later_reads,
+        later_writes,
+        from,
+        to,
+        &mut common,
+        &mut reading,
+        &mut writing,
+    );
+    is_clean(
+        numbers,
+        shared,
+        &common[..],
+        &reading[..],
+        &writing[..],
+        held,
+    )
+}
+
+// Whether a table may be loaded, with lists that have room for the text.
+fn clean_in(
+    text: &[u8],
+    numbers: &mut [i32],
+    held: &mut [u64],
+    later_reads: &mut [u64],
+    later_writes: &mut [u64],
+    from: &mut [u16],
+    to: &mut [u16],
+) -> bool
+    requires { ⌜ Space (lineCount (now text)) (now numbers) (now held) (now «later_reads») (now «later_writes») (now from) (now to) ⌝ }
+    ensures { λ b. ⌜ b ≡ loadable (now (text .entry)) ⌝ }
+{
+    let verdict = crate::stubs::read_into(text, numbers);
+    match verdict {
+        Verdict::Accepted => {
+            let size = table::counts_of(numbers);
+            let count = size.statements;
+            let places = count + size.routines;
+            clean_of(
+                numbers,
+                &mut held[..count],
+                &mut later_reads[..places],
+                &mut later_writes[..places],
+                from,
+                to,
+            )
+        }
+        Verdict::Refused { number: _, line: _ } => false,
+    }
 }
 
 // Whether a table may be loaded: its text is accepted, and its report counts no unguarded cell and no stray GIVE. If so it is safe after every
@@ -121,13 +302,20 @@ pub fn may_load(text: &[u8]) -> bool
     ensures answer { λ b. ⌜ b ≡ loadable (now (text .entry)) ⌝ }
     ensures safe { λ b. ⌜ (b ≡ true → (ns : List ℕ) → Safe (tableIn (now (text .entry))) (run (tableIn (now (text .entry))) (start (tableIn (now (text .entry)))) ns)) ⌝ }
 {
-    let reading = table::read(text);
-    let verdict = reading.verdict;
-    match verdict {
-        Verdict::Accepted => {
-            let numbers = reading.numbers;
-            is_clean(&numbers[..])
-        }
-        Verdict::Refused { number: _, line: _ } => false,
-    }
+    let mut numbers = [0i32; 5384];
+    let mut held = [0u64; 512];
+    let mut later_reads = [0u64; 544];
+    let mut later_writes = [0u64; 544];
+    let mut from = [0u16; 2048];
+    let mut to = [0u16; 2048];
+    let count = 8 * crate::stubs::line_count(text);
+    clean_in(
+        text,
+        &mut numbers[..count],
+        &mut held[..],
+        &mut later_reads[..],
+        &mut later_writes[..],
+        &mut from[..],
+        &mut to[..],
+    )
 }

@@ -7,8 +7,7 @@ ghost use lib.ListN.{length};
 ghost use Rattle.lines.specs.Line.{lineText};
 ghost use Rattle.report.specs.Report.{bit};
 ghost use Rattle.report.specs.ReportTextLaws.{Line8};
-ghost use Rattle.analysis.specs.Steps.{cellNumbers, totalNumbers, cellsBy, straysBy, textFrom, putAt, Fitting, AllFitting, reportBy};
-use crate::findings::access_count;
+ghost use Rattle.analysis.specs.Steps.{entry, cellNumbers, totalNumbers, cellsBy, straysBy, textFrom, putAt, Fitting, AllFitting, reportBy};
 use crate::findings::set_at;
 
 // A number as a field of a line.
@@ -43,28 +42,34 @@ fn cell_line(x: usize, reading: usize, writing: usize, shared: u64, common: u64)
     ]
 }
 
+// What stands at place `i` of a list; 0 past the end.
+fn entry_at(list: &[usize], i: usize) -> usize
+    ensures { λ x. ⌜ x ≡ entry (now (list .entry)) i ⌝ }
+{
+    if i < list.len() { list[i] } else { 0 }
+}
+
 // Writes line 51 of each of the first `cells` cells from `at` on, and returns the place behind them; all other places stay.
 fn print_cells(
     out: &mut [u8],
     at: usize,
     shared: u64,
     common: &[u64],
-    reads: &[u64],
-    writes: &[u64],
-    count: usize,
+    reads: &[usize],
+    writes: &[usize],
     cells: usize,
 ) -> usize
-    requires { ⌜ Fitting (cellsBy shared (now common) (now reads) (now writes) count) cells at (now out) ⌝ }
-    ensures place { λ r. ⌜ r ≡ at + length (textFrom 0 cells (cellsBy shared (now (common .entry)) (now (reads .entry)) (now (writes .entry)) count)) ⌝ }
-    ensures buffer { λ _. ⌜ now (out .exit) ≡ putAt (now (out .entry)) at (textFrom 0 cells (cellsBy shared (now (common .entry)) (now (reads .entry)) (now (writes .entry)) count)) ⌝ }
+    requires { ⌜ Fitting (cellsBy shared (now common) (now reads) (now writes)) cells at (now out) ⌝ }
+    ensures place { λ r. ⌜ r ≡ at + length (textFrom 0 cells (cellsBy shared (now (common .entry)) (now (reads .entry)) (now (writes .entry)))) ⌝ }
+    ensures buffer { λ _. ⌜ now (out .exit) ≡ putAt (now (out .entry)) at (textFrom 0 cells (cellsBy shared (now (common .entry)) (now (reads .entry)) (now (writes .entry)))) ⌝ }
 {
     let mut place = at;
     let mut x = 0;
     while x < cells {
         let line = cell_line(
             x,
-            access_count(reads, x, count),
-            access_count(writes, x, count),
+            entry_at(reads, x),
+            entry_at(writes, x),
             shared,
             set_at(common, x),
         );
@@ -120,8 +125,8 @@ pub fn print_report(
     out: &mut [u8],
     shared: u64,
     common: &[u64],
-    reads: &[u64],
-    writes: &[u64],
+    reads: &[usize],
+    writes: &[usize],
     marks: &[u64],
     count: usize,
     cells: usize,
@@ -131,7 +136,7 @@ pub fn print_report(
     requires { ⌜ AllFitting shared (now common) (now reads) (now writes) (now marks) count cells unguarded strays (now out) ⌝ }
     ensures { λ _. ⌜ now (out .exit) ≡ putAt (now (out .entry)) 0 (reportBy shared (now (common .entry)) (now (reads .entry)) (now (writes .entry)) (now (marks .entry)) count cells unguarded strays) ⌝ }
 {
-    let behind_cells = print_cells(out, 0, shared, common, reads, writes, count, cells);
+    let behind_cells = print_cells(out, 0, shared, common, reads, writes, cells);
     let behind_strays = print_strays(out, behind_cells, marks, count);
     print_total(out, behind_strays, unguarded, strays);
 }

@@ -1,12 +1,48 @@
-// What is found of a table, stage by stage: each computes some of the sets and hands on the parts of its arrays that hold them.
+// What is found of a table: its sets, each out of those before it, and what the report says of them, all in lent lists.
 ghost use mathlib.Core.Path.{_≡_};
+ghost use lib.ListN.{length, replicate};
+ghost use Rattle.table.specs.Header.{handles, routines, statements};
 ghost use Rattle.table.specs.Table.{tableOf};
-ghost use Rattle.analysis.specs.Found.{setsIn, Base, Found, AcceptedNumbers};
-use crate::Summary;
-use crate::findings::summary_from;
+ghost use Rattle.analysis.specs.Found.{setsIn, Base, Working, Lent, Known, Found, AcceptedNumbers};
+use crate::findings;
 
-// With the flow, effect and held sets: the futures, and what is found.
-fn from_held(
+// What is found with these sets: the shared cells; in `held` 1 for each stray GIVE, 0 for every other statement; and for each cell its common
+// locks, and how many statements read and write it.
+fn find_from(
+    numbers: &[i32],
+    flow: &[u64],
+    reads: &[u64],
+    writes: &[u64],
+    held: &mut [u64],
+    later_reads: &[u64],
+    later_writes: &[u64],
+    common: &mut [u64; 64],
+    reading: &mut [usize; 64],
+    writing: &mut [usize; 64],
+) -> u64
+    requires { ⌜ Known (now numbers) (now flow) (now reads) (now writes) (now held) (now «later_reads») (now «later_writes») ⌝ }
+    requires { ⌜ AcceptedNumbers (now numbers) × (length (now held) ≡ statements (now numbers)) ⌝ }
+    requires { ⌜ (length (now common) ≡ 64) × (now reading ≡ replicate 64 0) × (now writing ≡ replicate 64 0) ⌝ }
+    ensures { λ r. ⌜ Found (tableOf (now (numbers .entry))) r (now (common .exit)) (now (reading .exit)) (now (writing .exit)) (now (held .exit)) ⌝ }
+{
+    let size = table::counts_of(numbers);
+    let count = size.statements;
+    let all = sets::firsts(size.locks);
+    let shared = findings::shared_cells(
+        numbers,
+        reads,
+        writes,
+        later_reads,
+        later_writes,
+        count,
+    );
+    findings::note_accesses(numbers, flow, held, all, count, common, reading, writing);
+    findings::mark_strays(numbers, flow, held);
+    shared
+}
+
+// With all sets but the futures: these, and what is found.
+fn with_held(
     numbers: &[i32],
     first: &[usize],
     handle: &[usize],
@@ -14,32 +50,53 @@ fn from_held(
     flow: &[u64],
     reads: &[u64],
     writes: &[u64],
-    held: &[u64],
-) -> Summary
-    requires { ⌜ Base (now numbers) (now first) (now handle) (now counts) ⌝ }
+    held: &mut [u64],
+    later_reads: &mut [u64],
+    later_writes: &mut [u64],
+    from: &mut [u16],
+    to: &mut [u16],
+    common: &mut [u64; 64],
+    reading: &mut [usize; 64],
+    writing: &mut [usize; 64],
+) -> u64
+    requires { ⌜ AcceptedNumbers (now numbers) × Base (now numbers) (now first) (now handle) (now counts) ⌝ }
     requires { ⌜ now flow ≡ setsIn (tableOf (now numbers)) .flow ⌝ }
     requires { ⌜ now reads ≡ setsIn (tableOf (now numbers)) .reads ⌝ }
     requires { ⌜ now writes ≡ setsIn (tableOf (now numbers)) .writes ⌝ }
     requires { ⌜ now held ≡ setsIn (tableOf (now numbers)) .held ⌝ }
-    ensures { λ r. ⌜ Found (tableOf (now (numbers .entry))) r ⌝ }
+    requires { ⌜ Working (now numbers) (now «later_reads») (now «later_writes») (now from) (now to) ⌝ }
+    requires { ⌜ (length (now common) ≡ 64) × (now reading ≡ replicate 64 0) × (now writing ≡ replicate 64 0) ⌝ }
+    ensures { λ r. ⌜ Found (tableOf (now (numbers .entry))) r (now (common .exit)) (now (reading .exit)) (now (writing .exit)) (now (held .exit)) ⌝ }
 {
-    let size = table::counts_of(numbers);
-    let places = size.statements + size.routines;
-    let later_reads = dataflow::future_sets(numbers, first, handle, counts, flow, reads, false);
-    let later_writes = dataflow::future_sets(numbers, first, handle, counts, flow, writes, true);
-    summary_from(
+    crate::stubs::future_sets(
+        numbers,
+        first,
+        handle,
+        counts,
+        flow,
+        reads,
+        writes,
+        from,
+        to,
+        later_reads,
+        later_writes,
+    );
+    find_from(
         numbers,
         flow,
         reads,
         writes,
         held,
-        &later_reads[..places],
-        &later_writes[..places],
+        later_reads,
+        later_writes,
+        common,
+        reading,
+        writing,
     )
 }
 
-// With the flow and effect sets: the locks given up, the held sets, and what is found.
-fn from_effects(
+// With the locks that routines give up: the held sets, and what is found.
+fn with_given(
     numbers: &[i32],
     first: &[usize],
     handle: &[usize],
@@ -47,19 +104,35 @@ fn from_effects(
     flow: &[u64],
     reads: &[u64],
     writes: &[u64],
-) -> Summary
-    requires { ⌜ Base (now numbers) (now first) (now handle) (now counts) ⌝ }
+    given: &[u64],
+    held: &mut [u64],
+    later_reads: &mut [u64],
+    later_writes: &mut [u64],
+    from: &mut [u16],
+    to: &mut [u16],
+    common: &mut [u64; 64],
+    reading: &mut [usize; 64],
+    writing: &mut [usize; 64],
+) -> u64
+    requires { ⌜ AcceptedNumbers (now numbers) × Base (now numbers) (now first) (now handle) (now counts) ⌝ }
     requires { ⌜ now flow ≡ setsIn (tableOf (now numbers)) .flow ⌝ }
     requires { ⌜ now reads ≡ setsIn (tableOf (now numbers)) .reads ⌝ }
     requires { ⌜ now writes ≡ setsIn (tableOf (now numbers)) .writes ⌝ }
-    ensures { λ r. ⌜ Found (tableOf (now (numbers .entry))) r ⌝ }
+    requires { ⌜ now given ≡ setsIn (tableOf (now numbers)) .given ⌝ }
+    requires { ⌜ Lent (now numbers) (now held) (now «later_reads») (now «later_writes») (now from) (now to) ⌝ }
+    requires { ⌜ (length (now common) ≡ 64) × (now reading ≡ replicate 64 0) × (now writing ≡ replicate 64 0) ⌝ }
+    ensures { λ r. ⌜ Found (tableOf (now (numbers .entry))) r (now (common .exit)) (now (reading .exit)) (now (writing .exit)) (now (held .exit)) ⌝ }
 {
-    let size = table::counts_of(numbers);
-    let routines = size.routines;
-    let statements = size.statements;
-    let given = dataflow::given_sets(numbers, first, handle, counts, flow);
-    let held = lockset::held_sets(numbers, first, handle, counts, flow, &given[..routines]);
-    from_held(
+    crate::stubs::held_sets(
+        numbers,
+        first,
+        handle,
+        counts,
+        flow,
+        given,
+        held,
+    );
+    with_held(
         numbers,
         first,
         handle,
@@ -67,55 +140,229 @@ fn from_effects(
         flow,
         reads,
         writes,
-        &held[..statements],
+        held,
+        later_reads,
+        later_writes,
+        from,
+        to,
+        common,
+        reading,
+        writing,
     )
 }
 
-// With the flow sets: the effects, and what is found.
-fn from_flow(
+// With the effects: the locks that routines give up, and what is found.
+fn with_effects(
     numbers: &[i32],
     first: &[usize],
     handle: &[usize],
     counts: &[usize],
     flow: &[u64],
-) -> Summary
-    requires { ⌜ Base (now numbers) (now first) (now handle) (now counts) ⌝ }
+    reads: &[u64],
+    writes: &[u64],
+    given: &mut [u64],
+    held: &mut [u64],
+    later_reads: &mut [u64],
+    later_writes: &mut [u64],
+    from: &mut [u16],
+    to: &mut [u16],
+    common: &mut [u64; 64],
+    reading: &mut [usize; 64],
+    writing: &mut [usize; 64],
+) -> u64
+    requires { ⌜ AcceptedNumbers (now numbers) × Base (now numbers) (now first) (now handle) (now counts) ⌝ }
     requires { ⌜ now flow ≡ setsIn (tableOf (now numbers)) .flow ⌝ }
-    ensures { λ r. ⌜ Found (tableOf (now (numbers .entry))) r ⌝ }
+    requires { ⌜ now reads ≡ setsIn (tableOf (now numbers)) .reads ⌝ }
+    requires { ⌜ now writes ≡ setsIn (tableOf (now numbers)) .writes ⌝ }
+    requires { ⌜ length (now given) ≡ routines (now numbers) ⌝ }
+    requires { ⌜ Lent (now numbers) (now held) (now «later_reads») (now «later_writes») (now from) (now to) ⌝ }
+    requires { ⌜ (length (now common) ≡ 64) × (now reading ≡ replicate 64 0) × (now writing ≡ replicate 64 0) ⌝ }
+    ensures { λ r. ⌜ Found (tableOf (now (numbers .entry))) r (now (common .exit)) (now (reading .exit)) (now (writing .exit)) (now (held .exit)) ⌝ }
 {
-    let size = table::counts_of(numbers);
-    let routines = size.routines;
-    let reads = dataflow::effect_sets(numbers, first, handle, counts, flow, false);
-    let writes = dataflow::effect_sets(numbers, first, handle, counts, flow, true);
-    from_effects(
+    crate::stubs::given_sets(
         numbers,
         first,
         handle,
         counts,
         flow,
-        &reads[..routines],
-        &writes[..routines],
+        from,
+        to,
+        given,
+    );
+    with_given(
+        numbers,
+        first,
+        handle,
+        counts,
+        flow,
+        reads,
+        writes,
+        given,
+        held,
+        later_reads,
+        later_writes,
+        from,
+        to,
+        common,
+        reading,
+        writing,
     )
 }
 
-// With where the routines' statements and handles stand: the flow sets, and what is found.
-fn from_layout(numbers: &[i32], first: &[usize], handle: &[usize], counts: &[usize]) -> Summary
-    requires { ⌜ Base (now numbers) (now first) (now handle) (now counts) ⌝ }
-    ensures { λ r. ⌜ Found (tableOf (now (numbers .entry))) r ⌝ }
+// With the flow sets: the effects, and what is found.
+fn with_flow(
+    numbers: &[i32],
+    first: &[usize],
+    handle: &[usize],
+    counts: &[usize],
+    flow: &[u64],
+    reads: &mut [u64],
+    writes: &mut [u64],
+    given: &mut [u64],
+    held: &mut [u64],
+    later_reads: &mut [u64],
+    later_writes: &mut [u64],
+    from: &mut [u16],
+    to: &mut [u16],
+    common: &mut [u64; 64],
+    reading: &mut [usize; 64],
+    writing: &mut [usize; 64],
+) -> u64
+    requires { ⌜ AcceptedNumbers (now numbers) × Base (now numbers) (now first) (now handle) (now counts) ⌝ }
+    requires { ⌜ now flow ≡ setsIn (tableOf (now numbers)) .flow ⌝ }
+    requires { ⌜ (length (now reads) ≡ routines (now numbers)) × (length (now writes) ≡ routines (now numbers)) × (length (now given) ≡ routines (now numbers)) ⌝ }
+    requires { ⌜ Lent (now numbers) (now held) (now «later_reads») (now «later_writes») (now from) (now to) ⌝ }
+    requires { ⌜ (length (now common) ≡ 64) × (now reading ≡ replicate 64 0) × (now writing ≡ replicate 64 0) ⌝ }
+    ensures { λ r. ⌜ Found (tableOf (now (numbers .entry))) r (now (common .exit)) (now (reading .exit)) (now (writing .exit)) (now (held .exit)) ⌝ }
 {
-    let size = table::counts_of(numbers);
-    let handles = size.handles;
-    let flow = dataflow::flow_sets(numbers, first, handle, counts);
-    from_flow(numbers, first, handle, counts, &flow[..handles])
+    crate::stubs::effect_sets(
+        numbers,
+        first,
+        handle,
+        counts,
+        flow,
+        from,
+        to,
+        reads,
+        writes,
+    );
+    with_effects(
+        numbers,
+        first,
+        handle,
+        counts,
+        flow,
+        reads,
+        writes,
+        given,
+        held,
+        later_reads,
+        later_writes,
+        from,
+        to,
+        common,
+        reading,
+        writing,
+    )
 }
 
-// What is found of an accepted table.
-pub fn summary_of(numbers: &[i32]) -> Summary
+// The sets of a table, and what is found.
+fn find_with(
+    numbers: &[i32],
+    first: &[usize],
+    handle: &[usize],
+    counts: &[usize],
+    flow: &mut [u64],
+    reads: &mut [u64],
+    writes: &mut [u64],
+    given: &mut [u64],
+    held: &mut [u64],
+    later_reads: &mut [u64],
+    later_writes: &mut [u64],
+    from: &mut [u16],
+    to: &mut [u16],
+    common: &mut [u64; 64],
+    reading: &mut [usize; 64],
+    writing: &mut [usize; 64],
+) -> u64
+    requires { ⌜ AcceptedNumbers (now numbers) × Base (now numbers) (now first) (now handle) (now counts) ⌝ }
+    requires { ⌜ (length (now flow) ≡ handles (now numbers)) × (length (now reads) ≡ routines (now numbers)) × (length (now writes) ≡ routines (now numbers)) × (length (now given) ≡ routines (now numbers)) ⌝ }
+    requires { ⌜ Lent (now numbers) (now held) (now «later_reads») (now «later_writes») (now from) (now to) ⌝ }
+    requires { ⌜ (length (now common) ≡ 64) × (now reading ≡ replicate 64 0) × (now writing ≡ replicate 64 0) ⌝ }
+    ensures { λ r. ⌜ Found (tableOf (now (numbers .entry))) r (now (common .exit)) (now (reading .exit)) (now (writing .exit)) (now (held .exit)) ⌝ }
+{
+    crate::stubs::flow_sets(
+        numbers,
+        first,
+        handle,
+        counts,
+        from,
+        to,
+        flow,
+    );
+    with_flow(
+        numbers,
+        first,
+        handle,
+        counts,
+        flow,
+        reads,
+        writes,
+        given,
+        held,
+        later_reads,
+        later_writes,
+        from,
+        to,
+        common,
+        reading,
+        writing,
+    )
+}
+
+// What is found of an accepted table, as find_from leaves it.
+pub fn summary_of(
+    numbers: &[i32],
+    held: &mut [u64],
+    later_reads: &mut [u64],
+    later_writes: &mut [u64],
+    from: &mut [u16],
+    to: &mut [u16],
+    common: &mut [u64; 64],
+    reading: &mut [usize; 64],
+    writing: &mut [usize; 64],
+) -> u64
     requires { ⌜ AcceptedNumbers (now numbers) ⌝ }
-    ensures { λ r. ⌜ Found (tableOf (now (numbers .entry))) r ⌝ }
+    requires { ⌜ Lent (now numbers) (now held) (now «later_reads») (now «later_writes») (now from) (now to) ⌝ }
+    requires { ⌜ (length (now common) ≡ 64) × (now reading ≡ replicate 64 0) × (now writing ≡ replicate 64 0) ⌝ }
+    ensures { λ r. ⌜ Found (tableOf (now (numbers .entry))) r (now (common .exit)) (now (reading .exit)) (now (writing .exit)) (now (held .exit)) ⌝ }
 {
     let first = table::first_statements(numbers);
     let handle = table::first_handles(numbers);
     let counts = table::parameter_counts(numbers);
-    from_layout(numbers, &first[..], &handle[..], &counts[..])
+    let size = table::counts_of(numbers);
+    let handles = size.handles;
+    let routines = size.routines;
+    let mut flow = [0u64; 128];
+    let mut reads = [0u64; 32];
+    let mut writes = [0u64; 32];
+    let mut given = [0u64; 32];
+    find_with(
+        numbers,
+        &first[..],
+        &handle[..],
+        &counts[..],
+        &mut flow[..handles],
+        &mut reads[..routines],
+        &mut writes[..routines],
+        &mut given[..routines],
+        held,
+        later_reads,
+        later_writes,
+        from,
+        to,
+        common,
+        reading,
+        writing,
+    )
 }

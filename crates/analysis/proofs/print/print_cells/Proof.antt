@@ -9,26 +9,26 @@ use Rattle.analysis.proofs.print.print_cells.Statement.{statement}
 use Rattle.analysis.proofs.print.print_cells.Tie as tie
 
 abbrev Inv-loop : tie.InvT-loop
-Inv-loop out₀ at shared common reads writes count cells place₀ x₀ out place x = Writing (cellsBy shared common reads writes count) cells at out₀ out place x
+Inv-loop out₀ at shared common reads writes cells place₀ x₀ out place x = Writing (cellsBy shared common reads writes) cells at out₀ out place x
 
 abbrev μ-loop : tie.MeasureT-loop
-μ-loop out₀ at shared common reads writes count cells place₀ x₀ out place x = cells - x
+μ-loop out₀ at shared common reads writes cells place₀ x₀ out place x = cells - x
 
 loop-holds : tie.Need-loop-holds Inv-loop μ-loop
 loop-holds c = writing-start _ _ _ _ (c .before .before .before .before .pre)
 
-access-count-requires : tie.Need-access-count-requires Inv-loop μ-loop
-access-count-requires c κs = tt
+entry-at-requires : tie.Need-entry-at-requires Inv-loop μ-loop
+entry-at-requires c κs = tt
 
-access-count-requires-2 : tie.Need-access-count-requires-2 Inv-loop μ-loop
-access-count-requires-2 c κs = tt
+entry-at-requires-2 : tie.Need-entry-at-requires-2 Inv-loop μ-loop
+entry-at-requires-2 c κs = tt
 
 set-at-requires : tie.Need-set-at-requires Inv-loop μ-loop
 set-at-requires c κs = tt
 
 cell-line-requires : tie.Need-cell-line-requires Inv-loop μ-loop
 unfolding cellsBy
-cell-line-requires c κs = rw (c .before .before .access-count .ensures .0, c .before .access-count2 .ensures .0, c .set-at .ensures) (writing-eight (c .before .before .before .before .loop .inv) (c .before .before .before .loop-test .taken) _ refl)
+cell-line-requires c κs = rw (c .before .before .entry-at .ensures, c .before .entry-at2 .ensures, c .set-at .ensures) (writing-eight (c .before .before .before .before .loop .inv) (c .before .before .before .loop-test .taken) _ refl)
 
 print-line-requires : tie.Need-print-line-requires Inv-loop μ-loop
 print-line-requires c κs = tt
@@ -45,7 +45,7 @@ loop-less c = omega arith
 
 loop-again : tie.Need-loop-again Inv-loop μ-loop
 unfolding cellsBy
-loop-again c = rw (c .before .before .print-line .ensures .1, c .before .before .before .before .cell-line .ensures, c .before .before .before .before .before .before .before .access-count .ensures .0, c .before .before .before .before .before .before .access-count2 .ensures .0, c .before .before .before .before .before .set-at .ensures) (writing-line (c .before .before .before .before .before .before .before .before .before .loop .inv) (c .before .before .before .before .before .before .before .before .loop-test .taken) _ refl)
+loop-again c = rw (c .before .before .print-line .ensures .1, c .before .before .before .before .cell-line .ensures, c .before .before .before .before .before .before .before .entry-at .ensures, c .before .before .before .before .before .before .entry-at2 .ensures, c .before .before .before .before .before .set-at .ensures) (writing-line (c .before .before .before .before .before .before .before .before .before .loop .inv) (c .before .before .before .before .before .before .before .before .loop-test .taken) _ refl)
 
 same-length : tie.Need-same-length Inv-loop μ-loop
 same-length c = writing-length (c .before .loop .inv)
@@ -60,8 +60,8 @@ print-cells-spec =
     Inv-loop
     μ-loop
     loop-holds
-    access-count-requires
-    access-count-requires-2
+    entry-at-requires
+    entry-at-requires-2
     set-at-requires
     cell-line-requires
     print-line-requires

@@ -1,0 +1,80 @@
+-- `analysis::report_large` meets its contract. Assumes nothing.
+use Rattle.analysis.specs.SetsLaws.{cut-long, spaced}
+use Rattle.lines.specs.Line.{lineCount}
+use lib.IntN.{pos}
+use mathlib.Core.Path.{_≡_, sym, _∙_}
+use Prim.Native.Nat.{ℕ, _*_, _≤_, min}
+use denote.Ref.{now}
+use native.Mathlib.Omega.{arith}
+use borrow.Author.Needs.{needs}
+use Rattle.analysis.proofs.report_large.Statement.{statement}
+use Rattle.analysis.proofs.report_large.Tie as tie
+use Rattle.analysis.proofs.report_large.Reads as reads
+use Rattle.analysis.proofs.report_large.Lts as lts
+use Rattle.analysis.proofs.report_in.Reads as report-in-reads
+use Rattle.analysis.proofs.stubs.line_count.Reads as line-count-reads
+
+-- src/lib.rt:191:21
+line-count-requires : tie.Need-line-count-requires
+line-count-requires c κs = search needs
+
+-- src/lib.rt:191:17
+mul-count : tie.Need-mul-count
+mul-count c = search needs
+
+-- src/lib.rt:194:9
+array-borrow-prefix-numbers : tie.Need-array-borrow-prefix-numbers
+array-borrow-prefix-numbers c = search needs
+
+-- src/lib.rt:194:9
+slice-aggregate-report-in : tie.Need-slice-aggregate-report-in
+slice-aggregate-report-in c = cut-long _ 5384 (pos 0) (omega (arith, c .before .line-count .ensures))
+
+-- src/lib.rt:195:9
+slice-aggregate-report-in-2 : tie.Need-slice-aggregate-report-in-2
+slice-aggregate-report-in-2 c = search needs
+
+-- src/lib.rt:196:9
+slice-aggregate-report-in-3 : tie.Need-slice-aggregate-report-in-3
+slice-aggregate-report-in-3 c = search needs
+
+-- src/lib.rt:197:9
+slice-aggregate-report-in-4 : tie.Need-slice-aggregate-report-in-4
+slice-aggregate-report-in-4 c = search needs
+
+-- src/lib.rt:198:9
+slice-aggregate-report-in-5 : tie.Need-slice-aggregate-report-in-5
+slice-aggregate-report-in-5 c = search needs
+
+-- src/lib.rt:199:9
+slice-aggregate-report-in-6 : tie.Need-slice-aggregate-report-in-6
+slice-aggregate-report-in-6 c = search needs
+
+-- src/lib.rt:192:5
+report-in-requires : tie.Need-report-in-requires
+report-in-requires c κs = rw (c .before .before .before .before .before .before .before .line-count .ensures) (spaced (lineCount (now (c .before .before .before .before .before .before .before .before .before .before .args .text))) 5384 512 544 2048 (omega arith) (λ n l m. m) (λ n l m. m) (λ n l m. omega arith))
+
+-- src/lib.rt:181:1
+same-length : tie.Need-same-length
+same-length c = search needs
+
+-- src/lib.rt:181:1
+returns : tie.Need-returns
+returns c = search needs
+
+pub report-large-spec : {M : Type 1} → statement M
+report-large-spec =
+    tie.close
+    (tie.spec
+    line-count-requires
+    mul-count
+    array-borrow-prefix-numbers
+    slice-aggregate-report-in
+    slice-aggregate-report-in-2
+    slice-aggregate-report-in-3
+    slice-aggregate-report-in-4
+    slice-aggregate-report-in-5
+    slice-aggregate-report-in-6
+    report-in-requires
+    same-length
+    returns)
