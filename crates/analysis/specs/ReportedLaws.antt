@@ -11,6 +11,7 @@ use lib.ListN.{length, take, drop, replicate, length-take}
 use borrow.Author.Tests.{lt-ltb, le-ltb}
 use Rattle.lines.specs.Line.{lineCount, numbersOf}
 use Rattle.lines.specs.LineLaws.{numbers-in-field}
+use Rattle.table.specs.CutLaws.{take-replicate}
 use Rattle.table.specs.Header.{cells, statements, statementLine}
 use Rattle.table.specs.Table.{tableOf, countsOf}
 use Rattle.table.specs.LookupLaws.{cells-is, statements-length}
@@ -31,7 +32,7 @@ use Rattle.analysis.specs.Found.{Found, AcceptedNumbers, Lent, Space}
 use Rattle.analysis.specs.FoundLaws.{strays-counted, unguarded-found, report-is, all-fitting}
 use Rattle.analysis.specs.declared.Answer.{Answer}
 use Rattle.analysis.specs.LengthLaws.{text-lines}
-use Rattle.analysis.specs.SetsLaws.{take-replicate, routines-are, statements-are, routines-few, statements-few}
+use Rattle.analysis.specs.SetsLaws.{routines-are, statements-are, routines-few, statements-few}
 
 -- ---- what was read
 

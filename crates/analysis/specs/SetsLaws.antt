@@ -1,10 +1,9 @@
 -- The sets of a table, each computed out of those before it, in lent lists. Assumes nothing.
-use mathlib.Core.Path.{_≡_, refl, sym, ap, ap₂, _∙_}
+use mathlib.Core.Path.{_≡_, sym, ap, ap₂, _∙_}
 use mathlib.Core.Bool.{true, false}
-use mathlib.Core.List.{List, _∷_}
+use mathlib.Core.List.{List}
 use Prim.Native.Nat.{ℕ, zero, suc, _*_, _^_, _≤_, _<_, zero-le}
 use native.Mathlib.Omega.{arith}
-use native.Mathlib.Nat.{le-of-suc-le-suc}
 use lib.IntN.{ℤ, pos, negsuc}
 use borrow.Author.Tests.{ltb-true}
 use Rattle.lines.specs.Field.{inField}
@@ -13,6 +12,7 @@ use Rattle.table.specs.Fields.{field, plain}
 use Rattle.table.specs.Header.{handles, routines, statements}
 use Rattle.table.specs.Handles.{handlesFrom, parameters}
 use Rattle.table.specs.Routines.{firstOf, countOf}
+use Rattle.table.specs.CutLaws.{cut-long}
 use Rattle.table.specs.Tabulate.{tabulate}
 use Rattle.table.specs.TabulateLaws.{length-tabulate}
 use Rattle.table.specs.Table.{Table, tableOf, countsOf}
@@ -62,17 +62,6 @@ module _ (f : List ℤ) (read : AcceptedNumbers f) where
         counts-is = c;
       } in
       record { laid = few; accepted = acc }
-
--- ---- the first places of a list of one value
-
-module _ {A : Type 0} where
-  pub take-replicate : (n m : ℕ) (x : A) → n ≤ m → take n (replicate m x) ≡ replicate n x
-  take-replicate zero m x h = refl
-  take-replicate (suc n) zero x h = absurd (omega arith)
-  take-replicate (suc n) (suc m) x h = ap (λ (l : List A). x ∷ l) (take-replicate n m x (le-of-suc-le-suc h))
-
-  pub cut-long : (n m : ℕ) (x : A) → n ≤ m → n ≡ length (take n (replicate m x))
-  cut-long n m x h = sym (ap length (take-replicate n m x h) ∙ length-replicate n x)
 
 -- ---- the sets, each out of those before it
 

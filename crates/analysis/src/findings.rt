@@ -82,11 +82,21 @@ fn note_access(
 {
     let op = table::field_of(numbers, line, 1);
     if op == 1 {
-        note(set_at(flow, table::field_of(numbers, line, 2)), held, reads, common);
+        note(
+            set_at(flow, table::field_of(numbers, line, 2)),
+            held,
+            reads,
+            common,
+        );
         return;
     }
     if op == 2 {
-        note(set_at(flow, table::field_of(numbers, line, 2)), held, writes, common);
+        note(
+            set_at(flow, table::field_of(numbers, line, 2)),
+            held,
+            writes,
+            common,
+        );
     }
 }
 
@@ -121,7 +131,16 @@ pub fn note_accesses(
     let mut s = count;
     while 0 < s {
         s -= 1;
-        note_access(numbers, s, base + s, flow, set_at(held, s), common, reads, writes);
+        note_access(
+            numbers,
+            s,
+            base + s,
+            flow,
+            set_at(held, s),
+            common,
+            reads,
+            writes,
+        );
     }
 }
 

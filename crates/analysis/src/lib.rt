@@ -2,7 +2,6 @@
 mod findings;
 mod print;
 mod stages;
-mod stubs;
 
 ghost use mathlib.Core.Path.{_≡_};
 ghost use mathlib.Core.Bool.{true};
@@ -128,7 +127,7 @@ fn report_in(
     ensures answer { λ r. ⌜ r ≡ reportAnswer (now (text .entry)) (length (now (out .entry))) ⌝ }
     ensures buffer { λ _. ⌜ now (out .exit) ≡ reportedInto (now (text .entry)) (now (out .entry)) ⌝ }
 {
-    let verdict = crate::stubs::read_into(text, numbers);
+    let verdict = table::read_into(text, numbers);
     match verdict {
         Verdict::Accepted => {
             let size = table::counts_of(numbers);
@@ -164,7 +163,7 @@ fn report_small(text: &[u8], out: &mut [u8]) -> Answer
     let mut later_writes = [0u64; 64];
     let mut from = [0u16; 256];
     let mut to = [0u16; 256];
-    let count = 8 * crate::stubs::line_count(text);
+    let count = 8 * lines::line_count(text);
     report_in(
         text,
         &mut numbers[..count],
@@ -188,7 +187,7 @@ fn report_large(text: &[u8], out: &mut [u8]) -> Answer
     let mut later_writes = [0u64; 544];
     let mut from = [0u16; 2048];
     let mut to = [0u16; 2048];
-    let count = 8 * crate::stubs::line_count(text);
+    let count = 8 * lines::line_count(text);
     report_in(
         text,
         &mut numbers[..count],
@@ -207,14 +206,21 @@ pub fn report(text: &[u8], out: &mut [u8]) -> Answer
     ensures answer { λ r. ⌜ r ≡ reportAnswer (now (text .entry)) (length (now (out .entry))) ⌝ }
     ensures buffer { λ _. ⌜ now (out .exit) ≡ reportedInto (now (text .entry)) (now (out .entry)) ⌝ }
 {
-    if crate::stubs::line_count(text) <= 64 {
+    if lines::line_count(text) <= 64 {
         return report_small(text, out);
     }
     report_large(text, out)
 }
 
 // Whether what is found of an accepted table is no unguarded cell and no stray GIVE.
-fn is_clean(numbers: &[i32], shared: u64, common: &[u64], reading: &[usize], writing: &[usize], marks: &[u64]) -> bool
+fn is_clean(
+    numbers: &[i32],
+    shared: u64,
+    common: &[u64],
+    reading: &[usize],
+    writing: &[usize],
+    marks: &[u64],
+) -> bool
     requires { ⌜ AcceptedNumbers (now numbers) ⌝ }
     requires { ⌜ Found (tableOf (now numbers)) shared (now common) (now reading) (now writing) (now marks) ⌝ }
     ensures { λ b. ⌜ b ≡ countsNothing (tableOf (now (numbers .entry))) ⌝ }
@@ -277,7 +283,7 @@ fn clean_in(
     requires { ⌜ Space (lineCount (now text)) (now numbers) (now held) (now «later_reads») (now «later_writes») (now from) (now to) ⌝ }
     ensures { λ b. ⌜ b ≡ loadable (now (text .entry)) ⌝ }
 {
-    let verdict = crate::stubs::read_into(text, numbers);
+    let verdict = table::read_into(text, numbers);
     match verdict {
         Verdict::Accepted => {
             let size = table::counts_of(numbers);
@@ -308,7 +314,7 @@ pub fn may_load(text: &[u8]) -> bool
     let mut later_writes = [0u64; 544];
     let mut from = [0u16; 2048];
     let mut to = [0u16; 2048];
-    let count = 8 * crate::stubs::line_count(text);
+    let count = 8 * lines::line_count(text);
     clean_in(
         text,
         &mut numbers[..count],

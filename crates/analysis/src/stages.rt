@@ -28,14 +28,7 @@ fn find_from(
     let size = table::counts_of(numbers);
     let count = size.statements;
     let all = sets::firsts(size.locks);
-    let shared = findings::shared_cells(
-        numbers,
-        reads,
-        writes,
-        later_reads,
-        later_writes,
-        count,
-    );
+    let shared = findings::shared_cells(numbers, reads, writes, later_reads, later_writes, count);
     findings::note_accesses(numbers, flow, held, all, count, common, reading, writing);
     findings::mark_strays(numbers, flow, held);
     shared
@@ -68,7 +61,7 @@ fn with_held(
     requires { ⌜ (length (now common) ≡ 64) × (now reading ≡ replicate 64 0) × (now writing ≡ replicate 64 0) ⌝ }
     ensures { λ r. ⌜ Found (tableOf (now (numbers .entry))) r (now (common .exit)) (now (reading .exit)) (now (writing .exit)) (now (held .exit)) ⌝ }
 {
-    crate::stubs::future_sets(
+    dataflow::future_sets(
         numbers,
         first,
         handle,
@@ -123,15 +116,7 @@ fn with_given(
     requires { ⌜ (length (now common) ≡ 64) × (now reading ≡ replicate 64 0) × (now writing ≡ replicate 64 0) ⌝ }
     ensures { λ r. ⌜ Found (tableOf (now (numbers .entry))) r (now (common .exit)) (now (reading .exit)) (now (writing .exit)) (now (held .exit)) ⌝ }
 {
-    crate::stubs::held_sets(
-        numbers,
-        first,
-        handle,
-        counts,
-        flow,
-        given,
-        held,
-    );
+    lockset::held_sets(numbers, first, handle, counts, flow, given, held);
     with_held(
         numbers,
         first,
@@ -179,16 +164,7 @@ fn with_effects(
     requires { ⌜ (length (now common) ≡ 64) × (now reading ≡ replicate 64 0) × (now writing ≡ replicate 64 0) ⌝ }
     ensures { λ r. ⌜ Found (tableOf (now (numbers .entry))) r (now (common .exit)) (now (reading .exit)) (now (writing .exit)) (now (held .exit)) ⌝ }
 {
-    crate::stubs::given_sets(
-        numbers,
-        first,
-        handle,
-        counts,
-        flow,
-        from,
-        to,
-        given,
-    );
+    dataflow::given_sets(numbers, first, handle, counts, flow, from, to, given);
     with_given(
         numbers,
         first,
@@ -235,7 +211,7 @@ fn with_flow(
     requires { ⌜ (length (now common) ≡ 64) × (now reading ≡ replicate 64 0) × (now writing ≡ replicate 64 0) ⌝ }
     ensures { λ r. ⌜ Found (tableOf (now (numbers .entry))) r (now (common .exit)) (now (reading .exit)) (now (writing .exit)) (now (held .exit)) ⌝ }
 {
-    crate::stubs::effect_sets(
+    dataflow::effect_sets(
         numbers,
         first,
         handle,
@@ -291,15 +267,7 @@ fn find_with(
     requires { ⌜ (length (now common) ≡ 64) × (now reading ≡ replicate 64 0) × (now writing ≡ replicate 64 0) ⌝ }
     ensures { λ r. ⌜ Found (tableOf (now (numbers .entry))) r (now (common .exit)) (now (reading .exit)) (now (writing .exit)) (now (held .exit)) ⌝ }
 {
-    crate::stubs::flow_sets(
-        numbers,
-        first,
-        handle,
-        counts,
-        from,
-        to,
-        flow,
-    );
+    dataflow::flow_sets(numbers, first, handle, counts, from, to, flow);
     with_flow(
         numbers,
         first,

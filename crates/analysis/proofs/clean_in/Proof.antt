@@ -12,7 +12,7 @@ use Rattle.analysis.proofs.clean_in.Tie as tie
 use Rattle.analysis.proofs.clean_in.Reads as reads
 use Rattle.analysis.proofs.clean_in.Lts as lts
 use Rattle.analysis.proofs.clean_of.Reads as clean-of-reads
-use Rattle.analysis.proofs.stubs.read_into.Reads as read-into-reads
+use Rattle.table.proofs.read_into.Reads as read-into-reads
 use Rattle.table.proofs.counts_of.Reads as counts-of-reads
 
 -- src/lib.rt:280:9

@@ -1,6 +1,7 @@
 -- `analysis::may_load` meets its contract. Assumes nothing.
 use Rattle.analysis.specs.LoadLaws.{loadable-safe}
-use Rattle.analysis.specs.SetsLaws.{cut-long, spaced}
+use Rattle.analysis.specs.SetsLaws.{spaced}
+use Rattle.table.specs.CutLaws.{cut-long}
 use Rattle.lines.specs.Line.{lineCount}
 use lib.IntN.{pos}
 use mathlib.Core.Path.{_≡_, sym, _∙_}
@@ -13,7 +14,7 @@ use Rattle.analysis.proofs.may_load.Tie as tie
 use Rattle.analysis.proofs.may_load.Reads as reads
 use Rattle.analysis.proofs.may_load.Lts as lts
 use Rattle.analysis.proofs.clean_in.Reads as clean-in-reads
-use Rattle.analysis.proofs.stubs.line_count.Reads as line-count-reads
+use Rattle.lines.proofs.line_count.Reads as line-count-reads
 
 -- src/lib.rt:311:21
 line-count-requires : tie.Need-line-count-requires

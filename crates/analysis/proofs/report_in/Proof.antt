@@ -12,7 +12,7 @@ use Rattle.analysis.proofs.report_in.Tie as tie
 use Rattle.analysis.proofs.report_in.Reads as reads
 use Rattle.analysis.proofs.report_in.Lts as lts
 use Rattle.analysis.proofs.report_of.Reads as report-of-reads
-use Rattle.analysis.proofs.stubs.read_into.Reads as read-into-reads
+use Rattle.table.proofs.read_into.Reads as read-into-reads
 use Rattle.table.proofs.counts_of.Reads as counts-of-reads
 
 -- src/lib.rt:131:9

@@ -1,5 +1,6 @@
 -- `analysis::report_large` meets its contract. Assumes nothing.
-use Rattle.analysis.specs.SetsLaws.{cut-long, spaced}
+use Rattle.analysis.specs.SetsLaws.{spaced}
+use Rattle.table.specs.CutLaws.{cut-long}
 use Rattle.lines.specs.Line.{lineCount}
 use lib.IntN.{pos}
 use mathlib.Core.Path.{_≡_, sym, _∙_}
@@ -12,7 +13,7 @@ use Rattle.analysis.proofs.report_large.Tie as tie
 use Rattle.analysis.proofs.report_large.Reads as reads
 use Rattle.analysis.proofs.report_large.Lts as lts
 use Rattle.analysis.proofs.report_in.Reads as report-in-reads
-use Rattle.analysis.proofs.stubs.line_count.Reads as line-count-reads
+use Rattle.lines.proofs.line_count.Reads as line-count-reads
 
 -- src/lib.rt:191:21
 line-count-requires : tie.Need-line-count-requires

@@ -8,7 +8,7 @@ use Rattle.analysis.proofs.stages.find_with.Tie as tie
 use Rattle.analysis.proofs.stages.find_with.Reads as reads
 use Rattle.analysis.proofs.stages.find_with.Lts as lts
 use Rattle.analysis.proofs.stages.with_flow.Reads as with-flow-reads
-use Rattle.analysis.proofs.stubs.flow_sets.Reads as flow-sets-reads
+use Rattle.dataflow.proofs.flow_sets.Reads as flow-sets-reads
 
 -- src/stages.rt:294:5
 flow-sets-requires : tie.Need-flow-sets-requires

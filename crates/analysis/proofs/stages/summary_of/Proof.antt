@@ -1,5 +1,6 @@
 -- `analysis::stages::summary_of` meets its contract. Assumes nothing.
-use Rattle.analysis.specs.SetsLaws.{base, cut-long, handles-are, routines-are, handles-few, routines-few}
+use Rattle.analysis.specs.SetsLaws.{base, handles-are, routines-are, handles-few, routines-few}
+use Rattle.table.specs.CutLaws.{cut-long}
 use lib.ListN.{replicate}
 use Prim.Native.Nat.{ℕ}
 use mathlib.Core.Path.{sym, _∙_}

@@ -8,7 +8,7 @@ use Rattle.analysis.proofs.stages.with_effects.Tie as tie
 use Rattle.analysis.proofs.stages.with_effects.Reads as reads
 use Rattle.analysis.proofs.stages.with_effects.Lts as lts
 use Rattle.analysis.proofs.stages.with_given.Reads as with-given-reads
-use Rattle.analysis.proofs.stubs.given_sets.Reads as given-sets-reads
+use Rattle.dataflow.proofs.given_sets.Reads as given-sets-reads
 
 -- src/stages.rt:182:5
 given-sets-requires : tie.Need-given-sets-requires

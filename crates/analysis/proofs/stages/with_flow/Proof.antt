@@ -8,7 +8,7 @@ use Rattle.analysis.proofs.stages.with_flow.Tie as tie
 use Rattle.analysis.proofs.stages.with_flow.Reads as reads
 use Rattle.analysis.proofs.stages.with_flow.Lts as lts
 use Rattle.analysis.proofs.stages.with_effects.Reads as with-effects-reads
-use Rattle.analysis.proofs.stubs.effect_sets.Reads as effect-sets-reads
+use Rattle.dataflow.proofs.effect_sets.Reads as effect-sets-reads
 
 -- src/stages.rt:238:5
 effect-sets-requires : tie.Need-effect-sets-requires

@@ -8,7 +8,7 @@ use Rattle.analysis.proofs.stages.with_given.Tie as tie
 use Rattle.analysis.proofs.stages.with_given.Reads as reads
 use Rattle.analysis.proofs.stages.with_given.Lts as lts
 use Rattle.analysis.proofs.stages.with_held.Reads as with-held-reads
-use Rattle.analysis.proofs.stubs.held_sets.Reads as held-sets-reads
+use Rattle.lockset.proofs.held_sets.Reads as held-sets-reads
 
 -- src/stages.rt:126:5
 held-sets-requires : tie.Need-held-sets-requires

@@ -8,7 +8,7 @@ use Rattle.analysis.proofs.stages.with_held.Tie as tie
 use Rattle.analysis.proofs.stages.with_held.Reads as reads
 use Rattle.analysis.proofs.stages.with_held.Lts as lts
 use Rattle.analysis.proofs.stages.find_from.Reads as find-from-reads
-use Rattle.analysis.proofs.stubs.future_sets.Reads as future-sets-reads
+use Rattle.dataflow.proofs.future_sets.Reads as future-sets-reads
 
 -- src/stages.rt:71:5
 future-sets-requires : tie.Need-future-sets-requires
