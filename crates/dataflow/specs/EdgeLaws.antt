@@ -5,31 +5,38 @@ use mathlib.Core.List.{List, [], _∷_, _++_, List·Memᴰ, List·Memᴰ·head, 
 use native.Mathlib.Nat.{zero-add}
 use native.Mathlib.Numerals.{add-one}
 use native.Mathlib.Omega.{arith}
-use lib.ListN.{length, set, take, replicate, length-append, length-set, length-replicate}
+use lib.ListN.{length, set, take, length-append, length-set}
 use lib.Seq.{take-suc-set}
 use Rattle.sets.specs.Least.{least}
 use Rattle.report.specs.Over.{joinedFrom, Edge, froms, tos, leastAlong}
 use Rattle.report.specs.OverLaws.{joined-last}
 
--- the first n places of the two lists are the edges' ends
-pub record Holds (from to : List ℕ) (n : ℕ) (es : List Edge) : Type 0 where
+-- the first n places of two lists of a and b places are the edges' ends
+pub record Holds (a b : ℕ) (from to : List ℕ) (n : ℕ) (es : List Edge) : Type 0 where
   pub count : n ≡ length es
-  pub from-long : length from ≡ 2048
-  pub to-long : length to ≡ 2048
+  pub from-long : length from ≡ a
+  pub to-long : length to ≡ b
   pub from-is : take n from ≡ froms es
   pub to-is : take n to ≡ tos es
 
--- the edges fit into the two lists
-pub record Fit (es : List Edge) : Type 0 where
-  pub room : length es ≤ 2048
+-- the edges fit into two lists of a and b places
+pub record Fit (a b : ℕ) (es : List Edge) : Type 0 where
+  pub from-room : length es ≤ a
+  pub to-room : length es ≤ b
   pub small : (e : Edge) → List·Memᴰ e es → (e .from < 65536) × (e .to < 65536)
 
--- where the lists held some edges they hold the new ones behind them, if all of them fit
+-- the lists keep their lengths, and where they held some edges they hold the new ones behind them, if all of them fit
 pub record Appended (from to : List ℕ) (n : ℕ) (from′ to′ : List ℕ) (n′ : ℕ) (new : List Edge) : Type 0 where
-  pub then : (es : List Edge) → Holds from to n es → Fit (es ++ new) → Holds from′ to′ n′ (es ++ new)
+  pub from-same : length from′ ≡ length from
+  pub to-same : length to′ ≡ length to
+  pub then : (a b : ℕ) (es : List Edge) → Holds a b from to n es → Fit a b (es ++ new) → Holds a b from′ to′ n′ (es ++ new)
 
-fit-left : (a b : List Edge) → Fit (a ++ b) → Fit a
-fit-left a b f = record { room = omega (arith, f .room, length-append a b); small = λ e m. f .small e (Memᴰ·append-left b m) }
+fit-left : (a b : ℕ) (es new : List Edge) → Fit a b (es ++ new) → Fit a b es
+fit-left a b es new f = record {
+  from-room = omega (arith, f .from-room, length-append es new);
+  to-room = omega (arith, f .to-room, length-append es new);
+  small = λ e m. f .small e (Memᴰ·append-left new m);
+}
 
 froms-append : (a b : List Edge) → froms (a ++ b) ≡ froms a ++ froms b
 unfolding froms
@@ -48,14 +55,16 @@ module _ {from to from′ to′ : List ℕ} {n n′ : ℕ} where
   appended-same a b e h = subst (λ (l : List Edge). Appended from to n from′ to′ n′ l) e h
 
 pub appended-none : {from to : List ℕ} {n : ℕ} → Appended from to n from to n []
-appended-none {from} {to} {n} = record { then = λ es h f. subst (Holds from to n) (sym (append-nil es)) h }
+appended-none {from} {to} {n} = record { from-same = refl; to-same = refl; then = λ a b es h f. subst (Holds a b from to n) (sym (append-nil es)) h }
 
 pub appended-both : {from to from′ to′ from″ to″ : List ℕ} {n n′ n″ : ℕ} {a b : List Edge} → Appended from to n from′ to′ n′ a
     → Appended from′ to′ n′ from″ to″ n″ b → Appended from to n from″ to″ n″ (a ++ b)
 appended-both {from″ = from″} {to″} {n″ = n″} {a} {b} p q = record {
-  then = λ es h f.
-      let g : Fit ((es ++ a) ++ b) = subst Fit (sym (append-assoc es a b)) f in
-      subst (Holds from″ to″ n″) (append-assoc es a b) (q .then (es ++ a) (p .then es h (fit-left (es ++ a) b g)) g);
+  from-same = q .from-same ∙ p .from-same;
+  to-same = q .to-same ∙ p .to-same;
+  then = λ k l es h f.
+      let g : Fit k l ((es ++ a) ++ b) = subst (Fit k l) (sym (append-assoc es a b)) f in
+      subst (Holds k l from″ to″ n″) (append-assoc es a b) (q .then k l (es ++ a) (p .then k l es h (fit-left k l (es ++ a) b g)) g);
 }
 
 -- ---- one more edge
@@ -64,33 +73,38 @@ module _ (from to : List ℕ) (n f t : ℕ) where
   abbrev one-more : List Edge
   one-more = record { from = f; to = t } ∷ []
 
-  front : (l k : List ℕ) (v : ℕ) → length l ≡ 2048 → n < 2048 → take n l ≡ k → take (n + 1) (set l n v) ≡ k ++ (v ∷ [])
-  front l k v e h p = rw add-one (take-suc-set l n v (omega arith) ∙ ap {B = List ℕ} (λ (x : List ℕ). x ++ (v ∷ [])) p)
+  front : (l k : List ℕ) (v : ℕ) → n < length l → take n l ≡ k → take (n + 1) (set l n v) ≡ k ++ (v ∷ [])
+  front l k v h p = rw add-one (take-suc-set l n v h ∙ ap {B = List ℕ} (λ (x : List ℕ). x ++ (v ∷ [])) p)
 
-  pub appended-one : n < 2048 → Appended from to n (set from n f) (set to n t) (n + 1) (record { from = f; to = t } ∷ [])
+  pub appended-one : n < length from → n < length to → Appended from to n (set from n f) (set to n t) (n + 1) (record { from = f; to = t } ∷ [])
   unfolding froms tos
-  appended-one b = record {
-    then = λ es h fit. record {
+  appended-one p q = record {
+    from-same = length-set from n f;
+    to-same = length-set to n t;
+    then = λ a b es h fit. record {
       count = omega (arith, h .count, length-append es one-more);
       from-long = length-set from n f ∙ h .from-long;
       to-long = length-set to n t ∙ h .to-long;
-      from-is = front from (froms es) f (h .from-long) b (h .from-is) ∙ sym (froms-append es one-more);
-      to-is = front to (tos es) t (h .to-long) b (h .to-is) ∙ sym (tos-append es one-more);
+      from-is = front from (froms es) f p (h .from-is) ∙ sym (froms-append es one-more);
+      to-is = front to (tos es) t q (h .to-is) ∙ sym (tos-append es one-more);
     };
   }
 
   -- the last edge is among them
-  last-small : (es : List Edge) → Fit (es ++ one-more) → (f < 65536) × (t < 65536)
-  last-small es fit = fit .small (record { from = f; to = t }) (Memᴰ·append-right es (List·Memᴰ·head refl))
+  last-small : (a b : ℕ) (es : List Edge) → Fit a b (es ++ one-more) → (f < 65536) × (t < 65536)
+  last-small a b es fit = fit .small (record { from = f; to = t }) (Memᴰ·append-right es (List·Memᴰ·head refl))
 
-  pub appended-full : {from′ to′ : List ℕ} {n′ : ℕ} → 2048 ≤ n → Appended from to n from′ to′ n′ (record { from = f; to = t } ∷ [])
-  appended-full b = record { then = λ es h fit. absurd (omega (arith, h .count, fit .room, length-append es one-more)) }
+  pub appended-from-full : length from ≤ n → Appended from to n from to n (record { from = f; to = t } ∷ [])
+  appended-from-full p = record { from-same = refl; to-same = refl; then = λ a b es h fit. absurd (omega (arith, h .count, h .from-long, fit .from-room, length-append es one-more)) }
 
-  pub appended-from-large : {from′ to′ : List ℕ} {n′ : ℕ} → 65536 ≤ f → Appended from to n from′ to′ n′ (record { from = f; to = t } ∷ [])
-  appended-from-large b = record { then = λ es h fit. absurd (omega (arith, last-small es fit .0)) }
+  pub appended-to-full : length to ≤ n → Appended from to n from to n (record { from = f; to = t } ∷ [])
+  appended-to-full p = record { from-same = refl; to-same = refl; then = λ a b es h fit. absurd (omega (arith, h .count, h .to-long, fit .to-room, length-append es one-more)) }
 
-  pub appended-to-large : {from′ to′ : List ℕ} {n′ : ℕ} → 65536 ≤ t → Appended from to n from′ to′ n′ (record { from = f; to = t } ∷ [])
-  appended-to-large b = record { then = λ es h fit. absurd (omega (arith, last-small es fit .1)) }
+  pub appended-from-large : 65536 ≤ f → Appended from to n from to n (record { from = f; to = t } ∷ [])
+  appended-from-large p = record { from-same = refl; to-same = refl; then = λ a b es h fit. absurd (omega (arith, last-small a b es fit .0)) }
+
+  pub appended-to-large : 65536 ≤ t → Appended from to n from to n (record { from = f; to = t } ∷ [])
+  appended-to-large p = record { from-same = refl; to-same = refl; then = λ a b es h fit. absurd (omega (arith, last-small a b es fit .1)) }
 
 -- ---- a loop that appends a part for each number
 
@@ -115,20 +129,26 @@ growing-done {part} {end} {i = i} g l = let e : i ≡ end = omega (arith, g .ins
 
 -- ---- the lists as the solver takes them
 
+-- the first n places are the edges' ends, and there are so many
 pub record Ready (from to : List ℕ) (n : ℕ) (es : List Edge) : Type 0 where
-  pub holds : Holds from to n es
   pub from-room : n ≤ length from
   pub to-room : n ≤ length to
+  pub from-is : take n from ≡ froms es
+  pub to-is : take n to ≡ tos es
 
--- lists of zeros that a question's edges were filled into
-pub ready : {from to : List ℕ} {n : ℕ} {es : List Edge} → Appended (replicate 2048 0) (replicate 2048 0) 0 from to n es → Fit es → Ready from to n es
+-- whatever stood in the lists before
+pub ready : {from to from′ to′ : List ℕ} {n : ℕ} {es : List Edge} → Appended from to 0 from′ to′ n es → Fit (length from) (length to) es → Ready from′ to′ n es
 unfolding froms tos
-ready p fit =
-    let long : length (replicate {A = ℕ} 2048 0) ≡ 2048 = length-replicate {A = ℕ} 2048 0 in
-    let h = p .then [] (record { count = refl; from-long = long; to-long = long; from-is = refl; to-is = refl }) fit in
-    record { holds = h; from-room = omega (arith, h .count, h .from-long, fit .room); to-room = omega (arith, h .count, h .to-long, fit .room) }
+ready {from} {to} {from′} {to′} {n} {es} p fit =
+    let h = p .then (length from) (length to) [] (record { count = refl; from-long = refl; to-long = refl; from-is = refl; to-is = refl }) fit in
+    record {
+      from-room = omega (arith, h .count, h .from-long, fit .from-room);
+      to-room = omega (arith, h .count, h .to-long, fit .to-room);
+      from-is = h .from-is;
+      to-is = h .to-is;
+    }
 
-pub solved : {from to : List ℕ} {n : ℕ} {es : List Edge} {s s′ : List ℕ} → Holds from to n es → s ≡ s′
+pub solved : {from to : List ℕ} {n : ℕ} {es : List Edge} {s s′ : List ℕ} → Ready from to n es → s ≡ s′
     → least (take n from) (take n to) s ≡ leastAlong es s′
 unfolding leastAlong
 solved h e = rw (h .from-is, h .to-is, e)

@@ -1,4 +1,4 @@
--- The edges of every question fit into lists of 2,048: at most four a statement, and every number small. Assumes nothing.
+-- The edges of every question fit into lists of four places a statement: at most four a statement, and every number small. Assumes nothing.
 use Prim.Native.Nat.{ℕ, zero, suc, _+_, _*_, _≤_, _<_}
 use mathlib.Core.Path.{sym, subst}
 use mathlib.Core.Bool.{Bool, true, false, not, cond}
@@ -6,9 +6,12 @@ use mathlib.Core.Logic.{_⊎_, inl, inr}
 use mathlib.Core.List.{List, [], _∷_, _++_, List·Memᴰ, List·Memᴰ·append-cases, List·Memᴰ·eq-of-singleton}
 use native.Mathlib.Nat.{mul-suc}
 use native.Mathlib.Omega.{arith}
+use lib.IntN.{ℤ}
 use lib.ListN.{length, getD, length-append}
-use Rattle.table.specs.Table.{Table, routine, statement, passed, InRoutine}
+use Rattle.table.specs.Header.{statements}
+use Rattle.table.specs.Table.{Table, tableOf, routine, statement, passed, InRoutine}
 use Rattle.table.specs.Accepted.{Accepted, Operands, Passes, RoutineFacts}
+use Rattle.table.specs.LookupLaws.{statements-length}
 use Rattle.table.specs.UntilLaws.{until-range}
 use Rattle.table.specs.declared.Arguments.{Arguments}
 use Rattle.table.specs.declared.Statement.{Statement}
@@ -19,10 +22,8 @@ use Rattle.report.specs.Layout.{named, isIn, ownerOf, oneEach}
 use Rattle.report.specs.OneEach.{statement-below}
 use Rattle.report.specs.Operations.{nexts, byNaming}
 use Rattle.report.specs.Flow.{passing, flowEdges}
-use Rattle.dataflow.specs.declared.Question.{Question}
-use Rattle.dataflow.specs.declared.Question.the-variants.{Flow, Effects, Gives, Futures}
-use Rattle.dataflow.specs.Questions.{edge, upEdges, nextEdges, callEdges, edgesAt, edgesFor}
-use Rattle.dataflow.specs.EdgeLaws.{Fit}
+use Rattle.dataflow.specs.Questions.{Question, Flow, Effects, Gives, Futures, edge, upEdges, nextEdges, callEdges, edgesAt, edgesFor}
+use Rattle.dataflow.specs.EdgeLaws.{Fit, Appended, Ready, ready}
 
 -- at most m edges, and every number small
 record Few (m : ℕ) (es : List Edge) : Type 0 where
@@ -77,9 +78,6 @@ few-naming Return a b u v = few-none
 
 module _ (t : Table) (acc : Accepted t) where
   -- ---- the numbers of a statement
-
-  routine-small : (q : ℕ) → q < length (t .routines) → q < 65536
-  routine-small q l = omega (arith, acc .routines-most)
 
   named-small : (r : ℕ) (σ : Statement) → Operands t r σ → named σ < 512
   unfolding named
@@ -189,8 +187,16 @@ module _ (t : Table) (acc : Accepted t) where
       go Gives o = few-more 4 (omega arith) (few-up false (ownerOf t s) (o .0) (statement t s) (acc .operands (o .0) s (o .1) (o .2)) (owner-small s))
       go Futures o = few-future s (o .0) (omega (arith, acc .statements-most)) (o .1) (statement t s) (acc .operands (o .0) s (o .1) (o .2))
 
-  pub edges-fit : (q : Question) → Fit (edgesFor q t)
+  edges-fit : (q : Question) (a b : ℕ) → 4 * length (t .statements) ≤ a → 4 * length (t .statements) ≤ b → Fit a b (edgesFor q t)
   unfolding edgesFor
-  edges-fit q =
+  edges-fit q a b p r =
       let all = few-joined 4 0 (length (t .statements)) (edgesAt q t) (λ s w. few-at q s (within-below w)) in
-      record { room = omega (arith, all .few, acc .statements-most); small = all .small }
+      record { from-room = omega (arith, all .few); to-room = omega (arith, all .few); small = all .small }
+
+-- so lists with that much room hold a question's edges, whatever stood in them before
+pub ready-for : (q : Question) (f : List ℤ) → Accepted (tableOf f) → {from to from′ to′ : List ℕ} {n : ℕ}
+    → (4 * statements f ≤ length from) × (4 * statements f ≤ length to) → Appended from to 0 from′ to′ n (edgesFor q (tableOf f))
+    → Ready from′ to′ n (edgesFor q (tableOf f))
+ready-for q f acc {from} {to} room h =
+    ready h
+    (edges-fit (tableOf f) acc q (length from) (length to) (omega (arith, statements-length f, room .0)) (omega (arith, statements-length f, room .1)))

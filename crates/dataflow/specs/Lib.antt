@@ -1,7 +1,7 @@
 pub mod Questions
 pub mod EdgeLaws
-pub mod PartLaws
-pub mod NamingLaws
-pub mod StartLaws
 pub mod FitLaws
 pub mod AnswerLaws
+pub mod LineLaws
+pub mod RoutineLaws
+pub mod StartLaws

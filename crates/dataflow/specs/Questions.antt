@@ -10,25 +10,14 @@ use Rattle.table.specs.declared.Statement.{Statement}
 use Rattle.report.specs.Over.{joinedFrom, unionFrom, unionAt, Edge}
 use Rattle.report.specs.Layout.{named, ownerOf, oneEach}
 use Rattle.report.specs.Operations.{nexts, byNaming, accessed, given}
-use Rattle.report.specs.Flow.{startOf, flowEdges}
-use Rattle.dataflow.specs.declared.Question.{Question}
-use Rattle.dataflow.specs.declared.Question.the-variants.{Flow, Effects, Gives, Futures}
-use Rattle.dataflow.specs.declared.operations.Naming.{Naming}
-use Rattle.dataflow.specs.declared.operations.Naming.the-variants.{Called, Started, Neither}
-use Rattle.dataflow.specs.declared.operations.Nexts.{Nexts}
-use Rattle.dataflow.specs.declared.operations.Nexts.the-variants.{Zero, One, Two}
+use Rattle.report.specs.Flow.{flowEdges}
 
--- the statements that may come after one, in order
-unfoldable pub asList : Nexts → List ℕ
-asList Zero = []
-asList (One a) = a ∷ []
-asList (Two a b) = a ∷ b ∷ []
-
--- the routine that is named, 0 if none is
-unfoldable pub routineIn : Naming → ℕ
-routineIn (Called q) = q
-routineIn (Started q) = q
-routineIn Neither = 0
+-- what is asked of a table
+pub data Question : Type 0 where
+  Flow : Question
+  Effects : Question
+  Gives : Question
+  Futures : Question
 
 abbrev pub edge : ℕ → ℕ → Edge
 edge f t = record { from = f; to = t }
@@ -56,6 +45,11 @@ edgesAt Futures t s =
     nextEdges s (statement t s)
     ++ ((edge (length (t .statements) + ownerOf t s) s ∷ []) ++ callEdges (length (t .statements)) s (statement t s))
 
+-- up CALLs and STARTs, or up CALLs only
+abbrev pub upwards : Bool → Question
+upwards true = Effects
+upwards false = Gives
+
 -- those of all statements
 unfoldable pub edgesFor : Question → Table → List Edge
 edgesFor q t = joinedFrom 0 (length (t .statements)) (edgesAt q t)
@@ -70,6 +64,12 @@ ownSet locks w flow σ = cond locks (given (λ (h : ℕ). getD flow h 0) σ) (ac
 abbrev pub ownAt : Bool → Bool → List ℕ → Table → ℕ → ℕ
 ownAt locks w flow t s = ownSet locks w flow (statement t s)
 
+-- the number of the operation that does this
+unfoldable pub operationOf : Bool → Bool → ℕ
+operationOf true w = 6
+operationOf false true = 2
+operationOf false false = 1
+
 -- the union of these over the statements of routine r
 unfoldable pub inRoutine : Bool → Bool → List ℕ → Table → ℕ → ℕ
 inRoutine locks w flow t r = unionFrom (routine t r .first) (routine t r .count) (ownAt locks w flow t)
@@ -82,9 +82,6 @@ effectAt w flow effect t s = accessed w (λ (h : ℕ). getD flow h 0) (getD effe
 unfoldable pub nextsEffect : Bool → List ℕ → List ℕ → Table → ℕ → ℕ
 nextsEffect w flow effect t s = unionAt (nexts s (statement t s)) (effectAt w flow effect t)
 
--- what the set at place p begins with
-unfoldable pub startAt : Question → Bool → List ℕ → List ℕ → Table → ℕ → ℕ
-startAt Flow w flow effect t p = startOf t p
-startAt Effects w flow effect t p = inRoutine false w flow t p
-startAt Gives w flow effect t p = inRoutine true w flow t p
-startAt Futures w flow effect t p = cond (ltb p (length (t .statements))) (nextsEffect w flow effect t p) 0
+-- what the future at place p begins with: nothing behind the last statement
+unfoldable pub futureStart : Bool → List ℕ → List ℕ → Table → ℕ → ℕ
+futureStart w flow effect t p = cond (ltb p (length (t .statements))) (nextsEffect w flow effect t p) 0

@@ -1,16 +1,9 @@
 -- The sets that a question begins with, as loops make them. Assumes nothing.
 use Prim.Native.Nat.{ℕ, suc, _+_, _-_, _≤_, _<_}
-use mathlib.Core.Path.{_≡_, sym, ap, ap₂, _∙_}
-use mathlib.Core.Bool.{Bool}
-use mathlib.Core.List.{List}
+use mathlib.Core.Path.{_≡_, ap₂, _∙_}
 use native.Mathlib.Omega.{arith}
 use Rattle.sets.specs.Set.{union}
-use Rattle.table.specs.Table.{Table, statement}
-use Rattle.table.specs.declared.Statement.{Statement}
-use Rattle.report.specs.Over.{unionFrom, unionAt}
-use Rattle.report.specs.Operations.{nexts}
-use Rattle.dataflow.specs.declared.operations.Nexts.{Nexts}
-use Rattle.dataflow.specs.Questions.{asList, effectAt, nextsEffect}
+use Rattle.report.specs.Over.{unionFrom}
 
 -- ---- a union that grows from its last set down
 
@@ -41,10 +34,3 @@ uniting-done {f} {begin} {end} {s} count u h e =
     let same : s ≡ begin = omega (arith, u .low) in
     let left : end - s ≡ count = omega (arith, u .low) in
     u .is ∙ ap₂ (λ (a n : ℕ). unionFrom a n f) same left
-
--- ---- the effects of what may come next, by the cases of what that is
-
-pub nexts-effect-is : (w : Bool) (flow effect : List ℕ) (t : Table) (s : ℕ) {σ : Statement} (r r′ : Nexts) → r ≡ r′ → asList r ≡ nexts s σ → σ ≡ statement t s
-    → unionAt (asList r′) (effectAt w flow effect t) ≡ nextsEffect w flow effect t s
-unfolding nextsEffect
-nexts-effect-is w flow effect t s r r′ e h p = ap (λ (l : List ℕ). unionAt l (effectAt w flow effect t)) (ap asList (sym e) ∙ h ∙ ap (nexts s) p)

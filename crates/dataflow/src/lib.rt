@@ -1,188 +1,145 @@
 // Flow, effects, given-up locks and futures of an accepted table, each the least sets along the edges of its definition, by the one solver.
-// `first`, `handle` and `counts` are the lists of table::first_statements, first_handles and parameter_counts.
+// `first`, `handle` and `counts` are the lists of table::first_statements, first_handles and parameter_counts. `from` and `to` lend the room for
+// the edges, four a statement; what stands in them before does not matter, and what is left in them says nothing.
 mod edges;
-mod operations;
 mod parts;
 mod starts;
 
 ghost use mathlib.Core.Path.{_≡_};
-ghost use mathlib.Core.List.{_++_};
-ghost use Prim.Native.Nat.{_+_, _-_};
-ghost use lib.ListN.{length, replicate};
+ghost use mathlib.Core.Bool.{true, false};
+ghost use Prim.Native.Nat.{_+_, _*_, _≤_};
+ghost use lib.ListN.{length, take};
 ghost use Rattle.table.specs.Header.{handles, routines, statements};
 ghost use Rattle.table.specs.Table.{tableOf};
-ghost use Rattle.table.specs.Tabulate.{tabulate};
 ghost use Rattle.table.specs.LayoutLaws.{Laid};
 ghost use Rattle.table.specs.Accepted.{Accepted};
-ghost use Rattle.report.specs.Over.{leastAlong};
+ghost use Rattle.sets.specs.Least.{least};
 ghost use Rattle.report.specs.Layout.{oneEach};
 ghost use Rattle.report.specs.Flow.{flowSets};
 ghost use Rattle.report.specs.Effect.{effects, gives};
 ghost use Rattle.report.specs.Future.{futures};
-ghost use Rattle.dataflow.specs.Questions.{edgesFor, startAt};
 use sets::Order;
 
-// What is asked of a table.
-pub enum Question {
-    Flow,
-    Effects,
-    Gives,
-    Futures,
+// Makes the sets the least ones along the first `n` edges.
+fn settle(out: &mut [u64], from: &[u16], to: &[u16], n: usize, order: Order)
+    requires { ⌜ (n ≤ length (now from)) × (n ≤ length (now to)) ⌝ }
+    ensures { λ _. ⌜ now (out .exit) ≡ least (take n (now (from .entry))) (take n (now (to .entry))) (now (out .entry)) ⌝ }
+{
+    sets::solve(out, &from[..n], &to[..n], order);
 }
 
-// The order of the edges in which the answer mostly settles fast: things flow on to later routines, the other sets back to earlier ones.
-fn order_of(question: Question) -> Order {
-    match question {
-        Question::Flow => Order::FirstToLast,
-        Question::Effects => Order::LastToFirst,
-        Question::Gives => Order::LastToFirst,
-        Question::Futures => Order::LastToFirst,
-    }
-}
-
-// Leaves in `out` the answer to a question, one set for each place of `out`.
-fn answer(
+// Leaves in `out` the flow set of each handle.
+pub fn flow_sets(
     numbers: &[i32],
     first: &[usize],
     handle: &[usize],
     counts: &[usize],
-    flow: &[u64],
-    effect: &[u64],
-    writes: bool,
-    question: Question,
+    from: &mut [u16],
+    to: &mut [u16],
     out: &mut [u64],
 )
     requires { ⌜ Laid (now numbers) (now first) (now handle) (now counts) ⌝ }
     requires { ⌜ Accepted (tableOf (now numbers)) ⌝ }
-    ensures { λ _. ⌜ now (out .exit) ≡ leastAlong (edgesFor question (tableOf (now (numbers .entry)))) (tabulate (length (now (out .entry))) (startAt question writes (now (flow .entry)) (now (effect .entry)) (tableOf (now (numbers .entry))))) ⌝ }
+    requires { ⌜ (4 * statements (now numbers) ≤ length (now from)) × (4 * statements (now numbers) ≤ length (now to)) ⌝ }
+    requires { ⌜ length (now out) ≡ handles (now numbers) ⌝ }
+    ensures { λ _. ⌜ now (out .exit) ≡ flowSets (tableOf (now (numbers .entry))) (oneEach (tableOf (now (numbers .entry)))) ⌝ }
 {
-    let mut from = [0u16; 2048];
-    let mut to = [0u16; 2048];
-    let n = edges::fill_edges(numbers, first, handle, counts, question, &mut from, &mut to);
-    starts::fill_starts(
-        numbers,
-        first,
-        handle,
-        counts,
-        flow,
-        effect,
-        writes,
-        question,
-        out,
-    );
-    sets::solve(out, &from[..n], &to[..n], order_of(question));
+    let n = edges::fill_flow(numbers, first, handle, counts, from, to);
+    starts::fill_flow(numbers, out);
+    settle(out, from, to, n, Order::FirstToLast);
 }
 
-// The flow set of each handle; zeros behind them.
-pub fn flow_sets(numbers: &[i32], first: &[usize], handle: &[usize], counts: &[usize]) -> [u64; 128]
-    requires { ⌜ Laid (now numbers) (now first) (now handle) (now counts) ⌝ }
-    requires { ⌜ Accepted (tableOf (now numbers)) ⌝ }
-    ensures { λ r. ⌜ r ≡ flowSets (tableOf (now (numbers .entry))) (oneEach (tableOf (now (numbers .entry)))) ++ replicate (128 - handles (now (numbers .entry))) 0 ⌝ }
-{
-    let mut r = [0u64; 128];
-    let none = [0u64; 1];
-    let all = table::counts_of(numbers);
-    let n = all.handles;
-    answer(
-        numbers,
-        first,
-        handle,
-        counts,
-        &none[..],
-        &none[..],
-        false,
-        Question::Flow,
-        &mut r[..n],
-    );
-    r
-}
-
-// The cells that each routine reads or, with `writes`, writes, with those of all it CALLs or STARTs; zeros behind them.
+// Leaves in `reads` and `writes` the cells that each routine reads and writes, with those of all it CALLs or STARTs.
 pub fn effect_sets(
     numbers: &[i32],
     first: &[usize],
     handle: &[usize],
     counts: &[usize],
     flow: &[u64],
-    writes: bool,
-) -> [u64; 32]
+    from: &mut [u16],
+    to: &mut [u16],
+    reads: &mut [u64],
+    writes: &mut [u64],
+)
     requires { ⌜ Laid (now numbers) (now first) (now handle) (now counts) ⌝ }
     requires { ⌜ Accepted (tableOf (now numbers)) ⌝ }
-    ensures { λ r. ⌜ r ≡ effects (tableOf (now (numbers .entry))) (oneEach (tableOf (now (numbers .entry)))) (now (flow .entry)) writes ++ replicate (32 - routines (now (numbers .entry))) 0 ⌝ }
+    requires { ⌜ (4 * statements (now numbers) ≤ length (now from)) × (4 * statements (now numbers) ≤ length (now to)) ⌝ }
+    requires { ⌜ (length (now reads) ≡ routines (now numbers)) × (length (now writes) ≡ routines (now numbers)) ⌝ }
+    ensures reads { λ _. ⌜ now (reads .exit) ≡ effects (tableOf (now (numbers .entry))) (oneEach (tableOf (now (numbers .entry)))) (now (flow .entry)) false ⌝ }
+    ensures writes { λ _. ⌜ now (writes .exit) ≡ effects (tableOf (now (numbers .entry))) (oneEach (tableOf (now (numbers .entry)))) (now (flow .entry)) true ⌝ }
 {
-    let mut r = [0u64; 32];
-    let all = table::counts_of(numbers);
-    let n = all.routines;
-    answer(
-        numbers,
-        first,
-        handle,
-        counts,
-        flow,
-        flow,
-        writes,
-        Question::Effects,
-        &mut r[..n],
-    );
-    r
+    let n = edges::fill_up(numbers, first, handle, counts, true, from, to);
+    starts::fill_own(numbers, first, handle, counts, flow, false, false, reads);
+    settle(reads, from, to, n, Order::LastToFirst);
+    starts::fill_own(numbers, first, handle, counts, flow, false, true, writes);
+    settle(writes, from, to, n, Order::LastToFirst);
 }
 
-// The locks that each routine, or what it reaches by CALLs, may give up; zeros behind them.
+// Leaves in `out` the locks that each routine, or what it reaches by CALLs, may give up.
 pub fn given_sets(
     numbers: &[i32],
     first: &[usize],
     handle: &[usize],
     counts: &[usize],
     flow: &[u64],
-) -> [u64; 32]
+    from: &mut [u16],
+    to: &mut [u16],
+    out: &mut [u64],
+)
     requires { ⌜ Laid (now numbers) (now first) (now handle) (now counts) ⌝ }
     requires { ⌜ Accepted (tableOf (now numbers)) ⌝ }
-    ensures { λ r. ⌜ r ≡ gives (tableOf (now (numbers .entry))) (oneEach (tableOf (now (numbers .entry)))) (now (flow .entry)) ++ replicate (32 - routines (now (numbers .entry))) 0 ⌝ }
+    requires { ⌜ (4 * statements (now numbers) ≤ length (now from)) × (4 * statements (now numbers) ≤ length (now to)) ⌝ }
+    requires { ⌜ length (now out) ≡ routines (now numbers) ⌝ }
+    ensures { λ _. ⌜ now (out .exit) ≡ gives (tableOf (now (numbers .entry))) (oneEach (tableOf (now (numbers .entry)))) (now (flow .entry)) ⌝ }
 {
-    let mut r = [0u64; 32];
-    let all = table::counts_of(numbers);
-    let n = all.routines;
-    answer(
-        numbers,
-        first,
-        handle,
-        counts,
-        flow,
-        flow,
-        false,
-        Question::Gives,
-        &mut r[..n],
-    );
-    r
+    let n = edges::fill_up(numbers, first, handle, counts, false, from, to);
+    starts::fill_own(numbers, first, handle, counts, flow, true, false, out);
+    settle(out, from, to, n, Order::LastToFirst);
 }
 
-// The future of each statement, and behind them that of the CALLs of each routine: the cells read or, with `writes`, written; zeros behind them.
+// Leaves in `later_reads` and `later_writes` the future of each statement, and behind them that of the CALLs of each routine: the cells that are
+// read and written; `reads` and `writes` are the effects.
 pub fn future_sets(
     numbers: &[i32],
     first: &[usize],
     handle: &[usize],
     counts: &[usize],
     flow: &[u64],
-    effect: &[u64],
-    writes: bool,
-) -> [u64; 544]
+    reads: &[u64],
+    writes: &[u64],
+    from: &mut [u16],
+    to: &mut [u16],
+    later_reads: &mut [u64],
+    later_writes: &mut [u64],
+)
     requires { ⌜ Laid (now numbers) (now first) (now handle) (now counts) ⌝ }
     requires { ⌜ Accepted (tableOf (now numbers)) ⌝ }
-    ensures { λ r. ⌜ r ≡ futures (tableOf (now (numbers .entry))) (oneEach (tableOf (now (numbers .entry)))) (now (flow .entry)) (now (effect .entry)) writes ++ replicate (544 - (statements (now (numbers .entry)) + routines (now (numbers .entry)))) 0 ⌝ }
+    requires { ⌜ (4 * statements (now numbers) ≤ length (now from)) × (4 * statements (now numbers) ≤ length (now to)) ⌝ }
+    requires { ⌜ (length (now «later_reads») ≡ statements (now numbers) + routines (now numbers)) × (length (now «later_writes») ≡ statements (now numbers) + routines (now numbers)) ⌝ }
+    ensures reads { λ _. ⌜ now («later_reads» .exit) ≡ futures (tableOf (now (numbers .entry))) (oneEach (tableOf (now (numbers .entry)))) (now (flow .entry)) (now (reads .entry)) false ⌝ }
+    ensures writes { λ _. ⌜ now («later_writes» .exit) ≡ futures (tableOf (now (numbers .entry))) (oneEach (tableOf (now (numbers .entry)))) (now (flow .entry)) (now (writes .entry)) true ⌝ }
 {
-    let mut r = [0u64; 544];
-    let all = table::counts_of(numbers);
-    let n = all.statements + all.routines;
-    answer(
+    let n = edges::fill_future(numbers, first, handle, counts, from, to);
+    starts::fill_future(
         numbers,
         first,
         handle,
         counts,
         flow,
-        effect,
-        writes,
-        Question::Futures,
-        &mut r[..n],
+        reads,
+        false,
+        later_reads,
     );
-    r
+    settle(later_reads, from, to, n, Order::LastToFirst);
+    starts::fill_future(
+        numbers,
+        first,
+        handle,
+        counts,
+        flow,
+        writes,
+        true,
+        later_writes,
+    );
+    settle(later_writes, from, to, n, Order::LastToFirst);
 }

@@ -1,47 +1,93 @@
 // The sets that a question begins with.
 ghost use mathlib.Core.Path.{_≡_};
-ghost use Prim.Native.Nat.{_<_, _^_};
+ghost use Prim.Native.Nat.{_<_, _≤_};
 ghost use lib.ListN.{length};
-ghost use Rattle.table.specs.Header.{statements};
-ghost use Rattle.table.specs.Table.{tableOf, routine, statement};
+ghost use Rattle.table.specs.Header.{handles, routines, statements};
+ghost use Rattle.table.specs.Table.{tableOf, statement};
 ghost use Rattle.table.specs.Tabulate.{tabulate};
 ghost use Rattle.table.specs.LayoutLaws.{Laid};
+ghost use Rattle.table.specs.Accepted.{Accepted};
 ghost use Rattle.report.specs.Flow.{startOf};
-ghost use Rattle.dataflow.specs.Questions.{ownSet, inRoutine, effectAt, nextsEffect, startAt};
-use crate::Question;
-use crate::operations::Nexts;
-use crate::operations::accessed_by;
-use crate::operations::given_by;
-use crate::operations::naming_of;
-use crate::operations::nexts_of;
-use crate::operations::routine_in;
-use crate::parts::declaration_at;
-use crate::parts::routine_at;
+ghost use Rattle.dataflow.specs.Questions.{operationOf, ownSet, inRoutine, effectAt, nextsEffect, futureStart};
+ghost use Rattle.dataflow.specs.LineLaws.{Lined};
+ghost use Rattle.dataflow.specs.RoutineLaws.{Firsts};
+use crate::parts::entry_at;
+use crate::parts::first_line;
 use crate::parts::set_at;
-use crate::parts::statement_at;
 
 // What the set of handle `h` begins with: a local's start.
 fn flow_start(numbers: &[i32], h: usize) -> u64
+    requires { ⌜ (h < handles (now numbers)) × (handles (now numbers) ≤ 128) ⌝ }
     ensures { λ r. ⌜ r ≡ startOf (tableOf (now (numbers .entry))) h ⌝ }
 {
-    let d = declaration_at(numbers, h);
-    if d.origin == 1 { sets::one(d.start) } else { 0 }
+    let line = 1 + h;
+    if table::field_of(numbers, line, 3) == 1 {
+        return sets::one(table::field_of(numbers, line, 4));
+    }
+    0
 }
 
-// The locks that statement `s` itself may give up, or the cells that it reads or writes.
-fn own_set(numbers: &[i32], flow: &[u64], locks: bool, writes: bool, s: usize) -> u64
+// Fills the list with what the flow sets begin with.
+pub fn fill_flow(numbers: &[i32], out: &mut [u64])
+    requires { ⌜ (length (now out) ≡ handles (now numbers)) × (handles (now numbers) ≤ 128) ⌝ }
+    ensures { λ _. ⌜ now (out .exit) ≡ tabulate (length (now (out .entry))) (startOf (tableOf (now (numbers .entry)))) ⌝ }
+{
+    let mut h = 0;
+    while h < out.len() {
+        out[h] = flow_start(numbers, h);
+        h += 1;
+    }
+}
+
+// The number of GIVE, WRITE or READ.
+fn operation_of(locks: bool, writes: bool) -> usize
+    ensures { λ r. ⌜ r ≡ operationOf locks writes ⌝ }
+{
+    if locks {
+        return 6;
+    }
+    if writes { 2 } else { 1 }
+}
+
+// The locks that statement `s` itself may give up, or the cells that it reads or writes; `base` is the line of statement 0.
+fn own_set(numbers: &[i32], base: usize, flow: &[u64], locks: bool, writes: bool, s: usize) -> u64
+    requires { ⌜ Lined (now numbers) base × (s < statements (now numbers)) ⌝ }
     ensures { λ r. ⌜ r ≡ ownSet locks writes (now (flow .entry)) (statement (tableOf (now (numbers .entry))) s) ⌝ }
 {
-    let statement = statement_at(numbers, s);
-    if locks {
-        given_by(flow, statement)
-    } else {
-        accessed_by(flow, statement, 0, writes)
+    let line = base + s;
+    if table::field_of(numbers, line, 1) == operation_of(locks, writes) {
+        return set_at(flow, table::field_of(numbers, line, 2));
     }
+    0
 }
 
 // The union of these over the statements of routine `r`.
 fn in_routine(
+    numbers: &[i32],
+    first: &[usize],
+    base: usize,
+    flow: &[u64],
+    locks: bool,
+    writes: bool,
+    r: usize,
+) -> u64
+    requires { ⌜ Firsts (now numbers) (now first) ⌝ }
+    requires { ⌜ Accepted (tableOf (now numbers)) ⌝ }
+    requires { ⌜ Lined (now numbers) base × (r < routines (now numbers)) ⌝ }
+    ensures { λ x. ⌜ x ≡ inRoutine locks writes (now (flow .entry)) (tableOf (now (numbers .entry))) r ⌝ }
+{
+    let begin = entry_at(first, r);
+    let mut s = entry_at(first, r + 1);
+    let mut all = 0u64;
+    while begin < s {
+        s -= 1;
+        all = sets::union(own_set(numbers, base, flow, locks, writes, s), all);
+    }
+    all
+}
+
+// Fills the list with these unions, one for each routine.
+pub fn fill_own(
     numbers: &[i32],
     first: &[usize],
     handle: &[usize],
@@ -49,71 +95,107 @@ fn in_routine(
     flow: &[u64],
     locks: bool,
     writes: bool,
-    r: usize,
-) -> u64
+    out: &mut [u64],
+)
     requires { ⌜ Laid (now numbers) (now first) (now handle) (now counts) ⌝ }
-    ensures { λ x. ⌜ x ≡ inRoutine locks writes (now (flow .entry)) (tableOf (now (numbers .entry))) r ⌝ }
+    requires { ⌜ Accepted (tableOf (now numbers)) ⌝ }
+    requires { ⌜ length (now out) ≡ routines (now numbers) ⌝ }
+    ensures { λ _. ⌜ now (out .exit) ≡ tabulate (length (now (out .entry))) (inRoutine locks writes (now (flow .entry)) (tableOf (now (numbers .entry)))) ⌝ }
 {
-    let part = routine_at(numbers, first, handle, counts, r);
-    let begin = part.first;
-    let mut s = begin + part.count;
-    let mut all = 0u64;
-    while begin < s {
-        s -= 1;
-        all = sets::union(own_set(numbers, flow, locks, writes, s), all);
+    let base = first_line(numbers);
+    let mut r = 0;
+    while r < out.len() {
+        out[r] = in_routine(numbers, first, base, flow, locks, writes, r);
+        r += 1;
     }
-    all
 }
 
-// The effect of statement `s`.
-fn effect_at(numbers: &[i32], flow: &[u64], effect: &[u64], writes: bool, s: usize) -> u64
+// The effect of statement `s`; nothing if it is not below `end`, the number of statements.
+fn effect_at(
+    numbers: &[i32],
+    base: usize,
+    end: usize,
+    flow: &[u64],
+    effect: &[u64],
+    writes: bool,
+    s: usize,
+) -> u64
+    requires { ⌜ Lined (now numbers) base × (end ≡ statements (now numbers)) ⌝ }
     ensures { λ r. ⌜ r ≡ effectAt writes (now (flow .entry)) (now (effect .entry)) (tableOf (now (numbers .entry))) s ⌝ }
 {
-    let statement = statement_at(numbers, s);
-    let naming = naming_of(statement);
-    accessed_by(flow, statement, set_at(effect, routine_in(naming)), writes)
+    if end <= s {
+        return 0;
+    }
+    let line = base + s;
+    let operation = table::field_of(numbers, line, 1);
+    if operation == operation_of(false, writes) {
+        return set_at(flow, table::field_of(numbers, line, 2));
+    }
+    if operation < 8 {
+        return 0;
+    }
+    if operation < 10 {
+        return set_at(effect, table::field_of(numbers, line, 2));
+    }
+    0
 }
 
 // The effects of the statements that may come after statement `s`.
-fn nexts_effect(numbers: &[i32], flow: &[u64], effect: &[u64], writes: bool, s: usize) -> u64
-    requires { ⌜ s < 2 ^ 32 ⌝ }
+fn nexts_effect(
+    numbers: &[i32],
+    base: usize,
+    end: usize,
+    flow: &[u64],
+    effect: &[u64],
+    writes: bool,
+    s: usize,
+) -> u64
+    requires { ⌜ Lined (now numbers) base × (end ≡ statements (now numbers)) × (s < statements (now numbers)) ⌝ }
     ensures { λ r. ⌜ r ≡ nextsEffect writes (now (flow .entry)) (now (effect .entry)) (tableOf (now (numbers .entry))) s ⌝ }
 {
-    let next = nexts_of(s, statement_at(numbers, s));
-    match next {
-        Nexts::Zero => 0,
-        Nexts::One(a) => sets::union(effect_at(numbers, flow, effect, writes, a), 0),
-        Nexts::Two(a, b) => {
-            let x = effect_at(numbers, flow, effect, writes, a);
-            let y = sets::union(effect_at(numbers, flow, effect, writes, b), 0);
-            sets::union(x, y)
-        }
+    let line = base + s;
+    let operation = table::field_of(numbers, line, 1);
+    if operation == 0 {
+        return 0;
     }
+    if operation < 10 {
+        return effect_at(numbers, base, end, flow, effect, writes, s + 1);
+    }
+    if 11 < operation {
+        return 0;
+    }
+    let target = table::field_of(numbers, line, 2);
+    let there = effect_at(numbers, base, end, flow, effect, writes, target);
+    if operation == 10 {
+        return there;
+    }
+    sets::union(
+        there,
+        effect_at(numbers, base, end, flow, effect, writes, s + 1),
+    )
 }
 
 // What the future at place `p` begins with: the effects of what may come next, and nothing behind the last statement.
 fn future_start(
     numbers: &[i32],
-    first: &[usize],
-    handle: &[usize],
-    counts: &[usize],
+    base: usize,
+    end: usize,
     flow: &[u64],
     effect: &[u64],
     writes: bool,
     p: usize,
 ) -> u64
-    requires { ⌜ Laid (now numbers) (now first) (now handle) (now counts) ⌝ }
-    ensures { λ r. ⌜ r ≡ startAt Question.Futures writes (now (flow .entry)) (now (effect .entry)) (tableOf (now (numbers .entry))) p ⌝ }
+    requires { ⌜ Lined (now numbers) base × (end ≡ statements (now numbers)) ⌝ }
+    ensures { λ r. ⌜ r ≡ futureStart writes (now (flow .entry)) (now (effect .entry)) (tableOf (now (numbers .entry))) p ⌝ }
 {
-    let all = table::counts_of(numbers);
-    if p < all.statements {
-        return nexts_effect(numbers, flow, effect, writes, p);
+    if p < end {
+        return nexts_effect(numbers, base, end, flow, effect, writes, p);
     }
     0
 }
 
-// What the set at place `p` begins with.
-fn start_at(
+// Fills the list with what futures begin with.
+pub fn fill_future(
     numbers: &[i32],
     first: &[usize],
     handle: &[usize],
@@ -121,50 +203,16 @@ fn start_at(
     flow: &[u64],
     effect: &[u64],
     writes: bool,
-    question: Question,
-    p: usize,
-) -> u64
-    requires { ⌜ Laid (now numbers) (now first) (now handle) (now counts) ⌝ }
-    ensures { λ r. ⌜ r ≡ startAt question writes (now (flow .entry)) (now (effect .entry)) (tableOf (now (numbers .entry))) p ⌝ }
-{
-    match question {
-        Question::Flow => flow_start(numbers, p),
-        Question::Effects => in_routine(numbers, first, handle, counts, flow, false, writes, p),
-        Question::Gives => in_routine(numbers, first, handle, counts, flow, true, writes, p),
-        Question::Futures => {
-            future_start(numbers, first, handle, counts, flow, effect, writes, p)
-        }
-    }
-}
-
-// Fills the list with the sets that a question begins with.
-pub fn fill_starts(
-    numbers: &[i32],
-    first: &[usize],
-    handle: &[usize],
-    counts: &[usize],
-    flow: &[u64],
-    effect: &[u64],
-    writes: bool,
-    question: Question,
     out: &mut [u64],
 )
     requires { ⌜ Laid (now numbers) (now first) (now handle) (now counts) ⌝ }
-    ensures { λ _. ⌜ now (out .exit) ≡ tabulate (length (now (out .entry))) (startAt question writes (now (flow .entry)) (now (effect .entry)) (tableOf (now (numbers .entry)))) ⌝ }
+    ensures { λ _. ⌜ now (out .exit) ≡ tabulate (length (now (out .entry))) (futureStart writes (now (flow .entry)) (now (effect .entry)) (tableOf (now (numbers .entry)))) ⌝ }
 {
+    let base = first_line(numbers);
+    let end = table::field_of(numbers, 0, 5);
     let mut p = 0;
     while p < out.len() {
-        out[p] = start_at(
-            numbers,
-            first,
-            handle,
-            counts,
-            flow,
-            effect,
-            writes,
-            question,
-            p,
-        );
+        out[p] = future_start(numbers, base, end, flow, effect, writes, p);
         p += 1;
     }
 }

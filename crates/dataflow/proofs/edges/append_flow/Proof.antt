@@ -1,163 +1,91 @@
--- `dataflow::edges::append_flow` meets its contract: one operation an arm. Assumes nothing.
+-- `dataflow::edges::append_flow` meets its contract. Assumes nothing.
+use Rattle.table.specs.Header.{routines}
+use Rattle.dataflow.specs.RoutineLaws.{passing-parts}
+use Rattle.dataflow.specs.LineLaws.{flow-before, flow-point, flow-naming, flow-after, names-routine, passingFrom}
+use Rattle.dataflow.specs.EdgeLaws.{appended-same, appended-none}
+use Rattle.dataflow.specs.Questions.{edge, edgesAt}
+use Rattle.report.specs.Flow.{passing}
 use Rattle.report.specs.Layout.{oneEach}
-use Rattle.report.specs.Flow.{passing, flowEdges}
-use Rattle.dataflow.specs.EdgeLaws.{appended-none}
+use Rattle.report.specs.Over.{Edge}
+use Rattle.table.specs.Table.{tableOf, argumentsIn}
+use denote.Ref.{now}
+use mathlib.Core.List.{List, [], _∷_}
+use Prim.Native.Nat.{ℕ, _+_, _<_}
+use mathlib.Core.Path.{sym, ap, ap₂, _∙_}
+use native.Mathlib.Omega.{arith}
 use borrow.Author.Needs.{needs}
 use Rattle.dataflow.proofs.edges.append_flow.Statement.{statement}
 use Rattle.dataflow.proofs.edges.append_flow.Tie as tie
-use Rattle.dataflow.proofs.edges.append_flow.Reads as reads
-use Rattle.dataflow.proofs.edges.append_flow.Lts as lts
-use Rattle.dataflow.proofs.edges.append.Reads as append-reads
-use Rattle.dataflow.proofs.edges.append_passing.Reads as append-passing-reads
 
--- src/edges.rt:87:31
-enum-told : tie.Need-enum-told
-enum-told c = search needs
+add-line : tie.Need-add-line
+add-line c = search needs
 
--- src/edges.rt:88:32
-enum-told-2 : tie.Need-enum-told-2
-enum-told-2 c = search needs
+field-of-requires : tie.Need-field-of-requires
+field-of-requires c κs = search needs
 
--- src/edges.rt:89:30
-enum-told-3 : tie.Need-enum-told-3
-enum-told-3 c = search needs
+returns : tie.Need-returns
+unfolding edgesAt
+returns c = appended-same _ _ (flow-before _ _ (c .before .before .before .before .before .before .before .pre .1 .1 .0) _ (c .before .before .before .before .before .before .before .pre .1 .1 .1) (omega (arith, c .before .field-of .ensures .0, c .if1 .taken))) appended-none
 
--- src/edges.rt:90:30
-enum-told-4 : tie.Need-enum-told-4
-enum-told-4 c = search needs
+field-of-requires-2 : tie.Need-field-of-requires-2
+field-of-requires-2 c κs = search needs
 
--- src/edges.rt:91:31
-enum-told-5 : tie.Need-enum-told-5
-enum-told-5 c = search needs
+field-of-requires-3 : tie.Need-field-of-requires-3
+field-of-requires-3 c κs = search needs
 
--- src/edges.rt:92:31
-enum-told-6 : tie.Need-enum-told-6
-enum-told-6 c = search needs
-
--- src/edges.rt:93:36
-enum-known-statement : tie.Need-enum-known-statement
-enum-known-statement c = search needs
-
--- src/edges.rt:93:52
 append-requires : tie.Need-append-requires
 append-requires c κs = search needs
 
--- src/edges.rt:94:27
-enum-known-statement-2 : tie.Need-enum-known-statement-2
-enum-known-statement-2 c = search needs
+same-length : tie.Need-same-length
+same-length c = search needs
 
--- src/edges.rt:95:13
-append-passing-requires : tie.Need-append-passing-requires
-append-passing-requires c κs = search needs
+same-length-2 : tie.Need-same-length-2
+same-length-2 c = search needs
 
--- src/edges.rt:107:28
-enum-known-statement-3 : tie.Need-enum-known-statement-3
-enum-known-statement-3 c = search needs
-
--- src/edges.rt:108:13
-append-passing-requires-2 : tie.Need-append-passing-requires-2
-append-passing-requires-2 c κs = search needs
-
--- src/edges.rt:120:31
-enum-told-7 : tie.Need-enum-told-7
-enum-told-7 c = search needs
-
--- src/edges.rt:121:35
-enum-told-8 : tie.Need-enum-told-8
-enum-told-8 c = search needs
-
--- src/edges.rt:122:30
-enum-told-9 : tie.Need-enum-told-9
-enum-told-9 c = search needs
-
--- src/edges.rt:72:1
-returns : tie.Need-returns
-unfolding flowEdges
-returns c = rw (c .enum-told .given .1) appended-none
-
--- src/edges.rt:72:1
 returns-2 : tie.Need-returns-2
-unfolding flowEdges
-returns-2 c = rw (c .enum-told2 .given .1) appended-none
+unfolding edgesAt
+returns-2 c = appended-same _ _ (ap₂ {C = List Edge} (λ (x y : ℕ). edge x y ∷ []) (c .before .before .before .before .before .field-of3 .ensures .0) (c .before .before .before .before .before .before .before .before .before .field-of2 .ensures .0) ∙ flow-point _ _ (c .before .before .before .before .before .before .before .before .before .before .before .before .before .before .before .before .before .pre .1 .1 .0) _ (c .before .before .before .before .before .before .before .before .before .before .before .before .before .before .before .before .before .pre .1 .1 .1) (sym (c .before .before .before .before .before .before .before .before .before .before .before .field-of .ensures .0) ∙ c .before .before .before .before .before .before .before .before .if2 .taken)) (c .before .before .before .before .append .ensures)
 
--- src/edges.rt:72:1
+entry-at-requires : tie.Need-entry-at-requires
+entry-at-requires c κs = search needs
+
+entry-at-requires-2 : tie.Need-entry-at-requires-2
+entry-at-requires-2 c κs = search needs
+
+append-passing-requires : tie.Need-append-passing-requires
+append-passing-requires c κs = let there : c .before .before .before .before .before .before .field-of2 .result < routines (now (c .before .before .before .before .before .before .before .before .before .before .before .before .before .before .args .numbers)) = omega (arith, c .before .before .before .before .before .before .field-of2 .ensures .0, names-routine _ _ (c .before .before .before .before .before .before .before .before .before .before .before .before .before .before .pre .1 .1 .0) _ (c .before .before .before .before .before .before .before .before .before .before .before .before .before .before .pre .1 .1 .1) (c .before .before .before .before .before .before .before .before .before .before .before .before .before .before .pre .1 .0) (omega (arith, c .before .before .before .before .before .before .before .before .field-of .ensures .0, c .before .before .before .before .before .before .before .if1 .left)) (λ e. c .before .before .before .before .before .if2 .left (c .before .before .before .before .before .before .before .before .field-of .ensures .0 ∙ e)) (omega (arith, c .before .before .before .before .before .before .before .before .field-of .ensures .0, c .before .before .before .before .if3 .taken))) in let parts = passing-parts _ (c .before .before .before .before .before .before .before .before .before .before .before .before .before .before .pre .1 .0) _ _ _ (c .before .before .before .before .before .before .before .before .before .before .before .before .before .before .pre .0) (c .before .before .before .before .before .before .field-of2 .result) there (c .before .before .before .before .before .before .before .before .before .before .before .before .before .before .args .base + c .before .before .before .before .before .before .before .before .before .before .before .before .before .before .args .s) in (omega (arith, parts .small, c .before .before .before .entry-at .ensures), omega (arith, parts .few, c .before .before .entry-at2 .ensures))
+
+same-length-3 : tie.Need-same-length-3
+same-length-3 c = search needs
+
+same-length-4 : tie.Need-same-length-4
+same-length-4 c = search needs
+
 returns-3 : tie.Need-returns-3
-unfolding flowEdges
-returns-3 c = rw (c .enum-told3 .given .1) appended-none
+unfolding edgesAt
+returns-3 c = let there : c .before .before .before .before .before .before .before .before .before .before .before .field-of2 .result < routines (now (c .before .before .before .before .before .before .before .before .before .before .before .before .before .before .before .before .before .before .before .args .numbers)) = omega (arith, c .before .before .before .before .before .before .before .before .before .before .before .field-of2 .ensures .0, names-routine _ _ (c .before .before .before .before .before .before .before .before .before .before .before .before .before .before .before .before .before .before .before .pre .1 .1 .0) _ (c .before .before .before .before .before .before .before .before .before .before .before .before .before .before .before .before .before .before .before .pre .1 .1 .1) (c .before .before .before .before .before .before .before .before .before .before .before .before .before .before .before .before .before .before .before .pre .1 .0) (omega (arith, c .before .before .before .before .before .before .before .before .before .before .before .before .before .field-of .ensures .0, c .before .before .before .before .before .before .before .before .before .before .before .before .if1 .left)) (λ e. c .before .before .before .before .before .before .before .before .before .before .if2 .left (c .before .before .before .before .before .before .before .before .before .before .before .before .before .field-of .ensures .0 ∙ e)) (omega (arith, c .before .before .before .before .before .before .before .before .before .before .before .before .before .field-of .ensures .0, c .before .before .before .before .before .before .before .before .before .if3 .taken))) in let parts = passing-parts _ (c .before .before .before .before .before .before .before .before .before .before .before .before .before .before .before .before .before .before .before .pre .1 .0) _ _ _ (c .before .before .before .before .before .before .before .before .before .before .before .before .before .before .before .before .before .before .before .pre .0) (c .before .before .before .before .before .before .before .before .before .before .before .field-of2 .result) there (c .before .before .before .before .before .before .before .before .before .before .before .before .before .before .before .before .before .before .before .args .base + c .before .before .before .before .before .before .before .before .before .before .before .before .before .before .before .before .before .before .before .args .s) in let f = now (c .before .before .before .before .before .before .before .before .before .before .before .before .before .before .before .before .before .before .before .args .numbers) in appended-same _ _ (ap₂ {C = List Edge} (passingFrom f (c .before .before .before .before .before .before .before .before .before .before .before .before .before .before .before .before .before .before .before .args .base + c .before .before .before .before .before .before .before .before .before .before .before .before .before .before .before .before .before .before .before .args .s)) (c .before .before .before .before .before .before .before .before .entry-at .ensures) (c .before .before .before .before .before .before .before .entry-at2 .ensures) ∙ parts .is ∙ ap {B = List Edge} (λ (q : ℕ). passing (tableOf f) (oneEach (tableOf f)) 0 0 q (argumentsIn f (c .before .before .before .before .before .before .before .before .before .before .before .before .before .before .before .before .before .before .before .args .base + c .before .before .before .before .before .before .before .before .before .before .before .before .before .before .before .before .before .before .before .args .s))) (c .before .before .before .before .before .before .before .before .before .before .before .field-of2 .ensures .0) ∙ flow-naming _ _ (c .before .before .before .before .before .before .before .before .before .before .before .before .before .before .before .before .before .before .before .pre .1 .1 .0) _ (c .before .before .before .before .before .before .before .before .before .before .before .before .before .before .before .before .before .before .before .pre .1 .1 .1) (omega (arith, c .before .before .before .before .before .before .before .before .before .before .before .before .before .field-of .ensures .0, c .before .before .before .before .before .before .before .before .before .before .before .before .if1 .left)) (λ e. c .before .before .before .before .before .before .before .before .before .before .if2 .left (c .before .before .before .before .before .before .before .before .before .before .before .before .before .field-of .ensures .0 ∙ e)) (omega (arith, c .before .before .before .before .before .before .before .before .before .before .before .before .before .field-of .ensures .0, c .before .before .before .before .before .before .before .before .before .if3 .taken))) (c .before .before .before .before .append-passing .ensures)
 
--- src/edges.rt:72:1
 returns-4 : tie.Need-returns-4
-unfolding flowEdges
-returns-4 c = rw (c .enum-told4 .given .1) appended-none
-
--- src/edges.rt:72:1
-returns-5 : tie.Need-returns-5
-unfolding flowEdges
-returns-5 c = rw (c .enum-told5 .given .1) appended-none
-
--- src/edges.rt:72:1
-returns-6 : tie.Need-returns-6
-unfolding flowEdges
-returns-6 c = rw (c .enum-told6 .given .1) appended-none
-
--- src/edges.rt:72:1
-returns-7 : tie.Need-returns-7
-unfolding flowEdges oneEach
-returns-7 c = rw (c .before .before .before .before .statement .given .1) (c .append .ensures)
-
--- src/edges.rt:72:1
-returns-8 : tie.Need-returns-8
-unfolding flowEdges oneEach passing
-returns-8 c = rw (c .before .before .before .before .statement2 .given .1) (c .append-passing .ensures)
-
--- src/edges.rt:72:1
-returns-9 : tie.Need-returns-9
-unfolding flowEdges oneEach passing
-returns-9 c = rw (c .before .before .before .before .statement3 .given .1) (c .append-passing2 .ensures)
-
--- src/edges.rt:72:1
-returns-10 : tie.Need-returns-10
-unfolding flowEdges
-returns-10 c = rw (c .enum-told7 .given .1) appended-none
-
--- src/edges.rt:72:1
-returns-11 : tie.Need-returns-11
-unfolding flowEdges
-returns-11 c = rw (c .enum-told8 .given .1) appended-none
-
--- src/edges.rt:72:1
-returns-12 : tie.Need-returns-12
-unfolding flowEdges
-returns-12 c = rw (c .enum-told9 .given .1) appended-none
+unfolding edgesAt
+returns-4 c = appended-same _ _ (flow-after _ _ (c .before .before .before .before .before .before .before .before .before .before .pre .1 .1 .0) _ (c .before .before .before .before .before .before .before .before .before .before .pre .1 .1 .1) (omega (arith, c .before .before .before .before .field-of .ensures .0, c .if3 .left))) appended-none
 
 pub append-flow-spec : {M : Type 1} → statement M
 append-flow-spec =
     tie.close
     (tie.spec
-    enum-told
-    enum-told-2
-    enum-told-3
-    enum-told-4
-    enum-told-5
-    enum-told-6
-    enum-known-statement
-    append-requires
-    enum-known-statement-2
-    append-passing-requires
-    enum-known-statement-3
-    append-passing-requires-2
-    enum-told-7
-    enum-told-8
-    enum-told-9
+    add-line
+    field-of-requires
     returns
+    field-of-requires-2
+    field-of-requires-3
+    append-requires
+    same-length
+    same-length-2
     returns-2
+    entry-at-requires
+    entry-at-requires-2
+    append-passing-requires
+    same-length-3
+    same-length-4
     returns-3
-    returns-4
-    returns-5
-    returns-6
-    returns-7
-    returns-8
-    returns-9
-    returns-10
-    returns-11
-    returns-12)
+    returns-4)

@@ -1,69 +1,93 @@
 -- `dataflow::edges::append_nexts` meets its contract. Assumes nothing.
-use Rattle.dataflow.specs.Questions.{asList}
+use Rattle.dataflow.specs.LineLaws.{next-no-operation, next-on, next-return, next-jump, next-both}
 use Rattle.dataflow.specs.EdgeLaws.{appended-same, appended-none, appended-both}
-use Rattle.dataflow.specs.NamingLaws.{next-edges}
+use Rattle.dataflow.specs.Questions.{edge}
+use Rattle.report.specs.Over.{Edge}
+use mathlib.Core.List.{List, [], _∷_, _++_}
+use Prim.Native.Nat.{ℕ, _+_}
+use mathlib.Core.Path.{sym, ap, _∙_}
+use native.Mathlib.Omega.{arith}
 use borrow.Author.Needs.{needs}
 use Rattle.dataflow.proofs.edges.append_nexts.Statement.{statement}
 use Rattle.dataflow.proofs.edges.append_nexts.Tie as tie
-use Rattle.dataflow.proofs.edges.append_nexts.Reads as reads
-use Rattle.dataflow.proofs.edges.append_nexts.Lts as lts
-use Rattle.dataflow.proofs.edges.append.Reads as append-reads
-use Rattle.dataflow.proofs.operations.nexts_of.Reads as nexts-of-reads
 
--- src/edges.rt:156:9
-nexts-of-requires : tie.Need-nexts-of-requires
-nexts-of-requires c κs = search needs
+add-line : tie.Need-add-line
+add-line c = search needs
 
--- src/edges.rt:158:24
-enum-told : tie.Need-enum-told
-enum-told c = search needs
+field-of-requires : tie.Need-field-of-requires
+field-of-requires c κs = search needs
 
--- src/edges.rt:159:20
-enum-known-next : tie.Need-enum-known-next
-enum-known-next c = search needs
+returns : tie.Need-returns
+returns c = appended-same _ _ (next-no-operation _ _ (c .before .before .before .before .pre .0) _ (c .before .before .before .before .pre .1) (sym (c .before .field-of .ensures .0) ∙ c .if1 .taken)) appended-none
 
--- src/edges.rt:159:26
+add-append : tie.Need-add-append
+add-append c = search needs
+
 append-requires : tie.Need-append-requires
 append-requires c κs = search needs
 
--- src/edges.rt:160:20
-enum-known-next-2 : tie.Need-enum-known-next-2
-enum-known-next-2 c = search needs
+same-length : tie.Need-same-length
+same-length c = search needs
 
--- src/edges.rt:161:17
+same-length-2 : tie.Need-same-length-2
+same-length-2 c = search needs
+
+returns-2 : tie.Need-returns-2
+returns-2 c = appended-same _ _ (next-on _ _ (c .before .before .before .before .before .before .before .before .before .before .before .before .pre .0) _ (c .before .before .before .before .before .before .before .before .before .before .before .before .pre .1) (λ e. c .before .before .before .before .before .before .before .before .if1 .left (c .before .before .before .before .before .before .before .before .before .field-of .ensures .0 ∙ e)) (omega (arith, c .before .before .before .before .before .before .before .before .before .field-of .ensures .0, c .before .before .before .before .before .before .before .if2 .taken))) (c .before .before .before .before .append .ensures)
+
+returns-3 : tie.Need-returns-3
+returns-3 c = appended-same _ _ (next-return _ _ (c .before .before .before .before .before .before .pre .0) _ (c .before .before .before .before .before .before .pre .1) (omega (arith, c .before .before .before .field-of .ensures .0, c .if3 .taken))) appended-none
+
+field-of-requires-2 : tie.Need-field-of-requires-2
+field-of-requires-2 c κs = search needs
+
 append-requires-2 : tie.Need-append-requires-2
 append-requires-2 c κs = search needs
 
--- src/edges.rt:162:13
+same-length-3 : tie.Need-same-length-3
+same-length-3 c = search needs
+
+same-length-4 : tie.Need-same-length-4
+same-length-4 c = search needs
+
+returns-4 : tie.Need-returns-4
+returns-4 c = appended-same _ _ (ap {B = List Edge} (λ (x : ℕ). edge x (c .before .before .before .before .before .before .before .before .before .before .before .before .before .before .before .args .s) ∷ []) (c .before .before .before .before .before .before .field-of2 .ensures .0) ∙ next-jump _ _ (c .before .before .before .before .before .before .before .before .before .before .before .before .before .before .before .pre .0) _ (c .before .before .before .before .before .before .before .before .before .before .before .before .before .before .before .pre .1) (sym (c .before .before .before .before .before .before .before .before .before .before .before .before .field-of .ensures .0) ∙ c .if4 .taken)) (c .before .before .before .before .before .append2 .ensures)
+
+add-append-2 : tie.Need-add-append-2
+add-append-2 c = search needs
+
 append-requires-3 : tie.Need-append-requires-3
 append-requires-3 c κs = search needs
 
--- src/edges.rt:146:1
-returns : tie.Need-returns
-unfolding asList
-returns c = let a = c .before .before .before in appended-same _ _ (next-edges (a .args .s) (a .args .statement) _ _ (c .enum-told .given .1) (c .before .before .nexts-of .ensures)) appended-none
+same-length-5 : tie.Need-same-length-5
+same-length-5 c = search needs
 
--- src/edges.rt:146:1
-returns-2 : tie.Need-returns-2
-unfolding asList
-returns-2 c = let a = c .before .before .before .before .before .before .before in appended-same _ _ (next-edges (a .args .s) (a .args .statement) _ _ (c .before .before .before .before .next .given .1) (c .before .before .before .before .before .before .nexts-of .ensures)) (c .append .ensures)
+same-length-6 : tie.Need-same-length-6
+same-length-6 c = search needs
 
--- src/edges.rt:146:1
-returns-3 : tie.Need-returns-3
-unfolding asList
-returns-3 c = let a = c .before .before .before .before .before .before .before .before .before .before in appended-same _ _ (next-edges (a .args .s) (a .args .statement) _ _ (c .before .before .before .before .before .before .before .next2 .given .1) (c .before .before .before .before .before .before .before .before .before .nexts-of .ensures)) (appended-both (c .before .before .before .append2 .ensures) (c .append3 .ensures))
+returns-5 : tie.Need-returns-5
+returns-5 c = appended-same _ _ (ap {B = List Edge} (λ (x : ℕ). (edge x (c .before .before .before .before .before .before .before .before .before .before .before .before .before .before .before .before .before .before .before .before .before .before .args .s) ∷ []) ++ (edge (c .before .before .before .before .before .before .before .before .before .before .before .before .before .before .before .before .before .before .before .before .before .before .args .s + 1) (c .before .before .before .before .before .before .before .before .before .before .before .before .before .before .before .before .before .before .before .before .before .before .args .s) ∷ [])) (c .before .before .before .before .before .before .before .before .before .before .before .before .before .field-of2 .ensures .0) ∙ next-both _ _ (c .before .before .before .before .before .before .before .before .before .before .before .before .before .before .before .before .before .before .before .before .before .before .pre .0) _ (c .before .before .before .before .before .before .before .before .before .before .before .before .before .before .before .before .before .before .before .before .before .before .pre .1) (omega (arith, c .before .before .before .before .before .before .before .before .before .before .before .before .before .before .before .before .before .before .before .field-of .ensures .0, c .before .before .before .before .before .before .before .before .before .before .before .before .before .before .before .before .before .if2 .left)) (omega (arith, c .before .before .before .before .before .before .before .before .before .before .before .before .before .before .before .before .before .before .before .field-of .ensures .0, c .before .before .before .before .before .before .before .before .before .before .before .before .before .before .before .before .if3 .left)) (λ e. c .before .before .before .before .before .before .before .if4 .left (c .before .before .before .before .before .before .before .before .before .before .before .before .before .before .before .before .before .before .before .field-of .ensures .0 ∙ e))) (appended-both (c .before .before .before .before .before .before .before .before .before .before .before .before .append2 .ensures) (c .before .before .before .before .append3 .ensures))
 
 pub append-nexts-spec : {M : Type 1} → statement M
 append-nexts-spec =
     tie.close
     (tie.spec
-    nexts-of-requires
-    enum-told
-    enum-known-next
-    append-requires
-    enum-known-next-2
-    append-requires-2
-    append-requires-3
+    add-line
+    field-of-requires
     returns
+    add-append
+    append-requires
+    same-length
+    same-length-2
     returns-2
-    returns-3)
+    returns-3
+    field-of-requires-2
+    append-requires-2
+    same-length-3
+    same-length-4
+    returns-4
+    add-append-2
+    append-requires-3
+    same-length-5
+    same-length-6
+    returns-5)

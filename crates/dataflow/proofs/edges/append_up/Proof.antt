@@ -1,70 +1,75 @@
 -- `dataflow::edges::append_up` meets its contract. Assumes nothing.
-use mathlib.Core.Path.{sym, _∙_}
+use Rattle.dataflow.specs.LineLaws.{up-call, up-start, up-other}
 use Rattle.dataflow.specs.EdgeLaws.{appended-same, appended-none}
-use Rattle.dataflow.specs.NamingLaws.{up-called, up-started, up-neither}
+use Rattle.dataflow.specs.Questions.{edge}
+use Rattle.table.specs.Fields.{field}
+use denote.Ref.{now}
+use mathlib.Core.Bool.{Bool, cond}
+use Rattle.report.specs.Over.{Edge}
+use mathlib.Core.List.{List, [], _∷_}
+use Prim.Native.Nat.{ℕ, _+_}
+use mathlib.Core.Path.{sym, ap, _∙_}
 use borrow.Author.Needs.{needs}
 use Rattle.dataflow.proofs.edges.append_up.Statement.{statement}
 use Rattle.dataflow.proofs.edges.append_up.Tie as tie
-use Rattle.dataflow.proofs.edges.append_up.Reads as reads
-use Rattle.dataflow.proofs.edges.append_up.Lts as lts
-use Rattle.dataflow.proofs.edges.append.Reads as append-reads
-use Rattle.dataflow.proofs.operations.naming_of.Reads as naming-of-reads
 
--- src/edges.rt:137:9
-naming-of-requires : tie.Need-naming-of-requires
-naming-of-requires c κs = search needs
+add-line : tie.Need-add-line
+add-line c = search needs
 
--- src/edges.rt:139:24
-enum-known-naming : tie.Need-enum-known-naming
-enum-known-naming c = search needs
+field-of-requires : tie.Need-field-of-requires
+field-of-requires c κs = search needs
 
--- src/edges.rt:139:30
+field-of-requires-2 : tie.Need-field-of-requires-2
+field-of-requires-2 c κs = search needs
+
 append-requires : tie.Need-append-requires
 append-requires c κs = search needs
 
--- src/edges.rt:140:25
-enum-known-naming-2 : tie.Need-enum-known-naming-2
-enum-known-naming-2 c = search needs
+same-length : tie.Need-same-length
+same-length c = search needs
 
--- src/edges.rt:140:45
+same-length-2 : tie.Need-same-length-2
+same-length-2 c = search needs
+
+returns : tie.Need-returns
+returns c = appended-same _ _ (ap {B = List Edge} (λ (x : ℕ). edge x (c .before .before .before .before .before .before .before .before .before .before .before .before .args .c) ∷ []) (c .before .before .before .before .before .field-of2 .ensures .0) ∙ up-call _ _ (c .before .before .before .before .before .before .before .before .before .before .before .before .pre .0) _ (c .before .before .before .before .before .before .before .before .before .before .before .before .pre .1) _ _ (sym (c .before .before .before .before .before .before .before .before .before .field-of .ensures .0) ∙ c .before .before .before .before .before .before .before .before .if1 .taken)) (c .before .before .before .before .append .ensures)
+
+field-of-requires-3 : tie.Need-field-of-requires-3
+field-of-requires-3 c κs = search needs
+
 append-requires-2 : tie.Need-append-requires-2
 append-requires-2 c κs = search needs
 
--- src/edges.rt:141:28
-enum-told : tie.Need-enum-told
-enum-told c = search needs
+same-length-3 : tie.Need-same-length-3
+same-length-3 c = search needs
 
--- src/edges.rt:127:1
-returns : tie.Need-returns
-returns c = let a = c .before .before .before .before .before .before .before in appended-same _ _ (up-called (a .args .statement) _ (a .args .starts) (a .args .c) (sym (c .before .before .before .before .before .before .naming-of .ensures) ∙ c .before .before .before .before .naming .given .1)) (c .append .ensures)
+same-length-4 : tie.Need-same-length-4
+same-length-4 c = search needs
 
--- src/edges.rt:127:1
 returns-2 : tie.Need-returns-2
-returns-2 c = let a = c .before .before .before .before .before .before .before .before in
-    let e = up-started (a .args .statement) _ (a .args .starts) (a .args .c) (sym (c .before .before .before .before .before .before .before .naming-of .ensures) ∙ c .before .before .before .before .before .naming2 .given .1) in
-    appended-same _ _ e (rw (c .before .before .before .if1 .taken) (c .append2 .ensures))
+returns-2 c = appended-same _ _ (ap {B = List Edge} (λ (x : ℕ). edge x (c .before .before .before .before .before .before .before .before .before .before .before .before .before .before .args .c) ∷ []) (c .before .before .before .before .before .field-of3 .ensures .0) ∙ ap {B = List Edge} (λ (b : Bool). cond b (edge (field (now (c .before .before .before .before .before .before .before .before .before .before .before .before .before .before .args .numbers)) (c .before .before .before .before .before .before .before .before .before .before .before .before .before .before .args .base + c .before .before .before .before .before .before .before .before .before .before .before .before .before .before .args .s) 2) (c .before .before .before .before .before .before .before .before .before .before .before .before .before .before .args .c) ∷ []) []) (sym (c .before .before .before .before .before .before .before .before .if3 .taken)) ∙ up-start _ _ (c .before .before .before .before .before .before .before .before .before .before .before .before .before .before .pre .0) _ (c .before .before .before .before .before .before .before .before .before .before .before .before .before .before .pre .1) _ _ (sym (c .before .before .before .before .before .before .before .before .before .before .before .field-of .ensures .0) ∙ c .before .before .before .before .before .before .before .before .before .if2 .taken)) (c .before .before .before .before .append2 .ensures)
 
--- src/edges.rt:127:1
 returns-3 : tie.Need-returns-3
-returns-3 c = let a = c .before .before .before .before .before in
-    let e = up-started (a .args .statement) _ (a .args .starts) (a .args .c) (sym (c .before .before .before .before .naming-of .ensures) ∙ c .before .before .naming2 .given .1) in
-    appended-same _ _ e (rw (c .if1 .left) appended-none)
+returns-3 c = appended-same _ _ (ap {B = List Edge} (λ (b : Bool). cond b (edge (field (now (c .before .before .before .before .before .before .args .numbers)) (c .before .before .before .before .before .before .args .base + c .before .before .before .before .before .before .args .s) 2) (c .before .before .before .before .before .before .args .c) ∷ []) []) (sym (c .if3 .left)) ∙ up-start _ _ (c .before .before .before .before .before .before .pre .0) _ (c .before .before .before .before .before .before .pre .1) _ _ (sym (c .before .before .before .field-of .ensures .0) ∙ c .before .if2 .taken)) appended-none
 
--- src/edges.rt:127:1
 returns-4 : tie.Need-returns-4
-returns-4 c = let a = c .before .before .before in appended-same _ _ (up-neither (a .args .statement) (a .args .starts) (a .args .c) (sym (c .before .before .naming-of .ensures) ∙ c .enum-told .given .1)) appended-none
+returns-4 c = appended-same _ _ (up-other _ _ (c .before .before .before .before .before .pre .0) _ (c .before .before .before .before .before .pre .1) _ _ (λ e. c .before .if1 .left (c .before .before .field-of .ensures .0 ∙ e)) (λ e. c .if2 .left (c .before .before .field-of .ensures .0 ∙ e))) appended-none
 
 pub append-up-spec : {M : Type 1} → statement M
 append-up-spec =
     tie.close
     (tie.spec
-    naming-of-requires
-    enum-known-naming
+    add-line
+    field-of-requires
+    field-of-requires-2
     append-requires
-    enum-known-naming-2
-    append-requires-2
-    enum-told
+    same-length
+    same-length-2
     returns
+    field-of-requires-3
+    append-requires-2
+    same-length-3
+    same-length-4
     returns-2
     returns-3
     returns-4)

@@ -5,22 +5,16 @@ use denote.Ref.{now}
 use borrow.Author.Needs.{needs}
 use Rattle.dataflow.proofs.parts.entry_at.Statement.{statement}
 use Rattle.dataflow.proofs.parts.entry_at.Tie as tie
-use Rattle.dataflow.proofs.parts.entry_at.Reads as reads
-use Rattle.dataflow.proofs.parts.entry_at.Lts as lts
 
--- src/parts.rt:18:25
 mul-result : tie.Need-mul-result
 mul-result c = search needs
 
--- src/parts.rt:18:25
 shared-slice-read-result : tie.Need-shared-slice-read-result
 shared-slice-read-result c = search needs
 
--- src/parts.rt:15:1
 returns : tie.Need-returns
 returns c = search needs
 
--- src/parts.rt:15:1
 returns-2 : tie.Need-returns-2
 returns-2 c = sym (List·getD-eq-default (now (c .before .args .list)) 0 (c .if1 .left))
 

@@ -1,31 +1,30 @@
 -- `dataflow::starts::flow_start` meets its contract. Assumes nothing.
-use borrow.Author.Tests.{eq-eqb, ne-eqb}
-use Rattle.report.specs.Flow.{startOf}
+use Rattle.dataflow.specs.LineLaws.{start-local, start-parameter}
+use Rattle.sets.specs.Set.{one}
+use mathlib.Core.Path.{sym, ap, _∙_}
 use borrow.Author.Needs.{needs}
 use Rattle.dataflow.proofs.starts.flow_start.Statement.{statement}
 use Rattle.dataflow.proofs.starts.flow_start.Tie as tie
-use Rattle.dataflow.proofs.starts.flow_start.Reads as reads
-use Rattle.dataflow.proofs.starts.flow_start.Lts as lts
-use Rattle.dataflow.proofs.parts.declaration_at.Reads as declaration-at-reads
-use Rattle.sets.proofs.one.Reads as one-reads
 
--- src/starts.rt:29:9
-declaration-at-requires : tie.Need-declaration-at-requires
-declaration-at-requires c κs = search needs
+add-line : tie.Need-add-line
+add-line c = search needs
 
--- src/starts.rt:30:24
+field-of-requires : tie.Need-field-of-requires
+field-of-requires c κs = search needs
+
+field-of-requires-2 : tie.Need-field-of-requires-2
+field-of-requires-2 c κs = search needs
+
 one-requires : tie.Need-one-requires
 one-requires c κs = search needs
 
--- src/starts.rt:26:1
 returns : tie.Need-returns
-unfolding startOf
-returns c = rw (← c .before .before .before .declaration-at .ensures, eq-eqb _ _ (c .before .if1 .taken)) (c .one .ensures)
+returns c = c .one .ensures ∙ ap one (c .before .field-of2 .ensures .0) ∙ start-local _ _ (c .before .before .before .before .pre .0) (sym (c .before .before .before .field-of .ensures .0) ∙ c .before .before .if1 .taken)
 
--- src/starts.rt:26:1
 returns-2 : tie.Need-returns-2
-unfolding startOf
-returns-2 c = rw (← c .before .before .declaration-at .ensures, ne-eqb _ _ (c .if1 .left))
+returns-2 c = start-parameter _ _ (c .before .before .pre .0) (λ e. c .if1 .left (c .before .field-of .ensures .0 ∙ e))
 
 pub flow-start-spec : {M : Type 1} → statement M
-flow-start-spec = tie.close (tie.spec declaration-at-requires one-requires returns returns-2)
+flow-start-spec =
+    tie.close
+    (tie.spec add-line field-of-requires field-of-requires-2 one-requires returns returns-2)

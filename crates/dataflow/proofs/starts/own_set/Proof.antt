@@ -1,37 +1,42 @@
 -- `dataflow::starts::own_set` meets its contract. Assumes nothing.
-use Rattle.dataflow.specs.Questions.{ownSet}
+use Rattle.dataflow.specs.LineLaws.{own-is, own-none}
+use denote.Ref.{now}
+use Prim.Native.Nat.{ℕ}
+use lib.ListN.{getD}
+use mathlib.Core.Path.{sym, ap, _∙_}
 use borrow.Author.Needs.{needs}
 use Rattle.dataflow.proofs.starts.own_set.Statement.{statement}
 use Rattle.dataflow.proofs.starts.own_set.Tie as tie
-use Rattle.dataflow.proofs.starts.own_set.Reads as reads
-use Rattle.dataflow.proofs.starts.own_set.Lts as lts
-use Rattle.dataflow.proofs.operations.accessed_by.Reads as accessed-by-reads
-use Rattle.dataflow.proofs.operations.given_by.Reads as given-by-reads
-use Rattle.dataflow.proofs.parts.statement_at.Reads as statement-at-reads
 
--- src/starts.rt:37:9
-statement-at-requires : tie.Need-statement-at-requires
-statement-at-requires c κs = search needs
+add-line : tie.Need-add-line
+add-line c = search needs
 
--- src/starts.rt:39:9
-given-by-requires : tie.Need-given-by-requires
-given-by-requires c κs = search needs
+field-of-requires : tie.Need-field-of-requires
+field-of-requires c κs = search needs
 
--- src/starts.rt:41:9
-accessed-by-requires : tie.Need-accessed-by-requires
-accessed-by-requires c κs = search needs
+operation-of-requires : tie.Need-operation-of-requires
+operation-of-requires c κs = search needs
 
--- src/starts.rt:34:1
+field-of-requires-2 : tie.Need-field-of-requires-2
+field-of-requires-2 c κs = search needs
+
+set-at-requires : tie.Need-set-at-requires
+set-at-requires c κs = search needs
+
 returns : tie.Need-returns
-unfolding ownSet
-returns c = rw (c .before .if1 .taken, ← c .before .before .statement-at .ensures) (c .given-by .ensures)
+returns c = c .set-at .ensures ∙ ap (λ (x : ℕ). getD (now (c .before .before .before .before .before .before .args .flow)) x 0) (c .before .field-of2 .ensures .0) ∙ own-is _ _ (c .before .before .before .before .before .before .pre .0) _ (c .before .before .before .before .before .before .pre .1) _ _ _ (sym (c .before .before .before .before .field-of .ensures .0) ∙ c .before .before .if1 .taken ∙ c .before .before .before .operation-of .ensures)
 
--- src/starts.rt:34:1
 returns-2 : tie.Need-returns-2
-unfolding ownSet
-returns-2 c = rw (c .before .if1 .left, ← c .before .before .statement-at .ensures) (c .accessed-by .ensures)
+returns-2 c = own-none _ _ (c .before .before .before .before .pre .0) _ (c .before .before .before .before .pre .1) _ _ _ (λ e. c .if1 .left (c .before .before .field-of .ensures .0 ∙ e ∙ sym (c .before .operation-of .ensures)))
 
 pub own-set-spec : {M : Type 1} → statement M
 own-set-spec =
     tie.close
-    (tie.spec statement-at-requires given-by-requires accessed-by-requires returns returns-2)
+    (tie.spec
+    add-line
+    field-of-requires
+    operation-of-requires
+    field-of-requires-2
+    set-at-requires
+    returns
+    returns-2)

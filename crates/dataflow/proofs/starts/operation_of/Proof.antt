@@ -1,0 +1,19 @@
+-- `dataflow::starts::operation_of` meets its contract. Assumes nothing.
+use Rattle.dataflow.specs.Questions.{operationOf}
+use Rattle.dataflow.proofs.starts.operation_of.Statement.{statement}
+use Rattle.dataflow.proofs.starts.operation_of.Tie as tie
+
+returns : tie.Need-returns
+unfolding operationOf
+returns c = rw (c .if1 .taken)
+
+returns-2 : tie.Need-returns-2
+unfolding operationOf
+returns-2 c = rw (c .before .if1 .left, c .if2 .taken)
+
+returns-3 : tie.Need-returns-3
+unfolding operationOf
+returns-3 c = rw (c .before .if1 .left, c .if2 .left)
+
+pub operation-of-spec : {M : Type 1} → statement M
+operation-of-spec = tie.close (tie.spec returns returns-2 returns-3)
