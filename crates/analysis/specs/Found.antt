@@ -64,13 +64,3 @@ pub record Working (f : List ℤ) (laterReads laterWrites from to : List ℕ) : 
 pub record Lent (f : List ℤ) (held laterReads laterWrites from to : List ℕ) : Type 0 where
   pub held-is : held ≡ replicate (statements f) 0
   pub working : Working f laterReads laterWrites from to
-
--- lists with room for whatever a text of so many lines says
-pub record Space (lines : ℕ) (numbers : List ℤ) (held laterReads laterWrites from to : List ℕ) : Type 0 where
-  pub numbers-long : length numbers ≡ 8 * lines
-  pub held-is : held ≡ replicate (length held) 0
-  pub held-long : (n : ℕ) → n ≤ lines → n ≤ 512 → n ≤ length held
-  pub later-reads-long : (n : ℕ) → n ≤ lines → n ≤ 544 → n ≤ length laterReads
-  pub later-writes-long : (n : ℕ) → n ≤ lines → n ≤ 544 → n ≤ length laterWrites
-  pub from-long : (n : ℕ) → n ≤ lines → n ≤ 512 → 4 * n ≤ length from
-  pub to-long : (n : ℕ) → n ≤ lines → n ≤ 512 → 4 * n ≤ length to

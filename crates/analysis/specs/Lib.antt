@@ -6,7 +6,6 @@ pub mod LineLaws
 pub mod PrintLaws
 pub mod Found
 pub mod FoundLaws
-pub mod LengthLaws
 pub mod SetsLaws
 pub mod ReportedLaws
 pub mod LoadLaws

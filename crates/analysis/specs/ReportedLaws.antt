@@ -7,17 +7,17 @@ use native.Mathlib.Omega.{arith}
 use native.Mathlib.Nat.{zero-add}
 use lib.Dec.{eqb, ltb}
 use lib.IntN.{ℤ, pos}
-use lib.ListN.{length, take, drop, replicate, length-take}
+use lib.ListN.{length, drop}
 use borrow.Author.Tests.{lt-ltb, le-ltb}
-use Rattle.lines.specs.Line.{lineCount, numbersOf}
+use Rattle.lines.specs.Line.{numbersOf}
 use Rattle.lines.specs.LineLaws.{numbers-in-field}
-use Rattle.table.specs.CutLaws.{take-replicate}
-use Rattle.table.specs.Header.{cells, statements, statementLine}
+use Rattle.table.specs.Header.{cells, statements}
 use Rattle.table.specs.Table.{tableOf, countsOf}
 use Rattle.table.specs.LookupLaws.{cells-is, statements-length}
 use Rattle.table.specs.Accepted as Facts
 use Rattle.table.specs.AcceptedLaws.{accepted}
-use Rattle.table.specs.Verdict.{verdict}
+use Rattle.table.specs.Verdict.{textOk, verdict}
+use Rattle.table.specs.VerdictLaws.{bad-length}
 use Rattle.table.specs.declared.Counts.{Counts}
 use Rattle.table.specs.declared.Verdict.{Verdict}
 use Rattle.table.specs.declared.Verdict.the-variants.{Accepted, Refused}
@@ -28,11 +28,10 @@ use Rattle.report.specs.ReportLaws.{unguarded-total, stray-total}
 use Rattle.report.specs.ReportTextLaws.{report-length}
 use Rattle.analysis.specs.Reported.{tableIn, turnedDown, answerOf, reportAnswer, printedOver, reportedInto, isNone, countsNothing, loadable}
 use Rattle.analysis.specs.Steps.{foldFrom, hasMark, unguardedMark, putAt, reportBy, AllFitting}
-use Rattle.analysis.specs.Found.{Found, AcceptedNumbers, Lent, Space}
+use Rattle.analysis.specs.Found.{Found, AcceptedNumbers}
 use Rattle.analysis.specs.FoundLaws.{strays-counted, unguarded-found, report-is, all-fitting}
 use Rattle.analysis.specs.declared.Answer.{Answer}
-use Rattle.analysis.specs.LengthLaws.{text-lines}
-use Rattle.analysis.specs.SetsLaws.{routines-are, statements-are, routines-few, statements-few}
+use Rattle.analysis.specs.SetsLaws.{statements-are}
 
 -- ---- what was read
 
@@ -43,10 +42,6 @@ module _ (text : List ℕ) (v : Verdict) (numbers : List ℤ) (said : v ≡ verd
 
     pub read-facts : AcceptedNumbers numbers
     read-facts = rw (filled yes) (record { accepted = accepted text is-accepted; in-field = numbers-in-field text })
-
-    -- the lists have room for what the header says
-    pub read-lines : lineCount text ≡ statementLine numbers (statements numbers)
-    read-lines = rw (filled yes) (text-lines text is-accepted)
 
     pub accepted-answer : (room : ℕ) → answerOf (reportText (tableOf numbers)) room ≡ reportAnswer text room
     unfolding reportAnswer
@@ -76,37 +71,14 @@ module _ (text : List ℕ) (v : Verdict) (numbers : List ℤ) (said : v ≡ verd
     unfolding loadable
     refused-stays = rw is-refused
 
--- lists with room for the text, cut to what its header says
-module _ (f : List ℤ) {lines : ℕ} {numbers : List ℤ} {held laterReads laterWrites from to : List ℕ} (space : Space lines numbers held laterReads laterWrites from to)
-    (acc : Facts.Accepted (tableOf f)) (said : lines ≡ statementLine f (statements f)) (k : Counts) (e : k ≡ countsOf f) where
-  pub held-fits : k .statements ≤ length held
-  held-fits = space .held-long (k .statements) (omega (arith, statements-are f acc k e)) (statements-few f acc k e)
+-- a text of a length that none has
+pub bad-length-answer : (text : List ℕ) → textOk (length text) ≡ false → (room : ℕ) → turnedDown 1 0 ≡ reportAnswer text room
+unfolding reportAnswer
+bad-length-answer text e room = rw (bad-length text e)
 
-  pub later-reads-fit : k .statements + k .routines ≤ length laterReads
-  later-reads-fit =
-      space .later-reads-long (k .statements + k .routines) (omega (arith, statements-are f acc k e, routines-are f acc k e))
-      (omega (arith, statements-few f acc k e, routines-few f acc k e))
-
-  pub later-writes-fit : k .statements + k .routines ≤ length laterWrites
-  later-writes-fit =
-      space .later-writes-long (k .statements + k .routines) (omega (arith, statements-are f acc k e, routines-are f acc k e))
-      (omega (arith, statements-few f acc k e, routines-few f acc k e))
-
-  pub cut : Lent f (take (k .statements) held) (take (k .statements + k .routines) laterReads) (take (k .statements + k .routines) laterWrites) from to
-  cut =
-      let s = statements-are f acc k e in
-      let r = routines-are f acc k e in
-      let few = statements-few f acc k e in
-      record {
-        held-is =
-            ap (take (k .statements)) (space .held-is) ∙ take-replicate (k .statements) (length held) 0 held-fits ∙ ap (λ (n : ℕ). replicate {A = ℕ} n 0) s;
-        working = record {
-          later-reads-long = length-take (k .statements + k .routines) laterReads ∙ omega (arith, later-reads-fit);
-          later-writes-long = length-take (k .statements + k .routines) laterWrites ∙ omega (arith, later-writes-fit);
-          from-long = space .from-long (statements f) (omega arith) (omega arith);
-          to-long = space .to-long (statements f) (omega arith) (omega arith);
-        };
-      }
+pub bad-length-written : (text : List ℕ) → textOk (length text) ≡ false → (out : List ℕ) → out ≡ reportedInto text out
+unfolding reportedInto
+bad-length-written text e out = rw (bad-length text e)
 
 -- ---- a report that fits, or not
 

@@ -2,7 +2,7 @@
 use mathlib.Core.Path.{_≡_, sym, ap, ap₂, _∙_}
 use mathlib.Core.Bool.{true, false}
 use mathlib.Core.List.{List}
-use Prim.Native.Nat.{ℕ, zero, suc, _*_, _^_, _≤_, _<_, zero-le}
+use Prim.Native.Nat.{ℕ, zero, suc, _+_, _*_, _^_, _≤_, _<_, zero-le}
 use native.Mathlib.Omega.{arith}
 use lib.IntN.{ℤ, pos, negsuc}
 use borrow.Author.Tests.{ltb-true}
@@ -12,7 +12,7 @@ use Rattle.table.specs.Fields.{field, plain}
 use Rattle.table.specs.Header.{handles, routines, statements}
 use Rattle.table.specs.Handles.{handlesFrom, parameters}
 use Rattle.table.specs.Routines.{firstOf, countOf}
-use Rattle.table.specs.CutLaws.{cut-long}
+use Rattle.table.specs.CutLaws.{take-replicate, cut-long}
 use Rattle.table.specs.Tabulate.{tabulate}
 use Rattle.table.specs.TabulateLaws.{length-tabulate}
 use Rattle.table.specs.Table.{Table, tableOf, countsOf}
@@ -27,7 +27,7 @@ use Rattle.report.specs.Flow.{flowSets}
 use Rattle.report.specs.Effect.{effects, gives}
 use Rattle.report.specs.Future.{futures}
 use Rattle.report.specs.Findings.{setsOf}
-use Rattle.analysis.specs.Found.{setsIn, Base, AcceptedNumbers, Space}
+use Rattle.analysis.specs.Found.{setsIn, Base, AcceptedNumbers, Lent}
 
 -- ---- the three lists
 
@@ -127,18 +127,23 @@ module _ (f : List ℤ) (acc : Accepted (tableOf f)) (k : Counts) (e : k ≡ cou
   pub statements-few : k .statements ≤ 512
   statements-few = let h : length (tableOf f .statements) ≤ 512 = acc .statements-most in omega (arith, statements-are, statements-length f)
 
--- ---- room for a text
+-- ---- lists of zeros, cut to what the header says
 
--- lists of zeros with room for a text of so many lines
-pub spaced : (lines size held later edges : ℕ) → 8 * lines ≤ size → ((n : ℕ) → n ≤ lines → n ≤ 512 → n ≤ held)
-    → ((n : ℕ) → n ≤ lines → n ≤ 544 → n ≤ later) → ((n : ℕ) → n ≤ lines → n ≤ 512 → 4 * n ≤ edges)
-    → Space lines (take (8 * lines) (replicate size (pos 0))) (replicate held 0) (replicate later 0) (replicate later 0) (replicate edges 0) (replicate edges 0)
-spaced lines size held later edges fits a b c = record {
-  numbers-long = sym (cut-long (8 * lines) size (pos 0) fits);
-  held-is = ap (λ (n : ℕ). replicate {A = ℕ} n 0) (sym (length-replicate {A = ℕ} held 0));
-  held-long = λ n l m. omega (arith, a n l m, length-replicate {A = ℕ} held 0);
-  later-reads-long = λ n l m. omega (arith, b n l m, length-replicate {A = ℕ} later 0);
-  later-writes-long = λ n l m. omega (arith, b n l m, length-replicate {A = ℕ} later 0);
-  from-long = λ n l m. omega (arith, c n l m, length-replicate {A = ℕ} edges 0);
-  to-long = λ n l m. omega (arith, c n l m, length-replicate {A = ℕ} edges 0);
-}
+module _ (f : List ℤ) (acc : Accepted (tableOf f)) (k : Counts) (e : k ≡ countsOf f) (held later edges : ℕ) where
+  pub lent : k .statements ≤ held → k .statements + k .routines ≤ later → 4 * k .statements ≤ edges
+      → Lent f (take (k .statements) (replicate held 0)) (take (k .statements + k .routines) (replicate later 0))
+      (take (k .statements + k .routines) (replicate later 0)) (replicate edges 0) (replicate edges 0)
+  lent a b c =
+      let s = statements-are f acc k e in
+      let r = routines-are f acc k e in
+      let long : length (take (k .statements + k .routines) (replicate {A = ℕ} later 0)) ≡ statements f + routines f =
+      sym (cut-long (k .statements + k .routines) later 0 b) ∙ omega arith in
+      record {
+        held-is = take-replicate (k .statements) held 0 a ∙ ap (λ (n : ℕ). replicate {A = ℕ} n 0) s;
+        working = record {
+          later-reads-long = long;
+          later-writes-long = long;
+          from-long = omega (arith, length-replicate {A = ℕ} edges 0);
+          to-long = omega (arith, length-replicate {A = ℕ} edges 0);
+        };
+      }

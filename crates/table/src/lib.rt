@@ -15,7 +15,7 @@ ghost use Rattle.table.specs.Tabulate.{tabulate};
 ghost use Rattle.table.specs.Fields.{field};
 ghost use Rattle.table.specs.Handles.{handlesFrom, parameters};
 ghost use Rattle.table.specs.Routines.{firstOf};
-ghost use Rattle.table.specs.Verdict.{verdict, readingOf, turnedDown};
+ghost use Rattle.table.specs.Verdict.{textOk, verdict, readingOf, turnedDown};
 ghost use Rattle.table.specs.Table.{countsOf, declarationOf, argumentsIn, statementIn, statementOf};
 use lines::FirstBad;
 
@@ -108,6 +108,13 @@ fn refused(number: u32, line: usize) -> Reading
         verdict: Verdict::Refused { number, line },
         numbers: [0i32; 5384],
     }
+}
+
+// Refusal 1's rule: whether a text of so many bytes may be one.
+pub fn has_length(n: usize) -> bool
+    ensures { λ b. ⌜ b ≡ textOk n ⌝ }
+{
+    checks::text_ok(n)
 }
 
 // The verdict on a text; where it is accepted, its numbers stand in `numbers`.
