@@ -1,3 +1,5 @@
 pub mod StepLaws
-pub mod WayLaws
-pub mod TableLaws
+pub mod MoveLaws
+pub mod RuleLaws
+pub mod NumberLaws
+pub mod SolveLaws

@@ -1,39 +1,106 @@
--- The solver's steps: a set put into one place, one step after another, and passes until one changes nothing. Assumes nothing.
-use mathlib.Core.Path.{_≡_, refl, sym, ap, _∙_, subst}
-use mathlib.Core.Bool.{Bool, true, false}
-use mathlib.Core.List.{List, [], _∷_, _++_}
-use mathlib.Core.Logic.{inl, inr, ⊎-elim}
-use Prim.Native.Nat.{ℕ, zero, suc, _+_, _-_, _^_, _≤_, _<_}
-use native.Mathlib.Nat.{le-refl, lt-of-lt-of-le, lt-of-le-of-lt}
+-- Single steps: what a statement brings, a set put into one place, and sets turned round. Assumes nothing.
+use mathlib.Core.Path.{_≡_, refl, sym, ap, ap₂, _∙_}
+use mathlib.Core.Bool.{Bool, true, false, cond}
+use mathlib.Core.List.{List}
+use mathlib.Core.Logic.{inl, inr}
+use Prim.Native.Nat.{ℕ, _+_, _^_, _≤_, _<_, zero-le}
+use native.Mathlib.Nat.{le-refl}
 use native.Mathlib.Omega.{arith}
-use lib.ListN.{length, getD, set, take, drop, replicate}
+use borrow.Author.Tests.{ne-eqb}
+use lib.Arith.{lt-of-le-ne}
+use lib.Dec.{eqb}
+use lib.IntN.{ℤ}
+use lib.ListN.{length, getD, set}
 use lib.Seq.{set-out, set-getD, getD-set-same, getD-set-other}
-use Rattle.sets.specs.Set.{union, inter, minus}
-use Rattle.sets.specs.Least.{SetList, room, putInto, same, settle, settled}
-use Rattle.sets.specs.InsideLaws.{room-less, same-true, same-refl}
+use Rattle.sets.specs.Set.{has, union, minus, isSingle}
+use Rattle.sets.specs.SetLaws.{has-union-left, has-union-right, union-cases}
+use Rattle.sets.specs.Least.{SetList, room, putInto}
+use Rattle.sets.specs.InsideLaws.{room-less}
 use Rattle.sets.specs.Rules.{put-length, put-grows, put-sets}
+use Rattle.table.specs.Fields.{field}
 use Rattle.table.specs.Tabulate.{tabulate}
 use Rattle.table.specs.TabulateLaws.{filled-none, filled-next, filled-all}
-use Rattle.report.specs.Greatest.{Way, leaving, narrow, narrowAll}
-use Rattle.report.specs.Over.{interFrom}
-use Rattle.lockset.specs.Steps.{Became, Settling, Meeting, Turned}
+use Rattle.report.specs.Greatest.{leaving}
+use Rattle.report.specs.GreatestLaws.{minus-has, minus-from}
+use Rattle.report.specs.Held.{onlyLock}
+use Rattle.lockset.specs.Steps.{behind, Became, Turned}
 
--- ---- one step, and one after another
+-- ---- the one lock of a flow set
 
-pub became-same : {x s : List ℕ} {b : Bool} → x ≡ s → Became x s s b b
+pub only-one : (s : ℕ) {b : Bool} → b ≡ isSingle s → b ≡ true → s ≡ onlyLock s
+unfolding onlyLock
+only-one s e t = rw (sym e ∙ t)
+
+pub only-none : (s : ℕ) {b : Bool} → b ≡ isSingle s → b ≡ false → 0 ≡ onlyLock s
+unfolding onlyLock
+only-none s e t = rw (sym e ∙ t)
+
+-- ---- the number of an operation, by what it is not
+
+pub not-none : (op : ℕ) → (op ≡ 0 → ⊥) → 0 < op
+not-none op d = lt-of-le-ne zero-le (λ e. d (sym e))
+
+pub eleven : (op : ℕ) → op ≤ 11 → 10 ≤ op → (op ≡ 10 → ⊥) → op ≡ 11
+eleven op h l d = let k : 10 < op = lt-of-le-ne l (λ e. d (sym e)) in omega arith
+
+-- ---- what a statement brings
+
+module _ (f : List ℤ) (flow given : List ℕ) (held handed : ℕ → ℕ) (line s op : ℕ) where
+  pub behind-take : op ≡ 5 → union (held s) (onlyLock (getD flow (field f line 2) 0)) ≡ behind f flow given held handed line s op
+  unfolding behind
+  behind-take e = rw e
+
+  pub behind-give : op ≡ 6 → minus (held s) (getD flow (field f line 2) 0) ≡ behind f flow given held handed line s op
+  unfolding behind
+  behind-give e = rw e
+
+  pub behind-call : op ≡ 8 → union (handed (field f line 2)) (minus (held s) (getD given (field f line 2) 0)) ≡ behind f flow given held handed line s op
+  unfolding behind
+  behind-call e = rw e
+
+  pub behind-other : (op ≡ 5 → ⊥) → (op ≡ 6 → ⊥) → (op ≡ 8 → ⊥) → held s ≡ behind f flow given held handed line s op
+  unfolding behind
+  behind-other a b c = rw (ne-eqb op 5 a, ne-eqb op 6 b, ne-eqb op 8 c)
+
+  pub behind-as : {op′ : ℕ} → op ≡ op′ → behind f flow given held handed line s op ≡ behind f flow given held handed line s op′
+  behind-as e = ap (behind f flow given held handed line s) e
+
+  -- no less out of more
+  pub behind-more : (held′ handed′ : ℕ → ℕ) → ((p x : ℕ) → has (held p) x ≡ true → has (held′ p) x ≡ true)
+      → ((p x : ℕ) → has (handed p) x ≡ true → has (handed′ p) x ≡ true)
+      → (x : ℕ) → has (behind f flow given held handed line s op) x ≡ true → has (behind f flow given held′ handed′ line s op) x ≡ true
+  unfolding behind
+  behind-more held′ handed′ sub back x = go (eqb op 5) (eqb op 6) (eqb op 8)
+    where
+      kept : (g : ℕ) → has (minus (held s) g) x ≡ true → has (minus (held′ s) g) x ≡ true
+      kept g h = let m = minus-from (held s) g x h in minus-has (held′ s) g x (sub s x (m .0)) (m .1)
+
+      picked : (ℕ → ℕ) → (ℕ → ℕ) → Bool → Bool → Bool → ℕ
+      picked held handed a b c =
+          cond a (union (held s) (onlyLock (getD flow (field f line 2) 0)))
+          (cond b (minus (held s) (getD flow (field f line 2) 0))
+          (cond c (union (handed (field f line 2)) (minus (held s) (getD given (field f line 2) 0))) (held s)))
+
+      go : (a b c : Bool) → has (picked held handed a b c) x ≡ true → has (picked held′ handed′ a b c) x ≡ true
+      go true b c h = union-cases (held s) _ x (λ k. has-union-left (held′ s) _ x (sub s x k)) (λ k. has-union-right (held′ s) _ x k) h
+      go false true c h = kept _ h
+      go false false true h =
+          union-cases (handed (field f line 2)) _ x (λ k. has-union-left (handed′ (field f line 2)) _ x (back _ x k))
+          (λ k. has-union-right (handed′ (field f line 2)) _ x (kept _ k)) h
+      go false false false h = sub s x h
+
+-- ---- a set is put into one place
+
+became-same : {x s : List ℕ} {b : Bool} → x ≡ s → Became x s s b b
 became-same {x} {s} {b} e = record { is = sym e; long = refl; still = λ q. (q, refl); moved = λ q. inl q; less = le-refl (room s) }
 
 pub became-as : {x y s s′ : List ℕ} {b b′ : Bool} → x ≡ y → Became x s s′ b b′ → Became y s s′ b b′
 became-as e p = record { is = p .is ∙ e; long = p .long; still = p .still; moved = p .moved; less = p .less }
 
-pub became-then : {x y s s′ s″ : List ℕ} {b b′ b″ : Bool} → Became x s s′ b b′ → Became y s′ s″ b′ b″ → Became y s s″ b b″
-became-then {x} {y} {s} {s′} {s″} {b} {b′} {b″} p q = record {
-  is = q .is;
-  long = q .long ∙ p .long;
-  still = λ e. let was = q .still e in let first = p .still (was .0) in (first .0, was .1 ∙ first .1);
-  moved = λ e. ⊎-elim (λ m. ⊎-elim (λ n. inl n) (λ l. inr (lt-of-le-of-lt (q .less) l)) (p .moved m)) (λ l. inr (lt-of-lt-of-le l (p .less))) (q .moved e);
-  less = omega (arith, p .less, q .less);
-}
+-- the same with the place and the set written another way
+pub became-sent : (all : ℕ) {to to′ a a′ : ℕ} {s s′ : List ℕ} {b b′ : Bool} → to ≡ to′ → a ≡ a′ → Became (putInto to (minus all a) s) s s′ b b′
+    → Became (putInto to′ (minus all a′) s) s s′ b b′
+became-sent all {s = s} p q = became-as (ap₂ (λ (i x : ℕ). putInto i (minus all x) s) p q)
 
 -- a set that is put past the end, or is there already
 pub put-past : (t x : ℕ) (s : List ℕ) (b : Bool) → length s ≤ t → Became (putInto t x s) s s b b
@@ -60,106 +127,6 @@ put-more t x s b l h small d =
       less = omega (arith, less);
     }
 
--- ---- ways, one after another
-
-pub narrow-append : (all : ℕ) (a b : List Way) (s : List ℕ) → narrowAll all (a ++ b) s ≡ narrowAll all b (narrowAll all a s)
-unfolding narrowAll
-narrow-append all [] b s = refl
-narrow-append all (w ∷ a) b s = narrow-append all a b (narrow all w s)
-
--- ---- passes until one changes nothing
-
--- what is left to do, besides the room: one turn while going on
-unfoldable pub turn : Bool → ℕ
-turn true = 1
-turn false = 0
-
-module _ (pass : List ℕ → List ℕ) where
-  settle-still : (m : ℕ) (s : List ℕ) → pass s ≡ s → settle pass m s ≡ s
-  unfolding settle
-  settle-still zero s e = refl
-  settle-still (suc m) s e = let q : same (pass s) s ≡ true = ap (λ (r : List ℕ). same r s) e ∙ same-refl s in rw (settle, q)
-
-  settle-goes : (m : ℕ) (s : List ℕ) → (pass s ≡ s → ⊥) → settle pass (suc m) s ≡ settle pass m (pass s)
-  unfolding settle
-  settle-goes m s d = go (same (pass s) s) refl
-    where
-      go : (b : Bool) → same (pass s) s ≡ b → settle pass (suc m) s ≡ settle pass m (pass s)
-      go true e = absurd (d (same-true (pass s) s e))
-      go false e = rw (settle, e)
-
-  pub settling-start : (s : List ℕ) → Settling pass s s true
-  unfolding settled
-  settling-start s = record { long = refl; fuel = room s; enough = le-refl (room s); whole = refl; closed = λ e. absurd (let z : _≡_ {A = ℕ} 0 1 = cc in omega arith) }
-
-  pub settling-next : {s₀ s s′ : List ℕ} {b b′ : Bool} → Settling pass s₀ s b → Became (pass s) s s′ false b′ → Settling pass s₀ s′ b′
-  settling-next {s₀} {s} {s′} {b} {b′} h p = go b′ p
-    where
-      -- with fuel for one pass more
-      more : (m : ℕ) → room s ≤ m → settle pass m s ≡ settled pass s₀ → room s′ < room s → Became (pass s) s s′ false true → Settling pass s₀ s′ true
-      more zero enough whole l q = absurd (omega arith)
-      more (suc m) enough whole l q = record {
-        long = q .long ∙ h .long;
-        fuel = m;
-        enough = omega arith;
-        whole = ap (settle pass m) (q .is)
-            ∙ sym (settle-goes m s (λ e. let z : room s′ ≡ room s = ap room (q .is ∙ e) in omega arith)) ∙ whole;
-        closed = λ e. absurd (let z : _≡_ {A = ℕ} 0 1 = cc in omega arith);
-      }
-
-      go : (x : Bool) → Became (pass s) s s′ false x → Settling pass s₀ s′ x
-      go true q = ⊎-elim (λ e. absurd (let z : _≡_ {A = ℕ} 0 1 = cc in omega arith)) (λ l. more (h .fuel) (h .enough) (h .whole) l q) (q .moved refl)
-      go false q =
-          let e : s′ ≡ s = q .still refl .1 in
-          record {
-            long = q .long ∙ h .long;
-            fuel = h .fuel;
-            enough = subst (λ (r : List ℕ). room r ≤ h .fuel) (sym e) (h .enough);
-            whole = ap (settle pass (h .fuel)) e ∙ h .whole;
-            closed = λ z. ap pass e ∙ sym (q .is);
-          }
-
-  pub settling-done : {s₀ s : List ℕ} {b : Bool} → b ≡ false → Settling pass s₀ s b → s ≡ settled pass s₀
-  settling-done {s₀} {s} e h = sym (settle-still (h .fuel) s (h .closed e)) ∙ h .whole
-
-  -- what is left to do falls with every pass
-  pub settling-less : {s s′ : List ℕ} {b b′ : Bool} → b ≡ true → Became (pass s) s s′ false b′ → room s′ + turn b′ < room s + turn b
-  unfolding turn
-  settling-less {s} {s′} {b} {b′} e p = subst (λ (x : Bool). room s′ + turn b′ < room s + turn x) (sym e) (go b′ p)
-    where
-      go : (x : Bool) → Became (pass s) s s′ false x → room s′ + turn x < room s + turn true
-      go true q = ⊎-elim (λ z. absurd (let w : _≡_ {A = ℕ} 0 1 = cc in omega arith)) (λ l. omega arith) (q .moved refl)
-      go false q = let z : room s′ ≡ room s = ap room (q .still refl .1) in omega arith
-
--- ---- sets that meet, from the last to the first
-
-pub meeting-start : (all : ℕ) (g : ℕ → ℕ) (start end : ℕ) → start ≤ end → Meeting all g start end end all
-unfolding interFrom
-meeting-start all g start end h =
-    record { low = h; high = le-refl end; is = let z : end - end ≡ 0 = omega arith in ap (λ (n : ℕ). interFrom all end n g) (sym z) }
-
-pub meeting-next : {all : ℕ} {g : ℕ → ℕ} {start end s meet v x : ℕ} → Meeting all g start end s meet → start < s → v ≡ g (s - 1) → x ≡ inter v meet
-    → Meeting all g start end (s - 1) x
-unfolding interFrom
-meeting-next {all} {g} {start} {end} {s} {meet} {v} {x} m l e q =
-    let low : start ≤ s - 1 = omega arith in
-    let high : s - 1 ≤ end = omega (arith, m .high) in
-    let n : end - (s - 1) ≡ suc (end - s) = omega (arith, m .high) in
-    let i : s - 1 + 1 ≡ s = omega arith in
-    record {
-      low = low;
-      high = high;
-      is = q ∙ ap (λ (y : ℕ). inter y meet) e ∙ ap (inter (g (s - 1))) (m .is ∙ ap (λ (j : ℕ). interFrom all j (end - s) g) (sym i))
-          ∙ ap (λ (k : ℕ). interFrom all (s - 1) k g) (sym n);
-    }
-
-pub meeting-done : {all : ℕ} {g : ℕ → ℕ} {start end s meet : ℕ} (first count : ℕ) → Meeting all g start end s meet → s ≤ start → start ≡ first → end ≡ first + count
-    → meet ≡ interFrom all first count g
-meeting-done {all} {g} {start} {end} {s} {meet} first count m l a b =
-    let p : s ≡ first = omega (arith, m .low) in
-    let q : end - s ≡ count = omega (arith, m .low) in
-    m .is ∙ ap (λ (j : ℕ). interFrom all j (end - s) g) p ∙ ap (λ (k : ℕ). interFrom all first k g) q
-
 -- ---- sets turned round
 
 pub turned-start : (all : ℕ) (s : List ℕ) → Turned all s s 0
@@ -177,17 +144,3 @@ turned-next {all} {s₀} {s} {p} {v} t l e =
 
 pub turned-done : {all : ℕ} {s₀ s : List ℕ} {p : ℕ} → Turned all s₀ s p → length s ≤ p → s ≡ tabulate (length s₀) (leaving all s₀)
 turned-done {all} {s₀} {s} {p} t h = filled-all (leaving all s₀) s (length s₀) p (t .filled) (omega (arith, t .filled .long))
-
--- ---- parts of a list of empty sets
-
-pub take-empty : (n m : ℕ) → n ≤ m → _≡_ {A = List ℕ} (take n (replicate m 0)) (replicate n 0)
-take-empty zero m h = refl
-take-empty (suc n) zero h = absurd (omega arith)
-take-empty (suc n) (suc m) h = ap (λ (l : List ℕ). 0 ∷ l) (take-empty n m (omega arith))
-
-pub drop-empty : (n m : ℕ) → n ≤ m → _≡_ {A = List ℕ} (drop n (replicate m 0)) (replicate (m - n) 0)
-drop-empty zero m h = let e : m - 0 ≡ m = omega arith in ap (λ (k : ℕ). replicate k 0) (sym e)
-drop-empty (suc n) zero h = absurd (omega arith)
-drop-empty (suc n) (suc m) h =
-    let e : suc m - suc n ≡ m - n = omega arith in
-    drop-empty n m (omega arith) ∙ ap (λ (k : ℕ). replicate k 0) (sym e)

@@ -1,22 +1,21 @@
 // The held sets of a table: the greatest sets of locks before each statement, solved from what is left out of them.
 ghost use mathlib.Core.Path.{_≡_};
-ghost use mathlib.Core.Bool.{cond, false};
-ghost use mathlib.Core.List.{_++_};
-ghost use Prim.Native.Nat.{_+_, _-_, _<_, _≤_};
-ghost use lib.Dec.{eqb};
+ghost use mathlib.Core.Bool.{false, _||_};
+ghost use Prim.Native.Nat.{ℕ, _+_, _<_, _≤_, _^_};
 ghost use lib.ListN.{length, getD, replicate};
-ghost use Rattle.sets.specs.Set.{union, minus};
-ghost use Rattle.sets.specs.Least.{putInto, settled};
-ghost use Rattle.table.specs.Header.{statements};
+ghost use Rattle.sets.specs.Set.{minus};
+ghost use Rattle.sets.specs.Least.{putInto};
+ghost use Rattle.table.specs.Accepted.{Accepted};
+ghost use Rattle.table.specs.Fields.{field};
+ghost use Rattle.table.specs.Header.{routines, statements};
 ghost use Rattle.table.specs.LayoutLaws.{Laid};
-ghost use Rattle.table.specs.Table.{tableOf, routine, statement};
+ghost use Rattle.table.specs.Table.{tableOf};
 ghost use Rattle.table.specs.Tabulate.{tabulate};
-ghost use Rattle.report.specs.Greatest.{leaving, narrow, narrowAll};
+ghost use Rattle.report.specs.Greatest.{leaving};
 ghost use Rattle.report.specs.Layout.{oneEach};
-ghost use Rattle.report.specs.Held.{onlyLock, atReturns, heldSets};
-ghost use Rattle.lockset.specs.Steps.{Placed, Ready, Became, other, behind, waysOn, waysInto, waysOf, passOf};
-use sets::Which;
-use table::Statement;
+ghost use Rattle.report.specs.Held.{onlyLock, heldSets};
+ghost use Rattle.lockset.specs.Steps.{Became, behind};
+ghost use Rattle.lockset.specs.Rules.{setting, Small, Owns, Part, Rule, RulesIn, Closed, Kept, Moved, Solved};
 
 // The set at place `i` of a list; the empty set past the end.
 fn set_at(list: &[u64], i: usize) -> u64
@@ -32,161 +31,53 @@ fn number_at(list: &[usize], i: usize) -> usize
     if i < list.len() { list[i] } else { 0 }
 }
 
-// Statement `s` of the table; a RETURN past the end.
-fn statement_at(numbers: &[i32], s: usize) -> Statement
-    ensures { λ r. ⌜ r ≡ statement (tableOf (now (numbers .entry))) s ⌝ }
-{
-    let count = table::counts_of(numbers).statements;
-    if s < count {
-        return table::statement_of(numbers, s);
-    }
-    Statement::Return
-}
-
-// The first statement of routine `r`; 0 past the end.
-fn first_of(numbers: &[i32], first: &[usize], r: usize) -> usize
-    requires { ⌜ Placed (now numbers) (now first) ⌝ }
-    ensures { λ s. ⌜ s ≡ routine (tableOf (now (numbers .entry))) r .first ⌝ }
-{
-    let count = table::counts_of(numbers).routines;
-    if r < count {
-        return number_at(first, r);
-    }
-    0
-}
-
-// The number behind the last statement of routine `r`; 0 past the end.
-fn end_of(numbers: &[i32], first: &[usize], r: usize) -> usize
-    requires { ⌜ Placed (now numbers) (now first) ⌝ }
-    ensures { λ s. ⌜ s ≡ routine (tableOf (now (numbers .entry))) r .first + routine (tableOf (now (numbers .entry))) r .count ⌝ }
-{
-    let count = table::counts_of(numbers).routines;
-    if r < count {
-        return number_at(first, r + 1);
-    }
-    0
-}
-
-// What is held before statement `p`: all but what is left out there.
+// What is held at place `p`: all but what is left out there.
 fn held_at(out: &[u64], all: u64, p: usize) -> u64
     ensures { λ r. ⌜ r ≡ leaving all (now (out .entry)) p ⌝ }
 {
     sets::difference(all, set_at(out, p))
 }
 
-// 0 where statement `s` is a RETURN, and past the end; 1 elsewhere.
-fn other_at(numbers: &[i32], s: usize) -> u64
-    ensures { λ r. ⌜ r ≡ other (tableOf (now (numbers .entry))) s ⌝ }
-{
-    let statement = statement_at(numbers, s);
-    match statement {
-        Statement::Return => 0,
-        _ => 1,
-    }
-}
-
-// The statements that are no RETURN: 1 for each of them, 0 for all others.
-fn others_of(numbers: &[i32]) -> [u64; 512]
-    ensures { λ r. ⌜ r ≡ tabulate 512 (other (tableOf (now (numbers .entry)))) ⌝ }
-{
-    let mut others = [0u64; 512];
-    let mut s = 0;
-    while s < 512 {
-        others[s] = other_at(numbers, s);
-        s += 1;
-    }
-    others
-}
-
-// What a RETURN at statement `s` hands back; all locks if it is none.
-fn at_return(others: &[u64], out: &[u64], all: u64, s: usize) -> u64
-    ensures { λ r. ⌜ r ≡ cond (eqb (getD (now (others .entry)) s 0) 0) (leaving all (now (out .entry)) s) all ⌝ }
-{
-    if set_at(others, s) == 0 {
-        return held_at(out, all, s);
-    }
-    all
-}
-
-// The intersection of what is held before the RETURNs of routine `r`; all locks if there is none.
-fn at_returns(
-    numbers: &[i32],
-    first: &[usize],
-    others: &[u64],
-    out: &[u64],
-    all: u64,
-    r: usize,
-) -> u64
-    requires { ⌜ Ready (now numbers) (now first) (now others) all ⌝ }
-    ensures { λ x. ⌜ x ≡ atReturns (tableOf (now (numbers .entry))) (oneEach (tableOf (now (numbers .entry)))) (leaving all (now (out .entry))) r ⌝ }
-{
-    let start = first_of(numbers, first, r);
-    let mut s = end_of(numbers, first, r);
-    let mut meet = all;
-    while start < s {
-        s -= 1;
-        meet = sets::intersection(at_return(others, out, all, s), meet);
-    }
-    meet
-}
-
 // The one lock of a flow set; the empty set if it has none or several.
 fn only_lock(flow: u64) -> u64
     ensures { λ r. ⌜ r ≡ onlyLock flow ⌝ }
 {
-    match sets::only(flow) {
-        Which::Element(i) => sets::one(i),
-        Which::Nothing => 0,
-    }
+    if sets::is_single(flow) { flow } else { 0 }
 }
 
-// What is held behind a CALL of routine `r` at statement `s`.
-fn after_call(
-    numbers: &[i32],
-    first: &[usize],
-    others: &[u64],
-    given: &[u64],
-    out: &[u64],
-    all: u64,
-    s: usize,
-    r: usize,
-) -> u64
-    requires { ⌜ Ready (now numbers) (now first) (now others) all ⌝ }
-    ensures { λ x. ⌜ x ≡ union (atReturns (tableOf (now (numbers .entry))) (oneEach (tableOf (now (numbers .entry)))) (leaving all (now (out .entry))) r) (minus (leaving all (now (out .entry)) s) (getD (now (given .entry)) r 0)) ⌝ }
-{
-    let held = held_at(out, all, s);
-    let kept = sets::difference(held, set_at(given, r));
-    sets::union(at_returns(numbers, first, others, out, all, r), kept)
-}
-
-// What is held behind statement `s`, which is `operation`.
+// What is held behind statement `s` in line `line`, whose operation is number `op`. `back` has for each routine what its RETURNs leave out.
 fn held_after(
     numbers: &[i32],
-    first: &[usize],
-    others: &[u64],
     flow: &[u64],
     given: &[u64],
     out: &[u64],
+    back: &[u64],
     all: u64,
+    line: usize,
     s: usize,
-    operation: Statement,
+    op: usize,
 ) -> u64
-    requires { ⌜ Ready (now numbers) (now first) (now others) all ⌝ }
-    requires { ⌜ statement (tableOf (now numbers)) s ≡ operation ⌝ }
-    ensures { λ x. ⌜ x ≡ behind (tableOf (now (numbers .entry))) (now (flow .entry)) (now (given .entry)) s operation 0 .brings (leaving all (now (out .entry))) ⌝ }
+    ensures { λ x. ⌜ x ≡ behind (now (numbers .entry)) (now (flow .entry)) (now (given .entry)) (leaving all (now (out .entry))) (leaving all (now (back .entry))) line s op ⌝ }
 {
-    match operation {
-        Statement::Take(h) => sets::union(held_at(out, all, s), only_lock(set_at(flow, h.number))),
-        Statement::Give(h) => sets::difference(held_at(out, all, s), set_at(flow, h.number)),
-        Statement::Call {
-            routine,
-            arguments: _,
-        } => after_call(numbers, first, others, given, out, all, s, routine),
-        _ => held_at(out, all, s),
+    let held = held_at(out, all, s);
+    if op == 5 {
+        return sets::union(
+            held,
+            only_lock(set_at(flow, table::field_of(numbers, line, 2))),
+        );
     }
+    if op == 6 {
+        return sets::difference(held, set_at(flow, table::field_of(numbers, line, 2)));
+    }
+    if op == 8 {
+        let q = table::field_of(numbers, line, 2);
+        let kept = sets::difference(held, set_at(given, q));
+        return sets::union(held_at(back, all, q), kept);
+    }
+    held
 }
 
-// Leaves out at statement `to` what is not in `brought`, and returns whether that changed anything or something had changed before.
+// Leaves out at place `to` what is not in `brought`, and returns whether that changed anything or something had changed before.
 fn narrow_to(out: &mut [u64], all: u64, to: usize, brought: u64, changed: bool) -> bool
     ensures { λ r. ⌜ Became (putInto to (minus all brought) (now (out .entry))) (now (out .entry)) (now (out .exit)) changed r ⌝ }
 {
@@ -202,211 +93,610 @@ fn narrow_to(out: &mut [u64], all: u64, to: usize, brought: u64, changed: bool) 
     changed
 }
 
-// Goes the way behind statement `s`, which is `operation`, to statement `to`, and returns as narrow_to does.
-fn narrow_behind(
+// Goes the ways of statement `s`, whose operation `op` is one of READ to START, and returns as narrow_to does.
+fn go_on(
     out: &mut [u64],
+    back: &[u64],
     numbers: &[i32],
     first: &[usize],
-    others: &[u64],
     flow: &[u64],
     given: &[u64],
     all: u64,
+    base: usize,
     s: usize,
-    operation: Statement,
-    to: usize,
+    op: usize,
     changed: bool,
 ) -> bool
-    requires { ⌜ Ready (now numbers) (now first) (now others) all ⌝ }
-    requires { ⌜ statement (tableOf (now numbers)) s ≡ operation ⌝ }
-    ensures { λ r. ⌜ Became (narrow all (behind (tableOf (now (numbers .entry))) (now (flow .entry)) (now (given .entry)) s operation to) (now (out .entry))) (now (out .entry)) (now (out .exit)) changed r ⌝ }
+    requires { ⌜ (base < 2 ^ 32) × (s < 2 ^ 40) ⌝ }
+    requires { ⌜ (op ≡ field (now numbers) (base + s) 1) × (0 < op) × (op < 10) ⌝ }
+    ensures { λ c. ⌜ ((r : ℕ) → Owns (now (numbers .entry)) (now (first .entry)) r s → Moved (setting (now (numbers .entry)) (now (first .entry)) (now (flow .entry)) (now (given .entry)) all base) (Rule (setting (now (numbers .entry)) (now (first .entry)) (now (flow .entry)) (now (given .entry)) all base) r s) (now (out .entry)) (now (back .entry)) (now (out .exit)) (now (back .entry)) changed c) ⌝ }
 {
-    let brought = held_after(numbers, first, others, flow, given, out, all, s, operation);
-    narrow_to(out, all, to, brought, changed)
+    let line = base + s;
+    let brought = held_after(numbers, flow, given, out, back, all, line, s, op);
+    let more = narrow_to(out, all, s + 1, brought, changed);
+    if op == 8 {
+        let entry = number_at(first, table::field_of(numbers, line, 2));
+        let held = held_at(out, all, s);
+        return narrow_to(out, all, entry, held, more);
+    }
+    if op == 9 {
+        let entry = number_at(first, table::field_of(numbers, line, 2));
+        return narrow_to(out, all, entry, 0, more);
+    }
+    more
 }
 
-// Goes the ways of statement `s`, which is `operation`, to what may come next, and returns as narrow_to does.
-fn narrow_on(
+// Goes the ways of statement `s` of routine `r`; a RETURN leaves out in `back` what is left out before it. Returns as narrow_to does.
+fn step(
     out: &mut [u64],
+    back: &mut [u64],
     numbers: &[i32],
     first: &[usize],
-    others: &[u64],
     flow: &[u64],
     given: &[u64],
     all: u64,
+    base: usize,
     s: usize,
-    operation: Statement,
+    r: usize,
     changed: bool,
 ) -> bool
-    requires { ⌜ Ready (now numbers) (now first) (now others) all ⌝ }
-    requires { ⌜ statement (tableOf (now numbers)) s ≡ operation ⌝ }
-    requires { ⌜ s < 512 ⌝ }
-    ensures { λ r. ⌜ Became (narrowAll all (waysOn (tableOf (now (numbers .entry))) (now (flow .entry)) (now (given .entry)) s operation) (now (out .entry))) (now (out .entry)) (now (out .exit)) changed r ⌝ }
+    requires { ⌜ Small (now first) base ⌝ }
+    requires { ⌜ Owns (now numbers) (now first) r s ⌝ }
+    ensures { λ c. ⌜ Moved (setting (now (numbers .entry)) (now (first .entry)) (now (flow .entry)) (now (given .entry)) all base) (Rule (setting (now (numbers .entry)) (now (first .entry)) (now (flow .entry)) (now (given .entry)) all base) r s) (now (out .entry)) (now (back .entry)) (now (out .exit)) (now (back .exit)) changed c ⌝ }
 {
-    match operation {
-        Statement::Jump(target) => narrow_behind(
+    let op = table::field_of(numbers, base + s, 1);
+    let held = held_at(out, all, s);
+    if 11 < op {
+        return narrow_to(back, all, r, held, changed);
+    }
+    if op == 0 {
+        return narrow_to(back, all, r, held, changed);
+    }
+    if op < 10 {
+        return go_on(
             out,
+            back,
             numbers,
             first,
-            others,
             flow,
             given,
             all,
+            base,
             s,
-            operation,
-            target.statement,
+            op,
             changed,
-        ),
-        Statement::JumpZero(target) => {
-            let more = narrow_behind(
-                out,
-                numbers,
-                first,
-                others,
-                flow,
-                given,
-                all,
-                s,
-                operation,
-                target.statement,
-                changed,
-            );
-            narrow_behind(
-                out,
-                numbers,
-                first,
-                others,
-                flow,
-                given,
-                all,
-                s,
-                operation,
-                s + 1,
-                more,
-            )
-        }
-        Statement::Return => changed,
-        _ => narrow_behind(
-            out,
-            numbers,
-            first,
-            others,
-            flow,
-            given,
-            all,
-            s,
-            operation,
-            s + 1,
-            changed,
-        ),
+        );
     }
+    let target = table::field_of(numbers, base + s, 2);
+    let more = narrow_to(out, all, target, held, changed);
+    if op == 10 {
+        return more;
+    }
+    let still_held = held_at(out, all, s);
+    narrow_to(out, all, s + 1, still_held, more)
 }
 
-// Goes the way of statement `s`, which is `operation`, into the routine that it names: by CALL with what is held here, by START with
-// nothing. Returns as narrow_to does.
-fn narrow_into(
-    out: &mut [u64],
-    numbers: &[i32],
-    first: &[usize],
-    all: u64,
-    s: usize,
-    operation: Statement,
-    changed: bool,
-) -> bool
-    requires { ⌜ Placed (now numbers) (now first) ⌝ }
-    requires { ⌜ statement (tableOf (now numbers)) s ≡ operation ⌝ }
-    ensures { λ r. ⌜ Became (narrowAll all (waysInto (tableOf (now (numbers .entry))) s operation) (now (out .entry))) (now (out .entry)) (now (out .exit)) changed r ⌝ }
+// Whether one or the other is so.
+fn either(a: bool, b: bool) -> bool
+    ensures { λ r. ⌜ r ≡ (a || b) ⌝ }
 {
-    match operation {
-        Statement::Call {
-            routine,
-            arguments: _,
-        } => {
-            let held = held_at(out, all, s);
-            narrow_to(out, all, first_of(numbers, first, routine), held, changed)
-        }
-        Statement::Start {
-            routine,
-            arguments: _,
-        } => narrow_to(out, all, first_of(numbers, first, routine), 0, changed),
-        _ => changed,
+    if a {
+        return true;
+    }
+    b
+}
+
+// Marks statement `s`.
+fn mark(marks: &mut [u64; 8], s: usize) {
+    if s < 512 {
+        marks[s / 64] = sets::with_element(marks[s / 64], s % 64);
     }
 }
 
-// Goes every way of statement `s`, and returns as narrow_to does.
-fn narrow_from(
+// Marks statement `s` if it changed something.
+fn mark_if(marks: &mut [u64; 8], s: usize, changed: bool) {
+    if changed {
+        mark(marks, s);
+    }
+}
+
+// Goes the ways of the statements of routine `r` from `from` on and below `end`, and marks those that change something. Returns as narrow_to does.
+fn go_range(
     out: &mut [u64],
+    back: &mut [u64],
     numbers: &[i32],
     first: &[usize],
-    others: &[u64],
     flow: &[u64],
     given: &[u64],
     all: u64,
-    s: usize,
+    base: usize,
+    marks: &mut [u64; 8],
+    r: usize,
+    from: usize,
+    end: usize,
     changed: bool,
 ) -> bool
-    requires { ⌜ Ready (now numbers) (now first) (now others) all ⌝ }
-    requires { ⌜ s < statements (now numbers) ⌝ }
-    requires { ⌜ statements (now numbers) ≤ 512 ⌝ }
-    ensures { λ r. ⌜ Became (narrowAll all (waysOf (tableOf (now (numbers .entry))) (now (flow .entry)) (now (given .entry)) s) (now (out .entry))) (now (out .entry)) (now (out .exit)) changed r ⌝ }
+    requires { ⌜ Small (now first) base ⌝ }
+    requires { ⌜ Part (now numbers) (now first) r from end ⌝ }
+    ensures { λ c. ⌜ Moved (setting (now (numbers .entry)) (now (first .entry)) (now (flow .entry)) (now (given .entry)) all base) (RulesIn (setting (now (numbers .entry)) (now (first .entry)) (now (flow .entry)) (now (given .entry)) all base) r from end) (now (out .entry)) (now (back .entry)) (now (out .exit)) (now (back .exit)) changed c ⌝ }
 {
-    let operation = table::statement_of(numbers, s);
-    let more = narrow_on(
-        out,
-        numbers,
-        first,
-        others,
-        flow,
-        given,
-        all,
-        s,
-        operation,
-        changed,
-    );
-    narrow_into(out, numbers, first, all, s, operation, more)
+    let mut s = from;
+    let mut more = changed;
+    while s < end {
+        let moved = step(
+            out,
+            back,
+            numbers,
+            first,
+            flow,
+            given,
+            all,
+            base,
+            s,
+            r,
+            false,
+        );
+        mark_if(marks, s, moved);
+        more = either(more, moved);
+        s += 1;
+    }
+    more
 }
 
-// Goes every way of the table once, the entry of routine 0 first, and returns whether anything changed.
+// Goes every way of the table once, the entry of routine 0 first, and marks the statements that change something. Returns whether any did.
 fn pass(
     out: &mut [u64],
+    back: &mut [u64],
     numbers: &[i32],
     first: &[usize],
-    others: &[u64],
     flow: &[u64],
     given: &[u64],
     all: u64,
+    base: usize,
+    marks: &mut [u64; 8],
 ) -> bool
-    requires { ⌜ Ready (now numbers) (now first) (now others) all ⌝ }
-    requires { ⌜ statements (now numbers) ≤ 512 ⌝ }
-    ensures { λ r. ⌜ Became (passOf all (tableOf (now (numbers .entry))) (now (flow .entry)) (now (given .entry)) (now (out .entry))) (now (out .entry)) (now (out .exit)) false r ⌝ }
+    requires { ⌜ Small (now first) base ⌝ }
+    ensures { λ c. ⌜ Moved (setting (now (numbers .entry)) (now (first .entry)) (now (flow .entry)) (now (given .entry)) all base) (Closed (setting (now (numbers .entry)) (now (first .entry)) (now (flow .entry)) (now (given .entry)) all base)) (now (out .entry)) (now (back .entry)) (now (out .exit)) (now (back .exit)) false c ⌝ }
 {
-    let count = table::counts_of(numbers).statements;
-    let entry = first_of(numbers, first, 0);
-    let mut changed = narrow_to(out, all, entry, 0, false);
-    let mut s = 0;
-    while s < count {
-        changed = narrow_from(out, numbers, first, others, flow, given, all, s, changed);
-        s += 1;
+    let count = table::field_of(numbers, 0, 4);
+    let mut changed = narrow_to(out, all, 0, 0, false);
+    let mut r = 0;
+    while r < count {
+        let from = number_at(first, r);
+        let end = number_at(first, r + 1);
+        changed = go_range(
+            out,
+            back,
+            numbers,
+            first,
+            flow,
+            given,
+            all,
+            base,
+            marks,
+            r,
+            from,
+            end,
+            changed,
+        );
+        r += 1;
     }
     changed
 }
 
-// Passes until one changes nothing.
-fn settle(
-    out: &mut [u64],
+// Marks the statements that CALL routine `r`.
+fn mark_calls(todo: &mut [u64; 8], calls: &[u64; 256], r: usize) {
+    let mut word = 0;
+    while word < 8 {
+        if r < 32 {
+            todo[word] = todo[word] | calls[r * 8 + word];
+        }
+        word += 1;
+    }
+}
+
+// Marks the statements that the ways of statement `s` of routine `r` lead to.
+fn mark_after(
+    todo: &mut [u64; 8],
+    calls: &[u64; 256],
     numbers: &[i32],
     first: &[usize],
-    others: &[u64],
+    base: usize,
+    s: usize,
+    r: usize,
+)
+    requires { ⌜ (base < 2 ^ 32) × (s < 2 ^ 40) ⌝ }
+{
+    let op = table::field_of(numbers, base + s, 1);
+    let operand = table::field_of(numbers, base + s, 2);
+    if op == 12 {
+        mark_calls(todo, calls, r);
+        return;
+    }
+    if op != 10 {
+        mark(todo, s + 1);
+    }
+    if 9 < op {
+        mark(todo, operand);
+    }
+    if (op == 8) | (op == 9) {
+        mark(todo, number_at(first, operand));
+    }
+}
+
+// Notes that statement `s` CALLs routine `r`.
+fn note_call(calls: &mut [u64; 256], r: usize, s: usize) {
+    if r < 32 {
+        if s < 512 {
+            let place = r * 8 + s / 64;
+            calls[place] = sets::with_element(calls[place], s % 64);
+        }
+    }
+}
+
+// Notes that statement `s` is one of routine `r`, and the CALL that it may be.
+fn note(
+    calls: &mut [u64; 256],
+    owners: &mut [u8; 512],
+    numbers: &[i32],
+    base: usize,
+    s: usize,
+    r: usize,
+)
+    requires { ⌜ (base < 2 ^ 32) × (s < 2 ^ 40) × (r < 32) ⌝ }
+{
+    if s < 512 {
+        owners[s] = r as u8;
+    }
+    if table::field_of(numbers, base + s, 1) == 8 {
+        note_call(calls, table::field_of(numbers, base + s, 2), s);
+    }
+}
+
+// Notes every statement of routine `r`.
+fn note_routine(
+    calls: &mut [u64; 256],
+    owners: &mut [u8; 512],
+    numbers: &[i32],
+    first: &[usize],
+    base: usize,
+    r: usize,
+)
+    requires { ⌜ Small (now first) base ⌝ }
+    requires { ⌜ r < 32 ⌝ }
+{
+    let end = number_at(first, r + 1);
+    let mut s = number_at(first, r);
+    while s < end {
+        note(calls, owners, numbers, base, s, r);
+        s += 1;
+    }
+}
+
+// Notes every statement.
+fn note_all(
+    calls: &mut [u64; 256],
+    owners: &mut [u8; 512],
+    numbers: &[i32],
+    first: &[usize],
+    base: usize,
+)
+    requires { ⌜ Small (now first) base ⌝ }
+{
+    let count = table::field_of(numbers, 0, 4);
+    let mut r = 0;
+    while r < 32 {
+        if r < count {
+            note_routine(calls, owners, numbers, first, base, r);
+        }
+        r += 1;
+    }
+}
+
+// x, as an index.
+fn wide(x: u8) -> usize {
+    x as usize
+}
+
+// The routine that is noted for statement `s`.
+fn owner_at(owners: &[u8; 512], s: usize) -> usize {
+    if s < 512 { wide(owners[s]) } else { 0 }
+}
+
+// The lowest element of a set; 64 if it has none.
+fn lowest_of(set: u64) -> usize
+    ensures { λ i. ⌜ i ≤ 64 ⌝ }
+{
+    u64::trailing_zeros(set) as usize
+}
+
+// Marks the statements that the ways of one word's statements in `changed` lead to.
+fn spread_word(
+    todo: &mut [u64; 8],
+    calls: &[u64; 256],
+    owners: &[u8; 512],
+    numbers: &[i32],
+    first: &[usize],
+    base: usize,
+    word: usize,
+    changed: u64,
+)
+    requires { ⌜ (base < 2 ^ 32) × (word < 8) ⌝ }
+{
+    let mut bits = changed;
+    let mut left: usize = 64;
+    while 0 < left {
+        if bits == 0 {
+            return;
+        }
+        let s = word * 64 + lowest_of(bits);
+        mark_after(todo, calls, numbers, first, base, s, owner_at(owners, s));
+        bits = bits & (bits - 1);
+        left -= 1;
+    }
+}
+
+// Marks the statements that the ways of the statements in `changed` lead to.
+fn spread(
+    todo: &mut [u64; 8],
+    calls: &[u64; 256],
+    owners: &[u8; 512],
+    numbers: &[i32],
+    first: &[usize],
+    base: usize,
+    changed: &[u64; 8],
+)
+    requires { ⌜ base < 2 ^ 32 ⌝ }
+{
+    let mut word = 0;
+    while word < 8 {
+        spread_word(
+            todo,
+            calls,
+            owners,
+            numbers,
+            first,
+            base,
+            word,
+            changed[word],
+        );
+        word += 1;
+    }
+}
+
+// Goes the ways of statement `s`, and if that changes anything marks the statements that they lead to. The lists of marks, CALLs and owners
+// promise nothing: what they say is tested.
+fn look(
+    out: &mut [u64],
+    back: &mut [u64],
+    numbers: &[i32],
+    first: &[usize],
     flow: &[u64],
     given: &[u64],
     all: u64,
+    base: usize,
+    todo: &mut [u64; 8],
+    calls: &[u64; 256],
+    owners: &[u8; 512],
+    s: usize,
 )
-    requires { ⌜ Ready (now numbers) (now first) (now others) all ⌝ }
-    requires { ⌜ statements (now numbers) ≤ 512 ⌝ }
-    ensures { λ _. ⌜ now (out .exit) ≡ settled (passOf all (tableOf (now (numbers .entry))) (now (flow .entry)) (now (given .entry))) (now (out .entry)) ⌝ }
+    requires { ⌜ Small (now first) base ⌝ }
+    ensures { λ _. ⌜ Kept (setting (now (numbers .entry)) (now (first .entry)) (now (flow .entry)) (now (given .entry)) all base) (now (out .entry)) (now (back .entry)) (now (out .exit)) (now (back .exit)) ⌝ }
 {
+    let r = owner_at(owners, s);
+    if table::field_of(numbers, 0, 4) <= r {
+        return;
+    }
+    if s < number_at(first, r) {
+        return;
+    }
+    if number_at(first, r + 1) <= s {
+        return;
+    }
+    if go_range(
+        out,
+        back,
+        numbers,
+        first,
+        flow,
+        given,
+        all,
+        base,
+        todo,
+        r,
+        s,
+        s + 1,
+        false,
+    ) {
+        mark_after(todo, calls, numbers, first, base, s, r);
+    }
+}
+
+// Looks at the marked statements of one word, until none is marked or they are many.
+fn chase_word(
+    out: &mut [u64],
+    back: &mut [u64],
+    numbers: &[i32],
+    first: &[usize],
+    flow: &[u64],
+    given: &[u64],
+    all: u64,
+    base: usize,
+    todo: &mut [u64; 8],
+    calls: &[u64; 256],
+    owners: &[u8; 512],
+    word: usize,
+)
+    requires { ⌜ Small (now first) base ⌝ }
+    requires { ⌜ word < 8 ⌝ }
+    ensures { λ _. ⌜ Kept (setting (now (numbers .entry)) (now (first .entry)) (now (flow .entry)) (now (given .entry)) all base) (now (out .entry)) (now (back .entry)) (now (out .exit)) (now (back .exit)) ⌝ }
+{
+    let mut left: usize = 4096;
+    while 0 < left {
+        let bits = todo[word];
+        if bits == 0 {
+            return;
+        }
+        let bit = lowest_of(bits);
+        look(
+            out,
+            back,
+            numbers,
+            first,
+            flow,
+            given,
+            all,
+            base,
+            todo,
+            calls,
+            owners,
+            word * 64 + bit,
+        );
+        todo[word] = sets::difference(todo[word], sets::one(bit));
+        left -= 1;
+    }
+}
+
+// Looks at the marked statements of every word.
+fn chase_round(
+    out: &mut [u64],
+    back: &mut [u64],
+    numbers: &[i32],
+    first: &[usize],
+    flow: &[u64],
+    given: &[u64],
+    all: u64,
+    base: usize,
+    todo: &mut [u64; 8],
+    calls: &[u64; 256],
+    owners: &[u8; 512],
+)
+    requires { ⌜ Small (now first) base ⌝ }
+    ensures { λ _. ⌜ Kept (setting (now (numbers .entry)) (now (first .entry)) (now (flow .entry)) (now (given .entry)) all base) (now (out .entry)) (now (back .entry)) (now (out .exit)) (now (back .exit)) ⌝ }
+{
+    let mut word = 0;
+    while word < 8 {
+        chase_word(
+            out,
+            back,
+            numbers,
+            first,
+            flow,
+            given,
+            all,
+            base,
+            todo,
+            calls,
+            owners,
+            word,
+        );
+        word += 1;
+    }
+}
+
+// Whether any statement is marked.
+fn any_marked(todo: &[u64; 8]) -> bool {
+    (todo[0] | todo[1] | todo[2] | todo[3] | todo[4] | todo[5] | todo[6] | todo[7]) != 0
+}
+
+// Goes the ways of the statements that those in `changed` lead to, and so on, in place of passes over all of them.
+fn chase(
+    out: &mut [u64],
+    back: &mut [u64],
+    numbers: &[i32],
+    first: &[usize],
+    flow: &[u64],
+    given: &[u64],
+    all: u64,
+    base: usize,
+    changed: &[u64; 8],
+)
+    requires { ⌜ Small (now first) base ⌝ }
+    ensures { λ _. ⌜ Kept (setting (now (numbers .entry)) (now (first .entry)) (now (flow .entry)) (now (given .entry)) all base) (now (out .entry)) (now (back .entry)) (now (out .exit)) (now (back .exit)) ⌝ }
+{
+    let mut todo = [0u64; 8];
+    let mut calls = [0u64; 256];
+    let mut owners = [0u8; 512];
+    note_all(&mut calls, &mut owners, numbers, first, base);
+    spread(&mut todo, &calls, &owners, numbers, first, base, changed);
+    let mut left: usize = 512;
+    while 0 < left {
+        if !any_marked(&todo) {
+            return;
+        }
+        chase_round(
+            out,
+            back,
+            numbers,
+            first,
+            flow,
+            given,
+            all,
+            base,
+            &mut todo,
+            &calls,
+            &owners,
+        );
+        left -= 1;
+    }
+}
+
+// Passes until one changes nothing; after two that did, what the second one changed is chased.
+fn settle(
+    out: &mut [u64],
+    back: &mut [u64],
+    numbers: &[i32],
+    first: &[usize],
+    flow: &[u64],
+    given: &[u64],
+    all: u64,
+    base: usize,
+)
+    requires { ⌜ Small (now first) base ⌝ }
+    ensures { λ _. ⌜ Solved (setting (now (numbers .entry)) (now (first .entry)) (now (flow .entry)) (now (given .entry)) all base) (now (out .entry)) (now (back .entry)) (now (out .exit)) (now (back .exit)) ⌝ }
+{
+    let mut marks = [0u64; 8];
+    if !pass(
+        out,
+        back,
+        numbers,
+        first,
+        flow,
+        given,
+        all,
+        base,
+        &mut marks,
+    ) {
+        return;
+    }
+    let mut changed = [0u64; 8];
+    if !pass(
+        out,
+        back,
+        numbers,
+        first,
+        flow,
+        given,
+        all,
+        base,
+        &mut changed,
+    ) {
+        return;
+    }
+    chase(out, back, numbers, first, flow, given, all, base, &changed);
     let mut going = true;
     while going {
-        going = pass(out, numbers, first, others, flow, given, all);
+        going = pass(
+            out,
+            back,
+            numbers,
+            first,
+            flow,
+            given,
+            all,
+            base,
+            &mut marks,
+        );
     }
 }
 
@@ -421,26 +711,7 @@ fn turn_round(sets: &mut [u64], all: u64)
     }
 }
 
-// Makes a list of empty sets, one a statement, the held sets.
-fn solve(
-    held: &mut [u64],
-    numbers: &[i32],
-    first: &[usize],
-    others: &[u64],
-    flow: &[u64],
-    given: &[u64],
-    all: u64,
-)
-    requires { ⌜ Ready (now numbers) (now first) (now others) all ⌝ }
-    requires { ⌜ statements (now numbers) ≤ 512 ⌝ }
-    requires { ⌜ now held ≡ replicate (statements (now numbers)) 0 ⌝ }
-    ensures { λ _. ⌜ now (held .exit) ≡ heldSets (tableOf (now (numbers .entry))) (oneEach (tableOf (now (numbers .entry)))) (now (flow .entry)) (now (given .entry)) ⌝ }
-{
-    settle(held, numbers, first, others, flow, given, all);
-    turn_round(held, all);
-}
-
-// The held sets of a table, from its flow sets and the locks that each routine may give up; empty sets behind the last statement's.
+// Makes a list of empty sets, one a statement, the held sets of a table, from its flow sets and the locks that each routine may give up.
 // `first`, `handle` and `counts` are the lists that the table's reader makes.
 pub fn held_sets(
     numbers: &[i32],
@@ -449,23 +720,25 @@ pub fn held_sets(
     counts: &[usize],
     flow: &[u64],
     given: &[u64],
-) -> [u64; 512]
+    held: &mut [u64],
+)
     requires { ⌜ Laid (now numbers) (now first) (now handle) (now counts) ⌝ }
-    ensures { λ r. ⌜ r ≡ heldSets (tableOf (now (numbers .entry))) (oneEach (tableOf (now (numbers .entry)))) (now (flow .entry)) (now (given .entry)) ++ replicate (512 - statements (now (numbers .entry))) 0 ⌝ }
+    requires { ⌜ Accepted (tableOf (now numbers)) ⌝ }
+    requires { ⌜ now held ≡ replicate (statements (now numbers)) 0 ⌝ }
+    ensures { λ _. ⌜ now (held .exit) ≡ heldSets (tableOf (now (numbers .entry))) (oneEach (tableOf (now (numbers .entry)))) (now (flow .entry)) (now (given .entry)) ⌝ }
 {
-    let header = table::counts_of(numbers);
-    let count = header.statements;
-    let all = sets::firsts(header.locks);
-    let others = others_of(numbers);
-    let mut held = [0u64; 512];
-    solve(
-        &mut held[..count],
+    let size = table::counts_of(numbers);
+    let all = sets::firsts(size.locks);
+    let mut back = [0u64; 32];
+    settle(
+        held,
+        &mut back[..],
         numbers,
         first,
-        &others[..],
         flow,
         given,
         all,
+        1 + size.handles + size.routines,
     );
-    held
+    turn_round(held, all);
 }
