@@ -1,19 +1,18 @@
 -- Steps one after another, and what they keep: from sets put into one place to passes until one changes nothing. Assumes nothing.
 use mathlib.Core.Path.{_≡_, refl, sym, _∙_, subst}
-use mathlib.Core.Bool.{Bool, true, false}
+use mathlib.Core.Bool.{Bool, true, false, _||_}
 use mathlib.Core.List.{List}
 use mathlib.Core.Logic.{inl, inr, ⊎-elim}
 use Prim.Native.Nat.{ℕ, _+_, _≤_, _<_}
 use native.Mathlib.Nat.{le-refl, lt-of-lt-of-le, lt-of-le-of-lt}
 use native.Mathlib.Omega.{arith}
 use borrow.Author.Count.{below-more}
-use lib.ListN.{getD}
 use Rattle.sets.specs.Set.{minus}
 use Rattle.sets.specs.Least.{Inside, room, putInto}
 use Rattle.sets.specs.Rules.{put-inside, still-put}
 use Rattle.table.specs.Header.{routines}
 use Rattle.lockset.specs.Steps.{Became}
-use Rattle.lockset.specs.Rules.{Setting, Lost, RulesBelow, RoutinesBelow, Closed, Kept, Moved, Settling, Solved, Rule, RoutineRules}
+use Rattle.lockset.specs.Rules.{Setting, Lost, RulesIn, RoutinesBelow, Closed, Kept, Moved, Settling, Solved, Rule, RoutineRules}
 
 -- what is left to do, besides the room: one turn while going on
 unfoldable pub turn : Bool → ℕ
@@ -99,23 +98,31 @@ module _ {e : Setting} where
 
   -- ---- a pass
 
+  -- what changes something by itself does so after anything
+  module _ {D : List ℕ → List ℕ → Type 0} where
+    pub moved-or : {o b o′ b′ : List ℕ} {x y z : Bool} → z ≡ (x || y) → Moved e D o b o′ b′ false y → Moved e D o b o′ b′ x z
+    moved-or {o} {b} {o′} {b′} {x} {y} {z} h p = subst (λ (w : Bool). Moved e D o b o′ b′ x w) (sym h) (go x y p)
+      where
+        go : (u v : Bool) → Moved e D o b o′ b′ false v → Moved e D o b o′ b′ u (u || v)
+        go true v q = record { kept = q .kept; moved = λ t. inl t; still = λ t. absurd (let w : _≡_ {A = ℕ} 0 1 = cc in omega arith) }
+        go false v q = q
+
   -- the statements of a routine, one after another
-  pub below-start : {o b : List ℕ} {x : Bool} {r s : ℕ} → s ≤ getD (e .first) r 0 → Moved e (RulesBelow e r s) o b o b x x
-  below-start h = record {
+  pub part-start : {o b : List ℕ} {x : Bool} {r s : ℕ} → Moved e (RulesIn e r s s) o b o b x x
+  part-start = record {
     kept = kept-none;
     moved = λ t. inl t;
     still = λ t. (t, refl, refl, record { at = λ s l k. absurd (omega arith) });
   }
 
-  pub below-next : {o b o′ b′ o″ b″ : List ℕ} {x y z : Bool} {r s : ℕ} → Moved e (RulesBelow e r s) o b o′ b′ x y → Moved e (Rule e r s) o′ b′ o″ b″ y z
-      → Moved e (RulesBelow e r (s + 1)) o b o″ b″ x z
-  below-next {o} {b} {r = r} {s} =
-      moved-then
-      (λ p q. record { at = λ i l k. below-more (λ (j : ℕ). getD (e .first) r 0 ≤ j → Rule e r j o b) s (λ j h m. p .at j m h) (λ m. q) i k l })
+  pub part-next : {o b o′ b′ o″ b″ : List ℕ} {x y z : Bool} {r from s : ℕ} → Moved e (RulesIn e r from s) o b o′ b′ x y → Moved e (Rule e r s) o′ b′ o″ b″ y z
+      → Moved e (RulesIn e r from (s + 1)) o b o″ b″ x z
+  part-next {o} {b} {r = r} {from} {s} =
+      moved-then (λ p q. record { at = λ i l k. below-more (λ (j : ℕ). from ≤ j → Rule e r j o b) s (λ j h m. p .at j m h) (λ m. q) i k l })
 
-  pub below-done : {o b o′ b′ : List ℕ} {x y : Bool} {r s : ℕ} → getD (e .first) (r + 1) 0 ≤ s → Moved e (RulesBelow e r s) o b o′ b′ x y
-      → Moved e (RoutineRules e r) o b o′ b′ x y
-  below-done h = moved-as (λ p. record { at = λ i l k. p .at i l (omega arith) })
+  pub part-as : {o b o′ b′ : List ℕ} {x y : Bool} {r from from′ end end′ : ℕ} → from ≤ from′ → end′ ≤ end → Moved e (RulesIn e r from end) o b o′ b′ x y
+      → Moved e (RulesIn e r from′ end′) o b o′ b′ x y
+  part-as h k = moved-as (λ p. record { at = λ i l m. p .at i (omega arith) (omega arith) })
 
   -- the routines, one after another
   pub routines-start : {o b : List ℕ} {x : Bool} → Moved e (RoutinesBelow e 0) o b o b x x

@@ -38,6 +38,12 @@ pub record Owns (f : List ℤ) (first : List ℕ) (r s : ℕ) : Type 0 where
   pub low : getD first r 0 ≤ s
   pub high : s < getD first (r + 1) 0
 
+-- the statements from `from` on and below `end` are ones of routine r
+pub record Part (f : List ℤ) (first : List ℕ) (r from end : ℕ) : Type 0 where
+  pub there : r < routines f
+  pub low : getD first r 0 ≤ from
+  pub high : end ≤ getD first (r + 1) 0
+
 -- what is not brought is left out at place `to`
 pub record Lost (all : ℕ) (sets : List ℕ) (to brought : ℕ) : Type 0 where
   pub is-out : to < length sets → (x : ℕ) → has (minus all brought) x ≡ true → has (getD sets to 0) x ≡ true
@@ -63,13 +69,13 @@ module _ (e : Setting) where
     pub start : operation s ≡ 9 → Lost (e .all) out (getD (e .first) (operand s) 0) 0
     pub hand-back : (0 < operation s → 11 < operation s) → Lost (e .all) back r (leaving (e .all) out s)
 
-  -- nor have those of the statements of routine r, from its first on and below `end`
-  pub record RulesBelow (r end : ℕ) (out back : List ℕ) : Type 0 where
-    pub at : (s : ℕ) → getD (e .first) r 0 ≤ s → s < end → Rule r s out back
+  -- nor have those of the statements of routine r from `from` on and below `end`
+  pub record RulesIn (r from end : ℕ) (out back : List ℕ) : Type 0 where
+    pub at : (s : ℕ) → from ≤ s → s < end → Rule r s out back
 
   -- nor those of any statement of routine r
   abbrev pub RoutineRules : ℕ → List ℕ → List ℕ → Type 0
-  RoutineRules r = RulesBelow r (getD (e .first) (r + 1) 0)
+  RoutineRules r = RulesIn r (getD (e .first) r 0) (getD (e .first) (r + 1) 0)
 
   -- nor those of the routines below n
   pub record RoutinesBelow (n : ℕ) (out back : List ℕ) : Type 0 where

@@ -1,6 +1,6 @@
 // The held sets of a table: the greatest sets of locks before each statement, solved from what is left out of them.
 ghost use mathlib.Core.Path.{_≡_};
-ghost use mathlib.Core.Bool.{false};
+ghost use mathlib.Core.Bool.{false, _||_};
 ghost use Prim.Native.Nat.{ℕ, _+_, _<_, _≤_, _^_};
 ghost use lib.ListN.{length, getD, replicate};
 ghost use Rattle.sets.specs.Set.{minus};
@@ -15,7 +15,7 @@ ghost use Rattle.report.specs.Greatest.{leaving};
 ghost use Rattle.report.specs.Layout.{oneEach};
 ghost use Rattle.report.specs.Held.{onlyLock, heldSets};
 ghost use Rattle.lockset.specs.Steps.{Became, behind};
-ghost use Rattle.lockset.specs.Rules.{setting, Small, Owns, Rule, RoutineRules, Closed, Kept, Moved, Solved};
+ghost use Rattle.lockset.specs.Rules.{setting, Small, Owns, Part, Rule, RulesIn, Closed, Kept, Moved, Solved};
 
 // The set at place `i` of a list; the empty set past the end.
 fn set_at(list: &[u64], i: usize) -> u64
@@ -176,8 +176,32 @@ fn step(
     narrow_to(out, all, s + 1, still_held, more)
 }
 
-// Goes the ways of every statement of routine `r` once, and returns as narrow_to does.
-fn pass_routine(
+// Whether one or the other is so.
+fn either(a: bool, b: bool) -> bool
+    ensures { λ r. ⌜ r ≡ (a || b) ⌝ }
+{
+    if a {
+        return true;
+    }
+    b
+}
+
+// Marks statement `s`.
+fn mark(marks: &mut [u64; 8], s: usize) {
+    if s < 512 {
+        marks[s / 64] = sets::with_element(marks[s / 64], s % 64);
+    }
+}
+
+// Marks statement `s` if it changed something.
+fn mark_if(marks: &mut [u64; 8], s: usize, changed: bool) {
+    if changed {
+        mark(marks, s);
+    }
+}
+
+// Goes the ways of the statements of routine `r` from `from` on and below `end`, and marks those that change something. Returns as narrow_to does.
+fn go_range(
     out: &mut [u64],
     back: &mut [u64],
     numbers: &[i32],
@@ -186,18 +210,20 @@ fn pass_routine(
     given: &[u64],
     all: u64,
     base: usize,
+    marks: &mut [u64; 8],
     r: usize,
+    from: usize,
+    end: usize,
     changed: bool,
 ) -> bool
     requires { ⌜ Small (now first) base ⌝ }
-    requires { ⌜ (r < routines (now numbers)) × (r < 2 ^ 32) ⌝ }
-    ensures { λ c. ⌜ Moved (setting (now (numbers .entry)) (now (first .entry)) (now (flow .entry)) (now (given .entry)) all base) (RoutineRules (setting (now (numbers .entry)) (now (first .entry)) (now (flow .entry)) (now (given .entry)) all base) r) (now (out .entry)) (now (back .entry)) (now (out .exit)) (now (back .exit)) changed c ⌝ }
+    requires { ⌜ Part (now numbers) (now first) r from end ⌝ }
+    ensures { λ c. ⌜ Moved (setting (now (numbers .entry)) (now (first .entry)) (now (flow .entry)) (now (given .entry)) all base) (RulesIn (setting (now (numbers .entry)) (now (first .entry)) (now (flow .entry)) (now (given .entry)) all base) r from end) (now (out .entry)) (now (back .entry)) (now (out .exit)) (now (back .exit)) changed c ⌝ }
 {
-    let end = number_at(first, r + 1);
-    let mut s = number_at(first, r);
+    let mut s = from;
     let mut more = changed;
     while s < end {
-        more = step(
+        let moved = step(
             out,
             back,
             numbers,
@@ -208,14 +234,16 @@ fn pass_routine(
             base,
             s,
             r,
-            more,
+            false,
         );
+        mark_if(marks, s, moved);
+        more = either(more, moved);
         s += 1;
     }
     more
 }
 
-// Goes every way of the table once, the entry of routine 0 first, and returns whether anything changed.
+// Goes every way of the table once, the entry of routine 0 first, and marks the statements that change something. Returns whether any did.
 fn pass(
     out: &mut [u64],
     back: &mut [u64],
@@ -225,6 +253,7 @@ fn pass(
     given: &[u64],
     all: u64,
     base: usize,
+    marks: &mut [u64; 8],
 ) -> bool
     requires { ⌜ Small (now first) base ⌝ }
     ensures { λ c. ⌜ Moved (setting (now (numbers .entry)) (now (first .entry)) (now (flow .entry)) (now (given .entry)) all base) (Closed (setting (now (numbers .entry)) (now (first .entry)) (now (flow .entry)) (now (given .entry)) all base)) (now (out .entry)) (now (back .entry)) (now (out .exit)) (now (back .exit)) false c ⌝ }
@@ -233,7 +262,9 @@ fn pass(
     let mut changed = narrow_to(out, all, 0, 0, false);
     let mut r = 0;
     while r < count {
-        changed = pass_routine(
+        let from = number_at(first, r);
+        let end = number_at(first, r + 1);
+        changed = go_range(
             out,
             back,
             numbers,
@@ -242,19 +273,15 @@ fn pass(
             given,
             all,
             base,
+            marks,
             r,
+            from,
+            end,
             changed,
         );
         r += 1;
     }
     changed
-}
-
-// Marks statement `s`, which has to be looked at again.
-fn mark(todo: &mut [u64; 8], s: usize) {
-    if s < 512 {
-        todo[s / 64] = sets::with_element(todo[s / 64], s % 64);
-    }
 }
 
 // Marks the statements that CALL routine `r`.
@@ -307,9 +334,8 @@ fn note_call(calls: &mut [u64; 256], r: usize, s: usize) {
     }
 }
 
-// Marks statement `s` of routine `r`, and notes its routine and the CALL that it may be.
+// Notes that statement `s` is one of routine `r`, and the CALL that it may be.
 fn note(
-    todo: &mut [u64; 8],
     calls: &mut [u64; 256],
     owners: &mut [u8; 512],
     numbers: &[i32],
@@ -319,7 +345,6 @@ fn note(
 )
     requires { ⌜ (base < 2 ^ 32) × (s < 2 ^ 40) × (r < 32) ⌝ }
 {
-    mark(todo, s);
     if s < 512 {
         owners[s] = r as u8;
     }
@@ -328,9 +353,8 @@ fn note(
     }
 }
 
-// Marks every statement of routine `r`, and notes what `note` does.
+// Notes every statement of routine `r`.
 fn note_routine(
-    todo: &mut [u64; 8],
     calls: &mut [u64; 256],
     owners: &mut [u8; 512],
     numbers: &[i32],
@@ -344,14 +368,13 @@ fn note_routine(
     let end = number_at(first, r + 1);
     let mut s = number_at(first, r);
     while s < end {
-        note(todo, calls, owners, numbers, base, s, r);
+        note(calls, owners, numbers, base, s, r);
         s += 1;
     }
 }
 
-// Marks every statement, and notes what `note` does.
+// Notes every statement.
 fn note_all(
-    todo: &mut [u64; 8],
     calls: &mut [u64; 256],
     owners: &mut [u8; 512],
     numbers: &[i32],
@@ -364,7 +387,7 @@ fn note_all(
     let mut r = 0;
     while r < 32 {
         if r < count {
-            note_routine(todo, calls, owners, numbers, first, base, r);
+            note_routine(calls, owners, numbers, first, base, r);
         }
         r += 1;
     }
@@ -380,7 +403,68 @@ fn owner_at(owners: &[u8; 512], s: usize) -> usize {
     if s < 512 { wide(owners[s]) } else { 0 }
 }
 
-// Goes the ways of statement `s`, and where that changes anything marks the statements that they lead to. The lists of marks, CALLs and owners
+// The lowest element of a set; 64 if it has none.
+fn lowest_of(set: u64) -> usize
+    ensures { λ i. ⌜ i ≤ 64 ⌝ }
+{
+    u64::trailing_zeros(set) as usize
+}
+
+// Marks the statements that the ways of one word's statements in `changed` lead to.
+fn spread_word(
+    todo: &mut [u64; 8],
+    calls: &[u64; 256],
+    owners: &[u8; 512],
+    numbers: &[i32],
+    first: &[usize],
+    base: usize,
+    word: usize,
+    changed: u64,
+)
+    requires { ⌜ (base < 2 ^ 32) × (word < 8) ⌝ }
+{
+    let mut bits = changed;
+    let mut left: usize = 64;
+    while 0 < left {
+        if bits == 0 {
+            return;
+        }
+        let s = word * 64 + lowest_of(bits);
+        mark_after(todo, calls, numbers, first, base, s, owner_at(owners, s));
+        bits = bits & (bits - 1);
+        left -= 1;
+    }
+}
+
+// Marks the statements that the ways of the statements in `changed` lead to.
+fn spread(
+    todo: &mut [u64; 8],
+    calls: &[u64; 256],
+    owners: &[u8; 512],
+    numbers: &[i32],
+    first: &[usize],
+    base: usize,
+    changed: &[u64; 8],
+)
+    requires { ⌜ base < 2 ^ 32 ⌝ }
+{
+    let mut word = 0;
+    while word < 8 {
+        spread_word(
+            todo,
+            calls,
+            owners,
+            numbers,
+            first,
+            base,
+            word,
+            changed[word],
+        );
+        word += 1;
+    }
+}
+
+// Goes the ways of statement `s`, and if that changes anything marks the statements that they lead to. The lists of marks, CALLs and owners
 // promise nothing: what they say is tested.
 fn look(
     out: &mut [u64],
@@ -409,7 +493,7 @@ fn look(
     if number_at(first, r + 1) <= s {
         return;
     }
-    if step(
+    if go_range(
         out,
         back,
         numbers,
@@ -418,19 +502,14 @@ fn look(
         given,
         all,
         base,
-        s,
+        todo,
         r,
+        s,
+        s + 1,
         false,
     ) {
         mark_after(todo, calls, numbers, first, base, s, r);
     }
-}
-
-// The lowest element of a set; 64 if it has none.
-fn lowest_of(set: u64) -> usize
-    ensures { λ i. ⌜ i ≤ 64 ⌝ }
-{
-    u64::trailing_zeros(set) as usize
 }
 
 // Looks at the marked statements of one word, until none is marked or they are many.
@@ -458,8 +537,7 @@ fn chase_word(
         if bits == 0 {
             return;
         }
-        let s = word * 64 + lowest_of(bits);
-        todo[word] = bits & (bits - 1);
+        let bit = lowest_of(bits);
         look(
             out,
             back,
@@ -472,8 +550,9 @@ fn chase_word(
             todo,
             calls,
             owners,
-            s,
+            word * 64 + bit,
         );
+        todo[word] = sets::difference(todo[word], sets::one(bit));
         left -= 1;
     }
 }
@@ -520,7 +599,7 @@ fn any_marked(todo: &[u64; 8]) -> bool {
     (todo[0] | todo[1] | todo[2] | todo[3] | todo[4] | todo[5] | todo[6] | todo[7]) != 0
 }
 
-// Goes the ways of statements that have to be looked at, in place of passes over all of them.
+// Goes the ways of the statements that those in `changed` lead to, and so on, in place of passes over all of them.
 fn chase(
     out: &mut [u64],
     back: &mut [u64],
@@ -530,6 +609,7 @@ fn chase(
     given: &[u64],
     all: u64,
     base: usize,
+    changed: &[u64; 8],
 )
     requires { ⌜ Small (now first) base ⌝ }
     ensures { λ _. ⌜ Kept (setting (now (numbers .entry)) (now (first .entry)) (now (flow .entry)) (now (given .entry)) all base) (now (out .entry)) (now (back .entry)) (now (out .exit)) (now (back .exit)) ⌝ }
@@ -537,7 +617,8 @@ fn chase(
     let mut todo = [0u64; 8];
     let mut calls = [0u64; 256];
     let mut owners = [0u8; 512];
-    note_all(&mut todo, &mut calls, &mut owners, numbers, first, base);
+    note_all(&mut calls, &mut owners, numbers, first, base);
+    spread(&mut todo, &calls, &owners, numbers, first, base, changed);
     let mut left: usize = 512;
     while 0 < left {
         if !any_marked(&todo) {
@@ -560,7 +641,7 @@ fn chase(
     }
 }
 
-// Passes until one changes nothing.
+// Passes until one changes nothing; after two that did, what the second one changed is chased.
 fn settle(
     out: &mut [u64],
     back: &mut [u64],
@@ -574,13 +655,48 @@ fn settle(
     requires { ⌜ Small (now first) base ⌝ }
     ensures { λ _. ⌜ Solved (setting (now (numbers .entry)) (now (first .entry)) (now (flow .entry)) (now (given .entry)) all base) (now (out .entry)) (now (back .entry)) (now (out .exit)) (now (back .exit)) ⌝ }
 {
-    if !pass(out, back, numbers, first, flow, given, all, base) {
+    let mut marks = [0u64; 8];
+    if !pass(
+        out,
+        back,
+        numbers,
+        first,
+        flow,
+        given,
+        all,
+        base,
+        &mut marks,
+    ) {
         return;
     }
-    chase(out, back, numbers, first, flow, given, all, base);
+    let mut changed = [0u64; 8];
+    if !pass(
+        out,
+        back,
+        numbers,
+        first,
+        flow,
+        given,
+        all,
+        base,
+        &mut changed,
+    ) {
+        return;
+    }
+    chase(out, back, numbers, first, flow, given, all, base, &changed);
     let mut going = true;
     while going {
-        going = pass(out, back, numbers, first, flow, given, all, base);
+        going = pass(
+            out,
+            back,
+            numbers,
+            first,
+            flow,
+            given,
+            all,
+            base,
+            &mut marks,
+        );
     }
 }
 

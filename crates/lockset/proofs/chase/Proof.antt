@@ -6,13 +6,16 @@ use Rattle.lockset.proofs.chase.Statement.{statement}
 use Rattle.lockset.proofs.chase.Tie as tie
 
 abbrev Inv-loop : tie.InvT-loop
-Inv-loop out₀ back₀ numbers first flow given all base todo₀ calls owners left₀ out back todo left = Kept (setting numbers first flow given all base) out₀ back₀ out back
+Inv-loop out₀ back₀ numbers first flow given all base changed todo₀ calls owners left₀ out back todo left = Kept (setting numbers first flow given all base) out₀ back₀ out back
 
 abbrev μ-loop : tie.MeasureT-loop
-μ-loop out₀ back₀ numbers first flow given all base todo₀ calls owners left₀ out back todo left = left
+μ-loop out₀ back₀ numbers first flow given all base changed todo₀ calls owners left₀ out back todo left = left
 
 note-all-requires : tie.Need-note-all-requires Inv-loop μ-loop
 note-all-requires c κs = search needs
+
+spread-requires : tie.Need-spread-requires Inv-loop μ-loop
+spread-requires c κs = c .before .before .before .before .before .before .before .before .before .before .before .pre .base-small
 
 loop-holds : tie.Need-loop-holds Inv-loop μ-loop
 loop-holds c = kept-none
@@ -57,6 +60,7 @@ chase-spec =
     Inv-loop
     μ-loop
     note-all-requires
+    spread-requires
     loop-holds
     any-marked-requires
     same-length

@@ -29,26 +29,35 @@ same-length-2 c = c .before .before .before .loop .inv .back-long
 returns : tie.Need-returns Inv-loop μ-loop
 returns c = c .before .before .before .loop .inv
 
-mul-s : tie.Need-mul-s Inv-loop μ-loop
-mul-s c = search needs
-
 lowest-of-requires : tie.Need-lowest-of-requires Inv-loop μ-loop
 lowest-of-requires c κs = search needs
 
-add-s : tie.Need-add-s Inv-loop μ-loop
-add-s c = search needs
+mul-look : tie.Need-mul-look Inv-loop μ-loop
+mul-look c = search needs
 
-sub-todo : tie.Need-sub-todo Inv-loop μ-loop
-sub-todo c = search needs
+add-look : tie.Need-add-look Inv-loop μ-loop
+add-look c = search needs
+
+look-requires : tie.Need-look-requires Inv-loop μ-loop
+look-requires c κs = search needs
+
+mul-difference : tie.Need-mul-difference Inv-loop μ-loop
+mul-difference c = search needs
+
+element-copy-out-difference : tie.Need-element-copy-out-difference Inv-loop μ-loop
+element-copy-out-difference c = search needs
+
+one-requires : tie.Need-one-requires Inv-loop μ-loop
+one-requires c κs = search needs
+
+difference-requires : tie.Need-difference-requires Inv-loop μ-loop
+difference-requires c κs = search needs
 
 mul-todo : tie.Need-mul-todo Inv-loop μ-loop
 mul-todo c = search needs
 
 element-write-todo : tie.Need-element-write-todo Inv-loop μ-loop
 element-write-todo c = search needs
-
-look-requires : tie.Need-look-requires Inv-loop μ-loop
-look-requires c κs = search needs
 
 sub-left : tie.Need-sub-left Inv-loop μ-loop
 sub-left c = search needs
@@ -57,7 +66,7 @@ loop-less : tie.Need-loop-less Inv-loop μ-loop
 loop-less c = search needs
 
 loop-again : tie.Need-loop-again Inv-loop μ-loop
-loop-again c = kept-then (c .before .before .before .before .before .before .before .before .before .before .before .before .loop .inv) (c .before .before .before .before .look .ensures)
+loop-again c = kept-then (c .before .before .before .before .before .before .before .before .before .before .before .before .before .before .before .loop .inv) (c .before .before .before .before .before .before .before .look .ensures)
 
 same-length-3 : tie.Need-same-length-3 Inv-loop μ-loop
 same-length-3 c = c .before .loop .inv .long
@@ -80,13 +89,16 @@ chase-word-spec =
     same-length
     same-length-2
     returns
-    mul-s
     lowest-of-requires
-    add-s
-    sub-todo
+    mul-look
+    add-look
+    look-requires
+    mul-difference
+    element-copy-out-difference
+    one-requires
+    difference-requires
     mul-todo
     element-write-todo
-    look-requires
     sub-left
     loop-less
     loop-again

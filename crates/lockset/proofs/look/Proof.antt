@@ -1,4 +1,4 @@
--- `lockset::look` meets its contract. What the lists say is tested before the step. Assumes nothing.
+-- `lockset::look` meets its contract. What the lists say is tested before the statement's ways are gone. Assumes nothing.
 use Prim.Native.Nat.{_+_}
 use native.Mathlib.Omega.{arith}
 use borrow.Author.Needs.{needs}
@@ -29,11 +29,14 @@ number-at-requires-2 c κs = search needs
 returns-3 : tie.Need-returns-3
 returns-3 c = search needs
 
-step-requires : tie.Need-step-requires
-step-requires c κs = (c .before .before .before .before .before .before .before .before .before .before .before .before .before .before .pre, record { there = omega (arith, c .before .before .before .before .before .before .if1 .left, c .before .before .before .before .before .before .before .field-of .ensures .0); low = omega (arith, c .before .before .before .before .if2 .left, c .before .before .before .before .before .number-at .ensures); high = omega (arith, c .before .before .if3 .left, c .before .before .before .number-at2 .ensures) })
+add-go-range : tie.Need-add-go-range
+add-go-range c = search needs
+
+go-range-requires : tie.Need-go-range-requires
+go-range-requires c κs = (c .before .before .before .before .before .before .before .before .before .before .before .before .before .before .before .pre, record { there = omega (arith, c .before .before .before .before .before .before .before .if1 .left, c .before .before .before .before .before .before .before .before .field-of .ensures .0); low = omega (arith, c .before .before .before .before .before .if2 .left, c .before .before .before .before .before .before .number-at .ensures); high = omega (arith, c .before .before .before .if3 .left, c .before .before .before .before .number-at2 .ensures) })
 
 mark-after-requires : tie.Need-mark-after-requires
-mark-after-requires c κs = (c .before .before .before .before .before .before .before .before .before .before .before .before .before .before .before .before .before .before .before .before .before .pre .base-small, omega (arith, c .before .before .before .before .before .before .before .before .before .if3 .left, c .before .before .before .before .before .before .before .before .before .before .number-at2 .ensures, c .before .before .before .before .before .before .before .before .before .before .before .before .before .before .before .before .before .before .before .before .before .pre .first-small (c .before .before .before .before .before .before .before .before .before .before .before .before .before .before .before .owner-at .result + 1)))
+mark-after-requires c κs = (c .before .before .before .before .before .before .before .before .before .before .before .before .before .before .before .before .before .before .before .before .before .before .pre .base-small, omega (arith, c .before .before .before .before .before .before .before .before .before .before .if3 .left, c .before .before .before .before .before .before .before .before .before .before .before .number-at2 .ensures, c .before .before .before .before .before .before .before .before .before .before .before .before .before .before .before .before .before .before .before .before .before .before .pre .first-small (c .before .before .before .before .before .before .before .before .before .before .before .before .before .before .before .before .owner-at .result + 1)))
 
 same-length : tie.Need-same-length
 same-length c = search needs
@@ -65,7 +68,8 @@ look-spec =
     add-number-at
     number-at-requires-2
     returns-3
-    step-requires
+    add-go-range
+    go-range-requires
     mark-after-requires
     same-length
     same-length-2

@@ -5,10 +5,10 @@ use Rattle.lockset.proofs.note_all.Statement.{statement}
 use Rattle.lockset.proofs.note_all.Tie as tie
 
 abbrev Inv-loop : tie.InvT-loop
-Inv-loop todo₀ calls₀ owners₀ numbers first base count r₀ todo calls owners r = r ≤ 32
+Inv-loop calls₀ owners₀ numbers first base count r₀ calls owners r = r ≤ 32
 
 abbrev μ-loop : tie.MeasureT-loop
-μ-loop todo₀ calls₀ owners₀ numbers first base count r₀ todo calls owners r = 32 - r
+μ-loop calls₀ owners₀ numbers first base count r₀ calls owners r = 32 - r
 
 field-of-requires : tie.Need-field-of-requires Inv-loop μ-loop
 field-of-requires c κs = search needs

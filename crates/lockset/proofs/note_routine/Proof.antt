@@ -6,10 +6,10 @@ use Rattle.lockset.proofs.note_routine.Statement.{statement}
 use Rattle.lockset.proofs.note_routine.Tie as tie
 
 abbrev Inv-loop : tie.InvT-loop
-Inv-loop todo₀ calls₀ owners₀ numbers first base r end s₀ todo calls owners s = s₀ ≤ s
+Inv-loop calls₀ owners₀ numbers first base r end s₀ calls owners s = s₀ ≤ s
 
 abbrev μ-loop : tie.MeasureT-loop
-μ-loop todo₀ calls₀ owners₀ numbers first base r end s₀ todo calls owners s = end - s
+μ-loop calls₀ owners₀ numbers first base r end s₀ calls owners s = end - s
 
 add-number-at : tie.Need-add-number-at Inv-loop μ-loop
 add-number-at c = search needs
@@ -24,7 +24,7 @@ loop-holds : tie.Need-loop-holds Inv-loop μ-loop
 loop-holds c = search needs
 
 note-requires : tie.Need-note-requires Inv-loop μ-loop
-note-requires c κs = (c .before .before .before .before .before .before .before .before .pre .0 .base-small, omega (arith, c .before .before .before .loop-test .taken, c .before .before .before .before .before .before .number-at .ensures, c .before .before .before .before .before .before .before .before .pre .0 .first-small (c .before .before .before .before .before .before .before .before .args .r + 1)), c .before .before .before .before .before .before .before .before .pre .1)
+note-requires c κs = (c .before .before .before .before .before .before .before .pre .0 .base-small, omega (arith, c .before .before .loop-test .taken, c .before .before .before .before .before .number-at .ensures, c .before .before .before .before .before .before .before .pre .0 .first-small (c .before .before .before .before .before .before .before .args .r + 1)), c .before .before .before .before .before .before .before .pre .1)
 
 add-s : tie.Need-add-s Inv-loop μ-loop
 add-s c = search needs

@@ -4,15 +4,15 @@ use Prim.Native.Nat.{_-_, _≤_}
 use native.Mathlib.Omega.{arith}
 use borrow.Author.Needs.{needs}
 use Rattle.lockset.specs.Rules.{setting, RoutinesBelow, Moved}
-use Rattle.lockset.proofs.MoveLaws.{routines-start, routines-next, routines-done}
+use Rattle.lockset.proofs.MoveLaws.{part-as, routines-start, routines-next, routines-done}
 use Rattle.lockset.proofs.pass.Statement.{statement}
 use Rattle.lockset.proofs.pass.Tie as tie
 
 abbrev Inv-loop : tie.InvT-loop
-Inv-loop out₀ back₀ numbers first flow given all base count changed₀ r₀ out back changed r = (r ≤ count) × Moved (setting numbers first flow given all base) (RoutinesBelow (setting numbers first flow given all base) r) out₀ back₀ out back changed₀ changed
+Inv-loop out₀ back₀ numbers first flow given all base marks₀ count changed₀ r₀ out back marks changed r = (r ≤ count) × Moved (setting numbers first flow given all base) (RoutinesBelow (setting numbers first flow given all base) r) out₀ back₀ out back changed₀ changed
 
 abbrev μ-loop : tie.MeasureT-loop
-μ-loop out₀ back₀ numbers first flow given all base count changed₀ r₀ out back changed r = count - r
+μ-loop out₀ back₀ numbers first flow given all base marks₀ count changed₀ r₀ out back marks changed r = count - r
 
 field-of-requires : tie.Need-field-of-requires Inv-loop μ-loop
 field-of-requires c κs = search needs
@@ -23,17 +23,26 @@ narrow-to-requires c κs = search needs
 loop-holds : tie.Need-loop-holds Inv-loop μ-loop
 loop-holds c = (omega arith, routines-start)
 
-pass-routine-requires : tie.Need-pass-routine-requires Inv-loop μ-loop
-pass-routine-requires c κs = (c .before .before .before .before .before .before .before .before .before .before .before .before .before .before .pre, (omega (arith, c .before .before .loop-test .taken, c .before .before .before .before .before .before .before .before .field-of .ensures .0), omega (arith, c .before .before .loop-test .taken, c .before .before .before .before .before .before .before .before .field-of .ensures .1)))
+number-at-requires : tie.Need-number-at-requires Inv-loop μ-loop
+number-at-requires c κs = search needs
+
+add-number-at : tie.Need-add-number-at Inv-loop μ-loop
+add-number-at c = omega (arith, c .before .loop-test .taken, c .before .before .before .before .before .before .before .field-of .ensures .1)
+
+number-at-requires-2 : tie.Need-number-at-requires-2 Inv-loop μ-loop
+number-at-requires-2 c κs = search needs
+
+go-range-requires : tie.Need-go-range-requires Inv-loop μ-loop
+go-range-requires c κs = (c .before .before .before .before .before .before .before .before .before .before .before .before .before .before .before .before .before .pre, record { there = omega (arith, c .before .before .before .before .before .loop-test .taken, c .before .before .before .before .before .before .before .before .before .before .before .field-of .ensures .0); low = omega (arith, c .before .before .before .before .number-at .ensures); high = omega (arith, c .before .before .before .number-at2 .ensures) })
 
 add-r : tie.Need-add-r Inv-loop μ-loop
-add-r c = omega (arith, c .before .before .before .before .before .before .before .loop-test .taken, c .before .before .before .before .before .before .before .before .before .before .before .before .before .field-of .ensures .1)
+add-r c = omega (arith, c .before .before .before .before .before .before .before .before .before .before .loop-test .taken, c .before .before .before .before .before .before .before .before .before .before .before .before .before .before .before .before .field-of .ensures .1)
 
 loop-less : tie.Need-loop-less Inv-loop μ-loop
 loop-less c = search needs
 
 loop-again : tie.Need-loop-again Inv-loop μ-loop
-loop-again c = (omega (arith, c .before .before .before .before .before .before .before .loop-test .taken), routines-next (c .before .before .before .before .before .before .before .before .loop .inv .1) (c .before .before .before .before .pass-routine .ensures))
+loop-again c = (omega (arith, c .before .before .before .before .before .before .before .before .before .before .loop-test .taken), routines-next (c .before .before .before .before .before .before .before .before .before .before .before .loop .inv .1) (part-as (omega (arith, c .before .before .before .before .before .before .before .before .before .number-at .ensures)) (omega (arith, c .before .before .before .before .before .before .before .before .number-at2 .ensures)) (c .before .before .before .before .go-range .ensures)))
 
 same-length : tie.Need-same-length Inv-loop μ-loop
 same-length c = c .before .loop .inv .1 .kept .long ∙ c .before .before .before .before .narrow-to .ensures .long
@@ -53,7 +62,10 @@ pass-spec =
     field-of-requires
     narrow-to-requires
     loop-holds
-    pass-routine-requires
+    number-at-requires
+    add-number-at
+    number-at-requires-2
+    go-range-requires
     add-r
     loop-less
     loop-again
