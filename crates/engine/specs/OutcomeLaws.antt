@@ -9,12 +9,11 @@ use lib.IntN.{ℤ}
 use lib.ListN.{length, take, drop, replicate}
 use Rattle.lines.specs.Line.{numbersOf}
 use Rattle.table.specs.Table.{tableOf, countsOf}
-use Rattle.table.specs.Verdict.{verdict, readingOf}
+use Rattle.table.specs.Verdict.{verdict}
 use Rattle.table.specs.Accepted.{Accepted}
 use Rattle.table.specs.AcceptedLaws.{accepted}
 use Rattle.table.specs.declared.Verdict.{Verdict}
 use Rattle.table.specs.declared.Verdict as Declared
-use Rattle.table.specs.declared.Reading.{Reading}
 use Rattle.table.specs.declared.Counts.{Counts}
 use Rattle.machine.specs.State.{State, start}
 use Rattle.machine.specs.Step.{run}
@@ -30,26 +29,22 @@ take-replicate (suc n) (suc m) x l = ap (λ (r : List ℕ). x ∷ r) (take-repli
 
 -- ---- what is read of a text
 
-pub verdict-read : (text : List ℕ) (r : Reading) (v : Verdict) → r ≡ readingOf text → r .verdict ≡ v → verdict text ≡ v
-unfolding readingOf
-verdict-read text r v e q = ap (λ (x : Reading). x .verdict) (sym e) ∙ q
-
-pub record ReadFacts (text : List ℕ) (r : Reading) (k : Counts) : Type 0 where
+pub record ReadFacts (text : List ℕ) (numbers : List ℤ) (k : Counts) : Type 0 where
   pub verdict-is : verdict text ≡ Declared.Verdict.Accepted
-  pub numbers-are : r .numbers ≡ numbersOf text
-  pub facts : Accepted (tableOf (r .numbers))
-  pub cells-are : k .cells ≡ tableOf (r .numbers) .cells
-  pub locks-are : k .locks ≡ tableOf (r .numbers) .locks
+  pub numbers-are : numbers ≡ numbersOf text
+  pub facts : Accepted (tableOf numbers)
+  pub cells-are : k .cells ≡ tableOf numbers .cells
+  pub locks-are : k .locks ≡ tableOf numbers .locks
 
-pub read-facts : (text : List ℕ) (r : Reading) (k : Counts) → r ≡ readingOf text → r .verdict ≡ Declared.Verdict.Accepted → k ≡ countsOf (r .numbers) → ReadFacts text r k
-unfolding readingOf countsOf tableOf
-read-facts text r k e q c =
-    let v : verdict text ≡ Declared.Verdict.Accepted = verdict-read text r Declared.Verdict.Accepted e q in
-    let n : r .numbers ≡ numbersOf text = ap (λ (x : Reading). x .numbers) e ∙ rw v in
+pub read-facts : (text : List ℕ) (numbers : List ℤ) (k : Counts) (v : Verdict) → v ≡ verdict text → (v ≡ Declared.Verdict.Accepted → numbers ≡ numbersOf text)
+    → v ≡ Declared.Verdict.Accepted → k ≡ countsOf numbers → ReadFacts text numbers k
+unfolding countsOf tableOf
+read-facts text numbers k v e n q c =
+    let a : verdict text ≡ Declared.Verdict.Accepted = sym e ∙ q in
     record {
-      verdict-is = v;
-      numbers-are = n;
-      facts = subst (λ (f : List ℤ). Accepted (tableOf f)) (sym n) (accepted text v);
+      verdict-is = a;
+      numbers-are = n q;
+      facts = subst (λ (f : List ℤ). Accepted (tableOf f)) (sym (n q)) (accepted text a);
       cells-are = ap (λ (x : Counts). x .cells) c;
       locks-are = ap (λ (x : Counts). x .locks) c;
     }
@@ -69,7 +64,7 @@ module _ (text schedule given : List ℕ) (cells : List ℤ) where
   unfolding outcomeOf answersLeft cellsLeft
   left-short e f = (rw (e, f), (rw (e, f), rw (e, f)))
 
-  module _ (r : Reading) (k : Counts) (q : ReadFacts text r k) where
+  module _ (numbers : List ℤ) (k : Counts) (q : ReadFacts text numbers k) where
     count-is : k .cells ≡ tableIn text .cells
     count-is = q .cells-are ∙ ap (λ (f : List ℤ). tableOf f .cells) (q .numbers-are)
 
@@ -80,8 +75,8 @@ module _ (text schedule given : List ℕ) (cells : List ℤ) where
     short-cells a l = left-short (q .verdict-is) (rw (le-leb (length schedule) (length given) a, lt-leb (tableIn text .cells) (length cells) (subst (λ (n : ℕ). length cells < n) count-is l)))
 
     pub left-run : (given′ : List ℕ) (part : List ℤ) → length schedule ≤ length given → k .cells ≤ length cells
-        → given′ ≡ answers (tableOf (r .numbers)) (start (tableOf (r .numbers))) schedule ++ drop (length schedule) given
-        → part ≡ engineRun (tableOf (r .numbers)) (start (tableOf (r .numbers))) schedule .cells
+        → given′ ≡ answers (tableOf numbers) (start (tableOf numbers)) schedule ++ drop (length schedule) given
+        → part ≡ engineRun (tableOf numbers) (start (tableOf numbers)) schedule .cells
         → Left text schedule given cells (record { number = 0; line = 0 }) given′ (part ++ drop (k .cells) cells)
     unfolding outcomeOf answersLeft cellsLeft
     left-run given′ part a b x y =

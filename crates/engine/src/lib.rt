@@ -6,8 +6,9 @@ mod steps;
 
 ghost use mathlib.Core.Path.{_≡_};
 ghost use mathlib.Core.List.{_++_};
-ghost use Prim.Native.Nat.{_≤_};
+ghost use Prim.Native.Nat.{_*_, _≤_};
 ghost use lib.ListN.{length, drop, replicate};
+ghost use Rattle.lines.specs.Line.{lineCount};
 ghost use Rattle.table.specs.Table.{tableOf};
 ghost use Rattle.table.specs.Accepted.{Accepted};
 ghost use Rattle.machine.specs.State.{start};
@@ -81,20 +82,23 @@ fn play(
     );
 }
 
-// Runs a schedule, each byte a thread number, over a table text. Accepted: one answer for each byte stands in the first places of `answers`, and the
-// final cell values in the first places of `cells`. Refused: both are as they were. Places past those written keep their contents.
-pub fn run(text: &[u8], schedule: &[u8], answers: &mut [u8], cells: &mut [i32]) -> Outcome
+// `run`, with room for the text's numbers.
+fn run_in(
+    text: &[u8],
+    numbers: &mut [i32],
+    schedule: &[u8],
+    answers: &mut [u8],
+    cells: &mut [i32],
+) -> Outcome
+    requires { ⌜ length (now numbers) ≡ 8 * lineCount (now text) ⌝ }
     ensures outcome { λ r. ⌜ r ≡ outcomeOf (now (text .entry)) (now (schedule .entry)) (now (answers .entry)) (now (cells .entry)) ⌝ }
     ensures answered { λ _. ⌜ now (answers .exit) ≡ answersLeft (now (text .entry)) (now (schedule .entry)) (now (answers .entry)) (now (cells .entry)) ⌝ }
     ensures left { λ _. ⌜ now (cells .exit) ≡ cellsLeft (now (text .entry)) (now (schedule .entry)) (now (answers .entry)) (now (cells .entry)) ⌝ }
 {
-    let reading = table::read(text);
-    let verdict = reading.verdict;
-    match verdict {
+    match table::read_into(text, numbers) {
         Verdict::Refused { number, line } => Outcome { number, line },
         Verdict::Accepted => {
-            let numbers = reading.numbers;
-            let counts = table::counts_of(&numbers[..]);
+            let counts = table::counts_of(numbers);
             let count = counts.cells;
             let locks = counts.locks;
             if answers.len() < schedule.len() {
@@ -111,7 +115,7 @@ pub fn run(text: &[u8], schedule: &[u8], answers: &mut [u8], cells: &mut [i32]) 
             }
             let mut owners = [0usize; 16];
             play(
-                &numbers[..],
+                numbers,
                 schedule,
                 answers,
                 &mut cells[..count],
@@ -120,4 +124,16 @@ pub fn run(text: &[u8], schedule: &[u8], answers: &mut [u8], cells: &mut [i32]) 
             Outcome { number: 0, line: 0 }
         }
     }
+}
+
+// Runs a schedule, each byte a thread number, over a table text. Accepted: one answer for each byte stands in the first places of `answers`, and the
+// final cell values in the first places of `cells`. Refused: both are as they were. Places past those written keep their contents.
+pub fn run(text: &[u8], schedule: &[u8], answers: &mut [u8], cells: &mut [i32]) -> Outcome
+    ensures outcome { λ r. ⌜ r ≡ outcomeOf (now (text .entry)) (now (schedule .entry)) (now (answers .entry)) (now (cells .entry)) ⌝ }
+    ensures answered { λ _. ⌜ now (answers .exit) ≡ answersLeft (now (text .entry)) (now (schedule .entry)) (now (answers .entry)) (now (cells .entry)) ⌝ }
+    ensures left { λ _. ⌜ now (cells .exit) ≡ cellsLeft (now (text .entry)) (now (schedule .entry)) (now (answers .entry)) (now (cells .entry)) ⌝ }
+{
+    let mut numbers = [0i32; 5384];
+    let count = 8 * lines::line_count(text);
+    run_in(text, &mut numbers[..count], schedule, answers, cells)
 }
