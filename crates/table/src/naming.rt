@@ -3,6 +3,7 @@ ghost use mathlib.Core.Path.{_≡_};
 ghost use Prim.Native.Nat.{ℕ, _<_, _^_, _≤_, _-_};
 ghost use Rattle.table.specs.Until.{until};
 ghost use Rattle.table.specs.Entry.{entry};
+ghost use Rattle.table.specs.Header.{routines};
 ghost use Rattle.table.specs.LayoutLaws.{Laid};
 ghost use Rattle.table.specs.Naming.{namedBy, gather, namesOf, namesIn, isNamed, walk, reached, isAcyclic};
 use crate::fields::field_at;
@@ -39,11 +40,9 @@ fn named_among(numbers: &[i32], from: usize, end: usize) -> u64
 // What the statements of routine `r` name.
 fn names_of(numbers: &[i32], first: &[usize], handle: &[usize], counts: &[usize], r: usize) -> u64
     requires { ⌜ Laid (now numbers) (now first) (now handle) (now counts) ⌝ }
+    requires { ⌜ r < routines (now numbers) ⌝ }
     ensures { λ x. ⌜ x ≡ namesOf (now (numbers .entry)) r ⌝ }
 {
-    if field_at(numbers, 0, 4) <= r {
-        return 0;
-    }
     named_among(numbers, entry_at(first, r), entry_at(first, r + 1))
 }
 
@@ -52,9 +51,10 @@ pub fn names_in(numbers: &[i32], first: &[usize], handle: &[usize], counts: &[us
     requires { ⌜ Laid (now numbers) (now first) (now handle) (now counts) ⌝ }
     ensures { λ a. ⌜ a ≡ namesIn (now (numbers .entry)) ⌝ }
 {
+    let count = field_at(numbers, 0, 4);
     let mut names = [0u64; 32];
     let mut r = 0;
-    while r < 32 {
+    while r < count {
         names[r] = names_of(numbers, first, handle, counts, r);
         r += 1;
     }
