@@ -5,7 +5,9 @@ use Prim.Native.Nat.{ℕ, zero, suc, _+_, _-_, _*_, _^_, _≤_, _<_, zero-le}
 use native.Mathlib.Omega.{arith}
 use native.Mathlib.Numerals.{add-one}
 use lib.ListN.{getD, set, replicate, length-replicate}
-use lib.Dec.{eqb, lit<}
+use mathlib.Core.Bool.{Bool, true, false}
+use lib.Dec.{eqb, ltb, lit<}
+use borrow.Author.Tests.{ltb-true, ltb-false}
 use borrow.Author.Count.{below-more}
 use lib.IntN.{ℤ}
 use Rattle.table.specs.Until.{until}
@@ -15,7 +17,7 @@ use Rattle.table.specs.Handles.{routineOf, originOf, handlesFrom, parame
 use Rattle.table.specs.Routines.{countOf, firstOf}
 use Rattle.table.specs.Layout.{firstStatements, firstHandles, parameterCounts}
 use Rattle.table.specs.UntilLaws.{until-range}
-use Rattle.table.specs.TabulateLaws.{Begun, begun-next, zeros-at, entry-below}
+use Rattle.table.specs.TabulateLaws.{Begun, begun-next, zeros-at, entry-below, entry-behind}
 
 pub first-next : (f : List ℤ) (r : ℕ) → firstOf f (r + 1) ≡ firstOf f r + countOf f r
 unfolding firstOf
@@ -127,3 +129,14 @@ module _ {f : List ℤ} {first handle counts : List ℕ} (l : Laid f first handl
 
   pub laid-count : r < routines f → getD counts r 0 ≡ parameters f r
   laid-count h = count-at f (l .routines-most) counts r (l .counts-is) h
+
+  -- also where no routine stands
+  pub laid-small : getD first r 0 < 2 ^ 40
+  laid-small = at (ltb r (routines f + 1)) refl
+    where
+      at : (t : Bool) → ltb r (routines f + 1) ≡ t → getD first r 0 < 2 ^ 40
+      at true t =
+          let h : r < routines f + 1 = ltb-true r (routines f + 1) t in
+          subst⁻¹ (λ (n : ℕ). n < 2 ^ 40) (laid-first (omega arith)) (l .first-small r (omega arith))
+      at false t =
+          subst⁻¹ (λ (n : ℕ). n < 2 ^ 40) (entry-behind 33 (routines f + 1) (firstOf f) first r (l .first-is) (ltb-false r (routines f + 1) t)) (lit< tt)

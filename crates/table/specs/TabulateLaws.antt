@@ -6,7 +6,7 @@ use native.Mathlib.Omega.{arith}
 use native.Mathlib.Nat.{add-zero, zero-add, le-of-suc-le-suc, not-suc-le-zero}
 use mathlib.Core.Bool.{Bool, true, false}
 use lib.Dec.{ltb}
-use lib.ListN.{length, getD, set, replicate, length-set, length-replicate}
+use lib.ListN.{length, getD, set, replicate, length-set, length-replicate, List·getD-eq-default}
 use borrow.Author.Tests.{ltb-true, ltb-false, lt-ltb, le-ltb}
 use lib.Seq.{ext-getD, getD-set-same, getD-set-other}
 use native.Mathlib.Decide.{ℕ-discrete}
@@ -113,3 +113,12 @@ begun-rest g a n r b z = is-tabulate n g a 0 (b .filled .long) (λ k h. at k (lt
 -- an entry of such a list
 pub entry-below : (n m : ℕ) (g : ℕ → ℕ) (l : List ℕ) (k : ℕ) → l ≡ tabulate n (below m g) → k < n → k < m → getD l k 0 ≡ g k
 entry-below n m g l k e h b = entry-tabulate n (below m g) l k e h ∙ below-in m g k b
+
+pub entry-behind : (n m : ℕ) (g : ℕ → ℕ) (l : List ℕ) (k : ℕ) → l ≡ tabulate n (below m g) → m ≤ k → getD l k 0 ≡ 0
+entry-behind n m g l k e b = at (ltb k n) refl
+  where
+    at : (t : Bool) → ltb k n ≡ t → getD l k 0 ≡ 0
+    at true t = entry-tabulate n (below m g) l k e (ltb-true k n t) ∙ below-out m g k b
+    at false t =
+        let long : length l ≡ n = ap length e ∙ length-tabulate n (below m g) in
+        List·getD-eq-default l 0 {n = k} (omega (arith, ltb-false k n t))
