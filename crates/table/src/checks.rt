@@ -6,6 +6,7 @@ ghost use Rattle.table.specs.Header.{headerOk, routines, statementLine};
 ghost use Rattle.table.specs.Routines.{firstOf};
 ghost use Rattle.table.specs.Layout.{firstStatements};
 ghost use Rattle.table.specs.LayoutLaws.{Laid};
+ghost use Rattle.table.specs.GatherLaws.{Ended};
 ghost use Rattle.table.specs.Naming.{namesIn};
 ghost use Rattle.table.specs.Verdict.{namingVerdict, statementVerdict, declarationVerdict, numbersVerdict, textOk};
 use crate::Verdict;
@@ -29,6 +30,7 @@ use crate::statements::bad_statement;
 
 // Refusals 11 and 12.
 fn naming_verdict(numbers: &[i32], names: &[u64]) -> Verdict
+    requires { ⌜ Ended (now names) (routines (now numbers)) ⌝ }
     ensures { λ v. ⌜ v ≡ namingVerdict (now (numbers .entry)) (now (names .entry)) ⌝ }
 {
     let count = field_at(numbers, 0, 4);

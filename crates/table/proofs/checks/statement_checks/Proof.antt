@@ -7,6 +7,7 @@ use borrow.Author.Tests.{lt-ltb, le-ltb}
 use Rattle.table.specs.Header.{routines}
 use Rattle.table.specs.Verdict.{statementVerdict, namingVerdict}
 use Rattle.table.specs.LayoutLaws.{laid-first}
+use Rattle.table.specs.GatherLaws.{names-ended}
 use borrow.Author.Needs.{needs}
 use Rattle.table.proofs.checks.statement_checks.Statement.{statement}
 use Rattle.table.proofs.checks.statement_checks.Tie as tie
@@ -94,7 +95,9 @@ slice-aggregate-naming-verdict c = search needs
 
 -- src/checks.rt:69:5
 naming-verdict-requires : tie.Need-naming-verdict-requires
-naming-verdict-requires c κs = search needs
+naming-verdict-requires c κs =
+    let start = c .before .before .before .before .before .before .before .before .before .before .before in
+    names-ended _ _ (start .pre .routines-most) (c .before .names-in .ensures)
 
 -- src/checks.rt:50:1
 returns-3 : tie.Need-returns-3

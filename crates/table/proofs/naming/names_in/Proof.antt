@@ -1,12 +1,8 @@
 -- `table::naming::names_in` meets its contract. Assumes nothing.
 use borrow.Author.Needs.{needs}
-use borrow.Author.Tests.{le-ltb}
 use native.Mathlib.Omega.{arith}
-use mathlib.Core.Path.{_≡_}
-use mathlib.Core.List.{List}
 use Prim.Native.Nat.{ℕ, _-_, _<_, _≤_, zero-le}
-use lib.IntN.{ℤ}
-use Rattle.table.specs.Header.{routines}
+use Rattle.table.specs.GatherLaws.{none-named}
 use Rattle.table.specs.Naming.{namesOf, namesIn}
 use Rattle.table.specs.TabulateLaws.{Begun, begun-none, begun-next, begun-rest}
 use Rattle.table.proofs.naming.names_in.Statement.{statement}
@@ -45,11 +41,6 @@ loop-less c = search needs
 
 loop-again : tie.Need-loop-again Inv-loop μ-loop
 loop-again c = (omega arith, begun-next _ _ _ _ _ (c .before .before .loop .inv .1) (few (c .before)) (c .names-of .ensures))
-
--- nothing is named behind the last routine
-none-named : (f : List ℤ) (k : ℕ) → routines f ≤ k → namesOf f k ≡ 0
-unfolding namesOf
-none-named f k h = rw (le-ltb k (routines f) h)
 
 returns : tie.Need-returns Inv-loop μ-loop
 unfolding namesIn
