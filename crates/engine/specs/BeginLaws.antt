@@ -7,9 +7,7 @@ use lib.IntN.{ℤ, pos}
 use lib.ListN.{length, getD, set, length-set, replicate, length-replicate, getD-replicate}
 use lib.Seq.{getD-set-same}
 use Rattle.table.specs.Table.{Table, tableOf, routine}
-use Rattle.table.specs.Tabulate.{tabulate}
-use Rattle.table.specs.Handles.{handlesFrom}
-use Rattle.table.specs.Routines.{firstOf}
+use Rattle.table.specs.Layout.{firstStatements, firstHandles}
 use Rattle.table.specs.Accepted.{Accepted}
 use Rattle.table.specs.declared.Arguments.{Arguments}
 use Rattle.machine.specs.State.{Holder, free, thread, opened, start}
@@ -21,8 +19,8 @@ all-free : (n : ℕ) → replicate n free ≡ map holderOf (replicate n 0)
 all-free zero = refl
 all-free (suc n) = ap (λ (l : List Holder). free ∷ l) (all-free n)
 
-module _ (numbers : List ℤ) (first handle : List ℕ) (accepted : Accepted (tableOf numbers)) (first-is : first ≡ tabulate 33 (firstOf numbers))
-    (handle-is : handle ≡ tabulate 33 (handlesFrom numbers)) where
+module _ (numbers : List ℤ) (first handle : List ℕ) (accepted : Accepted (tableOf numbers)) (first-is : first ≡ firstStatements numbers)
+    (handle-is : handle ≡ firstHandles numbers) where
   looked : LookedUp (tableOf numbers) first handle 0
   looked = looked-up numbers first handle 0 accepted first-is handle-is (omega (arith, accepted .routines-some))
 

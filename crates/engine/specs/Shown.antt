@@ -8,9 +8,7 @@ use lib.Dec.{eqb}
 use lib.IntN.{ℤ, pos}
 use lib.ListN.{length, getD, set}
 use Rattle.table.specs.Table.{Table, tableOf, declaration, routine, passed, InRoutine, OwnHandle}
-use Rattle.table.specs.Tabulate.{tabulate}
-use Rattle.table.specs.Handles.{handlesFrom}
-use Rattle.table.specs.Routines.{firstOf}
+use Rattle.table.specs.Layout.{firstStatements, firstHandles}
 use Rattle.table.specs.Accepted.{Accepted}
 use Rattle.table.specs.declared.Arguments.{Arguments}
 use Rattle.machine.specs.State.{State, Frame, Thread, Holder, free, held, thread, refers, start}
@@ -80,16 +78,16 @@ pub record Shows (t : Table) (a : Arrays) (state : State) : Type 0 where
 -- arrays that show some state of an accepted table's run, and the two lists that CALL and START look routines up in
 pub record Standing (numbers : List ℤ) (first handle : List ℕ) (a : Arrays) : Type 0 where
   pub accepted : Accepted (tableOf numbers)
-  pub first-is : first ≡ tabulate 33 (firstOf numbers)
-  pub handle-is : handle ≡ tabulate 33 (handlesFrom numbers)
+  pub first-is : first ≡ firstStatements numbers
+  pub handle-is : handle ≡ firstHandles numbers
   pub state : State
   pub shows : Shows (tableOf numbers) a state
 
 -- arrays that show the state where a run begins
 pub record Beginning (numbers : List ℤ) (first handle : List ℕ) (a : Arrays) : Type 0 where
   pub accepted : Accepted (tableOf numbers)
-  pub first-is : first ≡ tabulate 33 (firstOf numbers)
-  pub handle-is : handle ≡ tabulate 33 (handlesFrom numbers)
+  pub first-is : first ≡ firstStatements numbers
+  pub handle-is : handle ≡ firstHandles numbers
   pub shows : Shows (tableOf numbers) a (start (tableOf numbers))
 
 -- a step of thread n: the answer and the state after it are the engine's

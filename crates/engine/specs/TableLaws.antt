@@ -10,10 +10,10 @@ use lib.IntN.{ℤ}
 use lib.ListN.{length, getD}
 use Rattle.table.specs.Header.{handles, routines, statements}
 use Rattle.table.specs.Handles.{routineOf, handlesFrom}
-use Rattle.table.specs.Routines.{firstOf}
-use Rattle.table.specs.Tabulate.{tabulate}
-use Rattle.table.specs.TabulateLaws.{length-tabulate, getD-tabulate, entry-tabulate}
-use Rattle.table.specs.LayoutLaws.{handles-next}
+use Rattle.table.specs.Layout.{firstStatements, firstHandles}
+use Rattle.table.specs.TabulateLaws.{length-tabulate, getD-tabulate}
+use Rattle.table.specs.LayoutLaws.{handles-next, first-at, handle-at}
+use Rattle.table.specs.LookupLaws.{routines-length}
 use Rattle.table.specs.UntilLaws.{until-range}
 use Rattle.table.specs.Table.{Table, tableOf, declaration, routine, statement, passed, declarationOf, routineAt, statementOf}
 use Rattle.table.specs.Accepted.{Accepted, HandleFacts}
@@ -66,18 +66,19 @@ pub record LookedUp (t : Table) (first handle : List ℕ) (r : ℕ) : Type 0 whe
   pub from-is : getD handle r 0 ≡ routine t r .handle
   pub end-is : getD handle (r + 1) 0 ≡ routine t r .handle + routine t r .handles
 
-pub looked-up : (f : List ℤ) (first handle : List ℕ) (r : ℕ) → Accepted (tableOf f) → first ≡ tabulate 33 (firstOf f) → handle ≡ tabulate 33 (handlesFrom f)
+pub looked-up : (f : List ℤ) (first handle : List ℕ) (r : ℕ) → Accepted (tableOf f) → first ≡ firstStatements f → handle ≡ firstHandles f
     → r < length (tableOf f .routines) → LookedUp (tableOf f) first handle r
 unfolding routineAt
 looked-up f first handle r accepted a b l =
-    let low : r < 32 = omega (arith, accepted .routines-most) in
+    let few : routines f ≤ 32 = omega (arith, accepted .routines-most, routines-length f) in
+    let inside : r < routines f = omega (arith, routines-length f) in
     let e = routine-read f r l in
     let rises : handlesFrom f r ≤ handlesFrom f (r + 1) =
     rw (handles-next f r) (until-range (λ h. eqb (routineOf f h) r) (handlesFrom f r) (handles f - handlesFrom f r) .0) in
     record {
-      first-is = entry-tabulate 33 (firstOf f) first r a (omega arith) ∙ ap (λ q. q .first) (sym e);
-      from-is = entry-tabulate 33 (handlesFrom f) handle r b (omega arith) ∙ ap (λ q. q .handle) (sym e);
-      end-is = entry-tabulate 33 (handlesFrom f) handle (r + 1) b (omega arith) ∙ rw e (omega arith);
+      first-is = first-at f few first r a (omega arith) ∙ ap (λ q. q .first) (sym e);
+      from-is = handle-at f few handle r b (omega arith) ∙ ap (λ q. q .handle) (sym e);
+      end-is = handle-at f few handle (r + 1) b (omega arith) ∙ rw e (omega arith);
     }
 
 -- what CALL and START ask

@@ -1,7 +1,7 @@
 -- A line that is printed reads back as its numbers, and bytes that are a line are the ones that are printed for its numbers. The
 -- numbers of a text are those of its fields, each at its place. Assumes nothing.
 use mathlib.Core.Path.{_≡_, refl, sym, ap, _∙_}
-use Prim.Native.Nat.{ℕ, zero, suc, _+_, _*_, _-_, _/_, _%_, _≤_, _<_}
+use Prim.Native.Nat.{ℕ, zero, suc, _+_, _*_, _/_, _%_, _≤_, _<_}
 use native.Mathlib.Omega.{arith}
 use mathlib.Core.Bool.{Bool, true, false}
 use mathlib.Core.Option.{Option, none, some}
@@ -9,12 +9,12 @@ use mathlib.Core.List.{List, [], _∷_, _++_}
 use lib.Dec.{ltb}
 use lib.IntN.{ℤ, pos, negsuc}
 use lib.Signed.{mag}
-use lib.ListN.{length, getD, take, drop, replicate, length-append, take-append-drop, List·getD-eq-default}
+use lib.ListN.{length, getD, take, drop, length-append, take-append-drop, List·getD-eq-default}
 use lib.Seq.{take-at, drop-at, drop-drop}
 use borrow.Author.Tests.{ltb-true, ltb-false}
 use Rattle.lines.specs.Field.{fieldOf, fieldText, inField}
 use Rattle.lines.specs.FieldLaws.{FieldIs, field-text-length, printed-field-reads-back, read-field-prints-back}
-use Rattle.lines.specs.Line.{fieldsOf, lineOf, lineText, lineAt, allInField, isSome, orZeros, goodLine, lineCount, firstBad, lineNumbers, numbersOf, padded, pageAnswer, pageOf}
+use Rattle.lines.specs.Line.{fieldsOf, lineOf, lineText, lineAt, allInField, isSome, orZeros, goodLine, lineCount, firstBad, lineNumbers, numbersOf, pageAnswer, pageOf}
 use Rattle.lines.specs.LineLoops.{Joined, joined-some, end-some, fields-end, fields-cons, line-sized, numbers-sized, pieces-at, line-field}
 use Rattle.lines.specs.LowestLaws.{Lowest, none-all-good, some-lowest}
 
@@ -175,10 +175,6 @@ first-bad-line t i e = some-lowest (goodLine t) 0 (lineCount t) i e
 -- a text of n whole lines, 673 at most, has n lines
 pub line-count-whole : (t : List ℕ) (n : ℕ) → length t ≡ 49 * n → n ≤ 673 → lineCount t ≡ n
 line-count-whole t n e h = rw e (omega arith)
-
--- the numbers of a page: those of the text, zeros behind them
-pub padded-part : (t : List ℕ) → take (8 * lineCount t) (padded (numbersOf t)) ≡ numbersOf t
-padded-part t = take-at (numbersOf t) (replicate (5384 - length (numbersOf t)) (pos 0)) (8 * lineCount t) (numbers-sized t)
 
 pub page-good : (t : List ℕ) → firstBad t ≡ none → pageOf t ≡ pageAnswer none (numbersOf t)
 page-good t e = ap (λ (o : Option ℕ). pageAnswer o (numbersOf t)) e

@@ -10,6 +10,7 @@ pub mod Header
 pub mod HeaderLaws
 pub mod Handles
 pub mod Routines
+pub mod Layout
 pub mod LayoutLaws
 pub mod Statements
 pub mod SearchLaws

@@ -1,13 +1,16 @@
 -- What stands where in a list by the numbers of its places. Assumes nothing.
 use mathlib.Core.Path.{_≡_, refl, sym, ap, _∙_}
 use mathlib.Core.List.{List, [], _∷_}
-use Prim.Native.Nat.{ℕ, zero, suc, _+_, _≤_, _<_, zero-le, suc-le-suc}
+use Prim.Native.Nat.{ℕ, zero, suc, _+_, _≤_, _<_, min, zero-le, suc-le-suc}
 use native.Mathlib.Omega.{arith}
 use native.Mathlib.Nat.{add-zero, zero-add, le-of-suc-le-suc, not-suc-le-zero}
-use lib.ListN.{length, getD, set, length-set}
+use mathlib.Core.Bool.{Bool, true, false}
+use lib.Dec.{ltb}
+use lib.ListN.{length, getD, set, replicate, length-set, length-replicate, List·getD-eq-default}
+use borrow.Author.Tests.{ltb-true, ltb-false, lt-ltb, le-ltb}
 use lib.Seq.{ext-getD, getD-set-same, getD-set-other}
 use native.Mathlib.Decide.{ℕ-discrete}
-use Rattle.table.specs.Tabulate.{tabulateFrom, tabulate}
+use Rattle.table.specs.Tabulate.{tabulateFrom, tabulate, below}
 
 module _ {A : Type 0} where
   length-from : (from n : ℕ) (g : ℕ → A) → length (tabulateFrom from n g) ≡ n
@@ -61,3 +64,61 @@ filled-all g a n r f h = is-tabulate n g a 0 (f .long) (λ k b. f .holds k (omeg
 -- an entry of a tabulated list of numbers
 pub entry-tabulate : (n : ℕ) (g : ℕ → ℕ) (l : List ℕ) (k : ℕ) → l ≡ tabulate n g → k < n → getD l k 0 ≡ g k
 entry-tabulate n g l k e h = ap (λ (a : List ℕ). getD a k 0) e ∙ getD-tabulate n g k 0 h
+
+-- ---- a list that has zeros behind
+
+pub below-in : (m : ℕ) (g : ℕ → ℕ) (k : ℕ) → k < m → below m g k ≡ g k
+unfolding below
+below-in m g k h = rw (lt-ltb k m h)
+
+below-out : (m : ℕ) (g : ℕ → ℕ) (k : ℕ) → m ≤ k → below m g k ≡ 0
+unfolding below
+below-out m g k h = rw (le-ltb k m h)
+
+-- the first r of the n places hold what g says, those behind hold 0
+pub record Begun (g : ℕ → ℕ) (a : List ℕ) (n r : ℕ) : Type 0 where
+  pub filled : Filled g a n r
+  pub behind : (k : ℕ) → r ≤ k → getD a k 0 ≡ 0
+
+pub zeros-at : (n k : ℕ) → _≡_ {A = ℕ} (getD (replicate n 0) k 0) 0
+zeros-at zero k = refl
+zeros-at (suc n) zero = refl
+zeros-at (suc n) (suc k) = zeros-at n k
+
+pub begun-none : (g : ℕ → ℕ) (n : ℕ) → Begun g (replicate n 0) n 0
+begun-none g n = record { filled = filled-none g (replicate n 0) n (length-replicate n 0); behind = λ k h. zeros-at n k }
+
+pub begun-next : (g : ℕ → ℕ) (a : List ℕ) (n r v : ℕ) → Begun g a n r → r < n → v ≡ g r → Begun g (set a r v) n (r + 1)
+begun-next g a n r v b h e = record {
+  filled = filled-next g a n r v (b .filled) h e;
+  behind = λ k l. getD-set-other a r k v 0 (λ q. omega (arith, q)) ∙ b .behind k (omega arith);
+}
+
+-- filled as far as m goes, within the n places
+pub begun-below : (g : ℕ → ℕ) (a : List ℕ) (n r m : ℕ) → Begun g a n r → min n m ≡ min n r → a ≡ tabulate n (below m g)
+begun-below g a n r m b e = is-tabulate n (below m g) a 0 (b .filled .long) (λ k h. at k h (ltb k m) refl)
+  where
+    at : (k : ℕ) → k < n → (t : Bool) → ltb k m ≡ t → getD a k 0 ≡ below m g k
+    at k h true t = let l : k < m = ltb-true k m t in b .filled .holds k (omega arith) ∙ sym (below-in m g k l)
+    at k h false t = let l : m ≤ k = ltb-false k m t in b .behind k (omega arith) ∙ sym (below-out m g k l)
+
+-- filled as far as g is not 0
+pub begun-rest : (g : ℕ → ℕ) (a : List ℕ) (n r : ℕ) → Begun g a n r → ((k : ℕ) → r ≤ k → g k ≡ 0) → a ≡ tabulate n g
+begun-rest g a n r b z = is-tabulate n g a 0 (b .filled .long) (λ k h. at k (ltb k r) refl)
+  where
+    at : (k : ℕ) (t : Bool) → ltb k r ≡ t → getD a k 0 ≡ g k
+    at k true t = b .filled .holds k (ltb-true k r t)
+    at k false t = let l : r ≤ k = ltb-false k r t in b .behind k l ∙ sym (z k l)
+
+-- an entry of such a list
+pub entry-below : (n m : ℕ) (g : ℕ → ℕ) (l : List ℕ) (k : ℕ) → l ≡ tabulate n (below m g) → k < n → k < m → getD l k 0 ≡ g k
+entry-below n m g l k e h b = entry-tabulate n (below m g) l k e h ∙ below-in m g k b
+
+pub entry-behind : (n m : ℕ) (g : ℕ → ℕ) (l : List ℕ) (k : ℕ) → l ≡ tabulate n (below m g) → m ≤ k → getD l k 0 ≡ 0
+entry-behind n m g l k e b = at (ltb k n) refl
+  where
+    at : (t : Bool) → ltb k n ≡ t → getD l k 0 ≡ 0
+    at true t = entry-tabulate n (below m g) l k e (ltb-true k n t) ∙ below-out m g k b
+    at false t =
+        let long : length l ≡ n = ap length e ∙ length-tabulate n (below m g) in
+        List·getD-eq-default l 0 {n = k} (omega (arith, ltb-false k n t))

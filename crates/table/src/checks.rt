@@ -1,11 +1,12 @@
 // The verdict: the refusals in their order, each over the whole text before the next.
 ghost use mathlib.Core.Path.{_≡_};
 ghost use mathlib.Core.Bool.{true};
-ghost use Prim.Native.Nat.{ℕ, _<_, _^_};
-ghost use Rattle.table.specs.Tabulate.{tabulate};
-ghost use Rattle.table.specs.Header.{headerOk, statementLine};
+ghost use Prim.Native.Nat.{ℕ, _≤_, _<_, _^_};
+ghost use Rattle.table.specs.Header.{headerOk, routines, statementLine};
 ghost use Rattle.table.specs.Routines.{firstOf};
+ghost use Rattle.table.specs.Layout.{firstStatements};
 ghost use Rattle.table.specs.LayoutLaws.{Laid};
+ghost use Rattle.table.specs.GatherLaws.{Ended};
 ghost use Rattle.table.specs.Naming.{namesIn};
 ghost use Rattle.table.specs.Verdict.{namingVerdict, statementVerdict, declarationVerdict, numbersVerdict, textOk};
 use crate::Verdict;
@@ -29,6 +30,7 @@ use crate::statements::bad_statement;
 
 // Refusals 11 and 12.
 fn naming_verdict(numbers: &[i32], names: &[u64]) -> Verdict
+    requires { ⌜ Ended (now names) (routines (now numbers)) ⌝ }
     ensures { λ v. ⌜ v ≡ namingVerdict (now (numbers .entry)) (now (names .entry)) ⌝ }
 {
     let count = field_at(numbers, 0, 4);
@@ -83,8 +85,8 @@ fn statement_checks(numbers: &[i32], first: &[usize], handle: &[usize], counts: 
 // Refusals 9 to 12.
 fn statement_verdict(numbers: &[i32], first: &[usize]) -> Verdict
     requires { ⌜ headerOk (now numbers) ≡ true ⌝ }
-    requires { ⌜ now first ≡ tabulate 33 (firstOf (now numbers)) ⌝ }
-    requires { ⌜ ((k : ℕ) → k < 33 → firstOf (now numbers) k < 2 ^ 40) ⌝ }
+    requires { ⌜ now first ≡ firstStatements (now numbers) ⌝ }
+    requires { ⌜ ((k : ℕ) → k < 33 → k ≤ routines (now numbers) → firstOf (now numbers) k < 2 ^ 40) ⌝ }
     ensures { λ v. ⌜ v ≡ statementVerdict (now (numbers .entry)) ⌝ }
 {
     let handle = first_handles(numbers);

@@ -11,10 +11,8 @@ ghost use mathlib.Core.Path.{_≡_};
 ghost use Prim.Native.Nat.{_*_, _<_, _^_};
 ghost use lib.ListN.{length};
 ghost use Rattle.lines.specs.Line.{lineCount, numbersOf};
-ghost use Rattle.table.specs.Tabulate.{tabulate};
 ghost use Rattle.table.specs.Fields.{field};
-ghost use Rattle.table.specs.Handles.{handlesFrom, parameters};
-ghost use Rattle.table.specs.Routines.{firstOf};
+ghost use Rattle.table.specs.Layout.{firstStatements, firstHandles, parameterCounts};
 ghost use Rattle.table.specs.Verdict.{textOk, verdict, readingOf, turnedDown};
 ghost use Rattle.table.specs.Table.{countsOf, declarationOf, argumentsIn, statementIn, statementOf};
 use lines::FirstBad;
@@ -244,23 +242,23 @@ pub fn statement_of(numbers: &[i32], s: usize) -> Statement
     statement_in(numbers, line, fields::field_at(numbers, line, 1))
 }
 
-// The first statement of each routine of a table's numbers, and behind the last routine's the number of statements.
+// The first statement of each routine of a table's numbers, behind the last routine's the number of statements, then zeros.
 pub fn first_statements(numbers: &[i32]) -> [usize; 33]
-    ensures { λ a. ⌜ a ≡ tabulate 33 (firstOf (now (numbers .entry))) ⌝ }
+    ensures { λ a. ⌜ a ≡ firstStatements (now (numbers .entry)) ⌝ }
 {
     routines::first_statements(numbers)
 }
 
-// The first handle of each routine of a table's numbers, and behind the last routine's the number of handles.
+// The first handle of each routine of a table's numbers, behind the last routine's the number of handles, then zeros.
 pub fn first_handles(numbers: &[i32]) -> [usize; 33]
-    ensures { λ a. ⌜ a ≡ tabulate 33 (handlesFrom (now (numbers .entry))) ⌝ }
+    ensures { λ a. ⌜ a ≡ firstHandles (now (numbers .entry)) ⌝ }
 {
     routines::first_handles(numbers)
 }
 
-// How many parameters each routine of a table's numbers has.
+// How many parameters each routine of a table's numbers has, then zeros.
 pub fn parameter_counts(numbers: &[i32]) -> [usize; 32]
-    ensures { λ a. ⌜ a ≡ tabulate 32 (parameters (now (numbers .entry))) ⌝ }
+    ensures { λ a. ⌜ a ≡ parameterCounts (now (numbers .entry)) ⌝ }
 {
     let handle = routines::first_handles(numbers);
     routines::parameter_counts(numbers, &handle[..])

@@ -3,7 +3,9 @@ ghost use mathlib.Core.Path.{_≡_};
 ghost use Prim.Native.Nat.{ℕ, _<_, _^_, _≤_, _-_};
 ghost use Rattle.table.specs.Until.{until};
 ghost use Rattle.table.specs.Entry.{entry};
+ghost use Rattle.table.specs.Header.{routines};
 ghost use Rattle.table.specs.LayoutLaws.{Laid};
+ghost use Rattle.table.specs.GatherLaws.{Ended};
 ghost use Rattle.table.specs.Naming.{namedBy, gather, namesOf, namesIn, isNamed, walk, reached, isAcyclic};
 use crate::fields::field_at;
 use crate::routines::entry_at;
@@ -39,11 +41,9 @@ fn named_among(numbers: &[i32], from: usize, end: usize) -> u64
 // What the statements of routine `r` name.
 fn names_of(numbers: &[i32], first: &[usize], handle: &[usize], counts: &[usize], r: usize) -> u64
     requires { ⌜ Laid (now numbers) (now first) (now handle) (now counts) ⌝ }
+    requires { ⌜ r < routines (now numbers) ⌝ }
     ensures { λ x. ⌜ x ≡ namesOf (now (numbers .entry)) r ⌝ }
 {
-    if field_at(numbers, 0, 4) <= r {
-        return 0;
-    }
     named_among(numbers, entry_at(first, r), entry_at(first, r + 1))
 }
 
@@ -52,9 +52,10 @@ pub fn names_in(numbers: &[i32], first: &[usize], handle: &[usize], counts: &[us
     requires { ⌜ Laid (now numbers) (now first) (now handle) (now counts) ⌝ }
     ensures { λ a. ⌜ a ≡ namesIn (now (numbers .entry)) ⌝ }
 {
+    let count = field_at(numbers, 0, 4);
     let mut names = [0u64; 32];
     let mut r = 0;
-    while r < 32 {
+    while r < count {
         names[r] = names_of(numbers, first, handle, counts, r);
         r += 1;
     }
@@ -68,13 +69,14 @@ fn set_at(names: &[u64], i: usize) -> u64
     if i < names.len() { names[i] } else { 0 }
 }
 
-// All that is named.
-fn all_named(names: &[u64]) -> u64
+// All that `count` routines name.
+fn all_named(names: &[u64], count: usize) -> u64
+    requires { ⌜ Ended (now names) count ⌝ }
     ensures { λ x. ⌜ x ≡ gather (entry (now (names .entry))) 0 0 32 ⌝ }
 {
     let mut all = 0;
     let mut r = 0;
-    while r < 32 {
+    while r < count {
         all = sets::union(all, set_at(names, r));
         r += 1;
     }
@@ -83,9 +85,10 @@ fn all_named(names: &[u64]) -> u64
 
 // The lowest routine but 0, below `count`, that is not named; `count` if there is none.
 pub fn unnamed(names: &[u64], count: usize) -> usize
+    requires { ⌜ Ended (now names) count ⌝ }
     ensures { λ r. ⌜ r ≡ until (isNamed (now (names .entry))) 1 (count - 1) ⌝ }
 {
-    let all = all_named(names);
+    let all = all_named(names, count);
     let mut r = 1;
     while r < count {
         if !sets::has(all, r) {

@@ -1,11 +1,10 @@
 // The routine lines: their rule, and where each routine's statements and handles stand.
 ghost use mathlib.Core.Path.{_≡_};
-ghost use Prim.Native.Nat.{ℕ, _<_, _^_, _≤_};
+ghost use Prim.Native.Nat.{ℕ, _<_, _^_, _≤_, min};
 ghost use Rattle.table.specs.Until.{until};
-ghost use Rattle.table.specs.Tabulate.{tabulate};
 ghost use Rattle.table.specs.Header.{routines};
-ghost use Rattle.table.specs.Handles.{handlesFrom, parameters};
 ghost use Rattle.table.specs.Routines.{countOf, routineOk, firstOf, sumOk};
+ghost use Rattle.table.specs.Layout.{firstStatements, firstHandles, parameterCounts};
 ghost use Rattle.table.specs.Entry.{entry};
 use crate::fields::field_at;
 use crate::fields::is_unused;
@@ -52,15 +51,27 @@ pub fn bad_routine(numbers: &[i32]) -> usize
     r
 }
 
-// The first statement of each routine, and behind the last routine's the number of statements dealt out.
-pub fn first_statements(numbers: &[i32]) -> [usize; 33]
-    ensures is { λ a. ⌜ a ≡ tabulate 33 (firstOf (now (numbers .entry))) ⌝ }
-    ensures small { λ a. ⌜ ((k : ℕ) → k < 33 → firstOf (now (numbers .entry)) k < 2 ^ 40) ⌝ }
+// The number of routines, 32 at most.
+fn routine_count(numbers: &[i32]) -> usize
+    ensures { λ n. ⌜ n ≡ min 32 (routines (now (numbers .entry))) ⌝ }
 {
+    let count = field_at(numbers, 0, 4);
+    if 32 < count {
+        return 32;
+    }
+    count
+}
+
+// The first statement of each routine, behind the last routine's the number of statements dealt out, then zeros.
+pub fn first_statements(numbers: &[i32]) -> [usize; 33]
+    ensures is { λ a. ⌜ a ≡ firstStatements (now (numbers .entry)) ⌝ }
+    ensures small { λ a. ⌜ ((k : ℕ) → k < 33 → k ≤ routines (now (numbers .entry)) → firstOf (now (numbers .entry)) k < 2 ^ 40) ⌝ }
+{
+    let count = routine_count(numbers);
     let mut first = [0usize; 33];
     let mut sum = 0;
     let mut r = 0;
-    while r < 32 {
+    while r < count {
         sum += count_at(numbers, r);
         first[r + 1] = sum;
         r += 1;
@@ -70,37 +81,39 @@ pub fn first_statements(numbers: &[i32]) -> [usize; 33]
 
 // Refusal 8's rule.
 pub fn sum_ok(numbers: &[i32], first: &[usize]) -> bool
-    requires { ⌜ now first ≡ tabulate 33 (firstOf (now numbers)) ⌝ }
+    requires { ⌜ now first ≡ firstStatements (now numbers) ⌝ }
     requires { ⌜ routines (now numbers) ≤ 32 ⌝ }
     ensures { λ b. ⌜ b ≡ sumOk (now (numbers .entry)) ⌝ }
 {
     entry_at(first, field_at(numbers, 0, 4)) == field_at(numbers, 0, 5)
 }
 
-// The first handle of each routine, and behind the last routine's the number of handles.
+// The first handle of each routine, behind the last routine's the number of handles, then zeros.
 pub fn first_handles(numbers: &[i32]) -> [usize; 33]
-    ensures { λ a. ⌜ a ≡ tabulate 33 (handlesFrom (now (numbers .entry))) ⌝ }
+    ensures { λ a. ⌜ a ≡ firstHandles (now (numbers .entry)) ⌝ }
 {
-    let count = field_at(numbers, 0, 3);
+    let handles = field_at(numbers, 0, 3);
+    let count = routine_count(numbers);
     let mut from = [0usize; 33];
     let mut h = 0;
     let mut r = 0;
-    while r < 32 {
-        h = skip(numbers, 1, r, h, count);
+    while r < count {
+        h = skip(numbers, 1, r, h, handles);
         from[r + 1] = h;
         r += 1;
     }
     from
 }
 
-// How many parameters each routine has.
+// How many parameters each routine has, then zeros.
 pub fn parameter_counts(numbers: &[i32], handle: &[usize]) -> [usize; 32]
-    requires { ⌜ now handle ≡ tabulate 33 (handlesFrom (now numbers)) ⌝ }
-    ensures { λ a. ⌜ a ≡ tabulate 32 (parameters (now (numbers .entry))) ⌝ }
+    requires { ⌜ now handle ≡ firstHandles (now numbers) ⌝ }
+    ensures { λ a. ⌜ a ≡ parameterCounts (now (numbers .entry)) ⌝ }
 {
+    let count = routine_count(numbers);
     let mut counts = [0usize; 32];
     let mut r = 0;
-    while r < 32 {
+    while r < count {
         let from = entry_at(handle, r);
         let end = skip(numbers, 3, 0, from, entry_at(handle, r + 1));
         counts[r] = end - from;

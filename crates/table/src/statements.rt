@@ -40,7 +40,7 @@ fn own_statement(
     x: usize,
 ) -> bool
     requires { ⌜ Laid (now numbers) (now first) (now handle) (now counts) ⌝ }
-    requires { ⌜ r < 32 ⌝ }
+    requires { ⌜ r < routines (now numbers) ⌝ }
     ensures { λ b. ⌜ b ≡ ownStatement (now (numbers .entry)) r x ⌝ }
 {
     (entry_at(first, r) <= x) & (x < entry_at(first, r + 1))
@@ -58,7 +58,7 @@ fn argument_ok(
     x: usize,
 ) -> bool
     requires { ⌜ Laid (now numbers) (now first) (now handle) (now counts) ⌝ }
-    requires { ⌜ q < 32 ⌝ }
+    requires { ⌜ q < routines (now numbers) ⌝ }
     requires { ⌜ k < 4 ⌝ }
     ensures { λ b. ⌜ b ≡ argumentOk (now (numbers .entry)) r q k x ⌝ }
 {
@@ -84,7 +84,7 @@ fn arguments_ok(
     line: usize,
 ) -> bool
     requires { ⌜ Laid (now numbers) (now first) (now handle) (now counts) ⌝ }
-    requires { ⌜ q < 32 ⌝ }
+    requires { ⌜ q < routines (now numbers) ⌝ }
     ensures { λ b. ⌜ b ≡ argumentsOk (now (numbers .entry)) r q line ⌝ }
 {
     argument_ok(
@@ -175,7 +175,7 @@ fn operation_ok(
     op: usize,
 ) -> bool
     requires { ⌜ Laid (now numbers) (now first) (now handle) (now counts) ⌝ }
-    requires { ⌜ r < 32 ⌝ }
+    requires { ⌜ r < routines (now numbers) ⌝ }
     ensures { λ b. ⌜ b ≡ operationOk (now (numbers .entry)) r line op ⌝ }
 {
     let a = field_at(numbers, line, 2);
@@ -210,7 +210,7 @@ fn statement_ok(
     s: usize,
 ) -> bool
     requires { ⌜ Laid (now numbers) (now first) (now handle) (now counts) ⌝ }
-    requires { ⌜ r < 32 ⌝ }
+    requires { ⌜ r < routines (now numbers) ⌝ }
     requires { ⌜ s < 2 ^ 40 ⌝ }
     ensures { λ b. ⌜ b ≡ statementOk (now (numbers .entry)) r s ⌝ }
 {
@@ -237,7 +237,7 @@ fn bad_among(
     end: usize,
 ) -> usize
     requires { ⌜ Laid (now numbers) (now first) (now handle) (now counts) ⌝ }
-    requires { ⌜ r < 32 ⌝ }
+    requires { ⌜ r < routines (now numbers) ⌝ }
     requires { ⌜ end < 2 ^ 40 ⌝ }
     ensures { λ x. ⌜ x ≡ until (statementOk (now (numbers .entry)) r) from (end - from) ⌝ }
 {
@@ -272,7 +272,7 @@ pub fn bad_statement(numbers: &[i32], first: &[usize], handle: &[usize], counts:
 // Refusal 10's rule at routine `r`.
 fn end_ok(numbers: &[i32], first: &[usize], handle: &[usize], counts: &[usize], r: usize) -> bool
     requires { ⌜ Laid (now numbers) (now first) (now handle) (now counts) ⌝ }
-    requires { ⌜ r < 32 ⌝ }
+    requires { ⌜ r < routines (now numbers) ⌝ }
     ensures { λ b. ⌜ b ≡ endOk (now (numbers .entry)) r ⌝ }
 {
     let last = previous(entry_at(first, r + 1));

@@ -16,7 +16,7 @@ field-at-requires c κs = search needs
 
 -- src/checks.rt:24:9
 unnamed-requires : tie.Need-unnamed-requires
-unnamed-requires c κs = search needs
+unnamed-requires c κs = rw (c .field-at .ensures .0) (c .before .before .pre)
 
 -- src/checks.rt:28:23
 field-at-requires-2 : tie.Need-field-at-requires-2

@@ -4,9 +4,10 @@ use mathlib.Core.Path.{_≡_, ap, _∙_}
 use Prim.Native.Nat.{ℕ, _+_, _-_, _<_}
 use denote.Ref.{now}
 use borrow.Author.Tests.{lt-ltb, le-ltb}
-use Rattle.table.specs.Routines.{firstOf}
+use Rattle.table.specs.Header.{routines}
 use Rattle.table.specs.Verdict.{statementVerdict, namingVerdict}
-use Rattle.table.specs.TabulateLaws.{entry-tabulate}
+use Rattle.table.specs.LayoutLaws.{laid-first}
+use Rattle.table.specs.GatherLaws.{names-ended}
 use borrow.Author.Needs.{needs}
 use Rattle.table.proofs.checks.statement_checks.Statement.{statement}
 use Rattle.table.proofs.checks.statement_checks.Tie as tie
@@ -63,9 +64,9 @@ statement-line-requires-2 : tie.Need-statement-line-requires-2
 statement-line-requires-2 c κs = let start = c .before .before .before .before .before .before .before .before .before .before .before in
     let f = now (start .args .numbers) in
     let r = c .before .before .before .before .bad-end .result in
-    let below : r < 32 = omega (arith, c .before .before .before .field-at2 .ensures .0, start .pre .routines-most, c .before .before .if2 .taken) in
+    let inside : r < routines f = omega (arith, c .before .before .before .field-at2 .ensures .0, c .before .before .if2 .taken) in
     omega
-    (arith, c .previous .ensures, c .before .entry-at .ensures ∙ entry-tabulate 33 (firstOf f) _ (r + 1) (start .pre .first-is) (omega arith), start .pre .first-small (r + 1) (omega arith))
+    (arith, c .previous .ensures, c .before .entry-at .ensures ∙ laid-first (start .pre) (r + 1) (omega arith), start .pre .first-small (r + 1) (omega arith))
 
 -- src/checks.rt:63:9
 returns-2 : tie.Need-returns-2
@@ -73,8 +74,8 @@ unfolding statementVerdict
 returns-2 c = let start = c .before .before .before .before .before .before .before .before .before .before .before .before in
     let f = now (start .args .numbers) in
     let r = c .before .before .before .before .before .bad-end .result in
-    let below : r < 32 = omega (arith, c .before .before .before .before .field-at2 .ensures .0, start .pre .routines-most, c .before .before .before .if2 .taken) in
-    let last = c .before .previous .ensures ∙ ap (λ (n : ℕ). n - 1) (c .before .before .entry-at .ensures ∙ entry-tabulate 33 (firstOf f) _ (r + 1) (start .pre .first-is) (omega arith)) in
+    let inside : r < routines f = omega (arith, c .before .before .before .before .field-at2 .ensures .0, c .before .before .before .if2 .taken) in
+    let last = c .before .previous .ensures ∙ ap (λ (n : ℕ). n - 1) (c .before .before .entry-at .ensures ∙ laid-first (start .pre) (r + 1) (omega arith)) in
     rw (
       c .statement-line2 .ensures,
       last,
@@ -94,7 +95,9 @@ slice-aggregate-naming-verdict c = search needs
 
 -- src/checks.rt:69:5
 naming-verdict-requires : tie.Need-naming-verdict-requires
-naming-verdict-requires c κs = search needs
+naming-verdict-requires c κs =
+    let start = c .before .before .before .before .before .before .before .before .before .before .before in
+    names-ended _ _ (start .pre .routines-most) (c .before .names-in .ensures)
 
 -- src/checks.rt:50:1
 returns-3 : tie.Need-returns-3

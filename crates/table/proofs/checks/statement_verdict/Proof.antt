@@ -1,5 +1,6 @@
 -- `table::checks::statement_verdict` meets its contract. Assumes nothing.
 use Rattle.table.specs.HeaderLaws.{header-sized}
+use native.Mathlib.Omega.{arith}
 use borrow.Author.Needs.{needs}
 use Rattle.table.proofs.checks.statement_verdict.Statement.{statement}
 use Rattle.table.proofs.checks.statement_verdict.Tie as tie
@@ -37,7 +38,7 @@ statement-checks-requires c κs = let start = c .before .before .before .before 
       handles-most = sized .handles-most;
       routines-most = sized .routines-most;
       statements-most = sized .statements-most;
-      first-small = start .pre .1 .1;
+      first-small = λ k h. start .pre .1 .1 k (omega (arith, sized .routines-most)) h;
       first-is = start .pre .1 .0;
       handle-is = c .before .before .before .before .first-handles .ensures;
       counts-is = c .before .before .parameter-counts .ensures;

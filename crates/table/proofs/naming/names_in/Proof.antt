@@ -1,54 +1,50 @@
 -- `table::naming::names_in` meets its contract. Assumes nothing.
 use borrow.Author.Needs.{needs}
 use native.Mathlib.Omega.{arith}
-use mathlib.Core.Path.{refl}
-use Prim.Native.Nat.{ℕ, _-_, _≤_, zero-le}
+use Prim.Native.Nat.{ℕ, _-_, _<_, _≤_, zero-le}
+use Rattle.table.specs.GatherLaws.{none-named}
 use Rattle.table.specs.Naming.{namesOf, namesIn}
-use Rattle.table.specs.TabulateLaws.{Filled, filled-none, filled-next, filled-all}
+use Rattle.table.specs.TabulateLaws.{Begun, begun-none, begun-next, begun-rest}
 use Rattle.table.proofs.naming.names_in.Statement.{statement}
 use Rattle.table.proofs.naming.names_in.Tie as tie
-use Rattle.table.proofs.naming.names_in.Reads as reads
-use Rattle.table.proofs.naming.names_in.Lts as lts
-use Rattle.table.proofs.naming.names_of.Reads as names-of-reads
 
 abbrev Inv-loop : tie.InvT-loop
-Inv-loop numbers first handle counts names₀ r₀ names r = (r ≤ 32) × Filled (namesOf numbers) names 32 r
+Inv-loop numbers first handle counts count names₀ r₀ names r = (r ≤ count) × Begun (namesOf numbers) names 32 r
 
 abbrev μ-loop : tie.MeasureT-loop
-μ-loop numbers first handle counts names₀ r₀ names r = 32 - r
+μ-loop numbers first handle counts count names₀ r₀ names r = count - r
 
--- src/naming.rt:57:5
+field-at-requires : tie.Need-field-at-requires Inv-loop μ-loop
+field-at-requires c κs = search needs
+
 loop-holds : tie.Need-loop-holds Inv-loop μ-loop
-loop-holds c = (zero-le, filled-none _ _ _ refl)
+loop-holds c = (zero-le, begun-none _ 32)
 
--- src/naming.rt:58:20
 names-of-requires : tie.Need-names-of-requires Inv-loop μ-loop
-names-of-requires c κs = c .before .before .before .before .before .pre
+names-of-requires c κs = (c .before .before .before .before .before .before .pre, omega (arith, c .before .before .field-at .ensures .0, c .loop-test .taken))
 
--- src/naming.rt:58:9
+-- fewer than 32 routines are passed
+few : (c : tie.In-loop Inv-loop μ-loop) → c .before .loop .r < 32
+few c = omega (arith, c .before .before .before .before .before .before .pre .routines-most, c .before .before .field-at .ensures .0, c .loop-test .taken)
+
 mul-names : tie.Need-mul-names Inv-loop μ-loop
-mul-names c = record { fits = omega arith }
+mul-names c = record { fits = omega (arith, few (c .before)) }
 
--- src/naming.rt:58:9
 array-write-names : tie.Need-array-write-names Inv-loop μ-loop
-array-write-names c = omega arith
+array-write-names c = few (c .before)
 
--- src/naming.rt:59:9
 add-r : tie.Need-add-r Inv-loop μ-loop
 add-r c = search needs
 
--- src/naming.rt:57:5
 loop-less : tie.Need-loop-less Inv-loop μ-loop
 loop-less c = search needs
 
--- src/naming.rt:57:5
 loop-again : tie.Need-loop-again Inv-loop μ-loop
-loop-again c = (omega arith, filled-next _ _ _ _ _ (c .before .before .loop .inv .1) (c .before .loop-test .taken) (c .names-of .ensures))
+loop-again c = (omega arith, begun-next _ _ _ _ _ (c .before .before .loop .inv .1) (few (c .before)) (c .names-of .ensures))
 
--- src/naming.rt:51:1
 returns : tie.Need-returns Inv-loop μ-loop
 unfolding namesIn
-returns c = filled-all _ _ _ _ (c .before .loop .inv .1) (omega arith)
+returns c = begun-rest _ _ _ _ (c .before .loop .inv .1) (λ k h. none-named _ k (omega (arith, c .before .before .field-at .ensures .0, c .loop-test .left, h)))
 
 pub names-in-spec : {M : Type 1} → statement M
 names-in-spec =
@@ -56,6 +52,7 @@ names-in-spec =
     (tie.spec
     Inv-loop
     μ-loop
+    field-at-requires
     loop-holds
     names-of-requires
     mul-names

@@ -21,7 +21,7 @@ abbrev μ-loop : tie.MeasureT-loop
 
 -- src/naming.rt:88:9
 all-named-requires : tie.Need-all-named-requires Inv-loop μ-loop
-all-named-requires c κs = tt
+all-named-requires c κs = c .before .pre
 
 -- src/naming.rt:90:5
 loop-holds : tie.Need-loop-holds Inv-loop μ-loop

@@ -1,62 +1,54 @@
 -- `table::routines::first_handles` meets its contract. Assumes nothing.
 use borrow.Author.Needs.{needs}
 use native.Mathlib.Omega.{arith}
-use mathlib.Core.Path.{refl}
-use Prim.Native.Nat.{_-_}
+use Prim.Native.Nat.{_-_, _<_, _≤_, zero-le}
 use Rattle.table.specs.LayoutLaws.{Skipping, skipping-start, skipping-next}
-use Rattle.table.specs.TabulateLaws.{filled-all}
+use Rattle.table.specs.TabulateLaws.{begun-below}
 use Rattle.table.proofs.routines.first_handles.Statement.{statement}
 use Rattle.table.proofs.routines.first_handles.Tie as tie
-use Rattle.table.proofs.routines.first_handles.Reads as reads
-use Rattle.table.proofs.routines.first_handles.Lts as lts
-use Rattle.table.proofs.fields.field_at.Reads as field-at-reads
-use Rattle.table.proofs.handles.skip.Reads as skip-reads
 
 abbrev Inv-loop : tie.InvT-loop
-Inv-loop numbers count from₀ h₀ r₀ from h r = Skipping numbers from h r
+Inv-loop numbers handles count from₀ h₀ r₀ from h r = (r ≤ count) × Skipping numbers from h r
 
 abbrev μ-loop : tie.MeasureT-loop
-μ-loop numbers count from₀ h₀ r₀ from h r = 32 - r
+μ-loop numbers handles count from₀ h₀ r₀ from h r = count - r
 
--- src/routines.rt:81:9
 field-at-requires : tie.Need-field-at-requires Inv-loop μ-loop
-field-at-requires c κs = tt
+field-at-requires c κs = search needs
 
--- src/routines.rt:85:5
+routine-count-requires : tie.Need-routine-count-requires Inv-loop μ-loop
+routine-count-requires c κs = search needs
+
 loop-holds : tie.Need-loop-holds Inv-loop μ-loop
-loop-holds c = skipping-start _ _ refl refl
+loop-holds c = (zero-le, skipping-start _)
 
--- src/routines.rt:86:9
 skip-requires : tie.Need-skip-requires Inv-loop μ-loop
-skip-requires c κs = tt
+skip-requires c κs = search needs
 
--- src/routines.rt:87:14
 add-from : tie.Need-add-from Inv-loop μ-loop
 add-from c = search needs
 
--- src/routines.rt:87:9
+-- fewer than 32 routines are passed
+few : (c : tie.In-loop Inv-loop μ-loop) → c .before .loop .r < 32
+few c = omega (arith, c .before .before .routine-count .ensures, c .loop-test .taken)
+
 mul-from : tie.Need-mul-from Inv-loop μ-loop
-mul-from c = record { fits = omega arith }
+mul-from c = record { fits = omega (arith, few (c .before)) }
 
--- src/routines.rt:87:9
 array-write-from : tie.Need-array-write-from Inv-loop μ-loop
-array-write-from c = omega arith
+array-write-from c = omega (arith, few (c .before))
 
--- src/routines.rt:88:9
 add-r : tie.Need-add-r Inv-loop μ-loop
 add-r c = search needs
 
--- src/routines.rt:85:5
 loop-less : tie.Need-loop-less Inv-loop μ-loop
 loop-less c = search needs
 
--- src/routines.rt:85:5
 loop-again : tie.Need-loop-again Inv-loop μ-loop
-loop-again c = skipping-next _ _ _ _ _ _ (c .before .before .loop .inv) (c .before .loop-test .taken) (c .before .before .before .field-at .ensures .0) (c .skip .ensures)
+loop-again c = (omega arith, skipping-next _ _ _ _ _ _ (c .before .before .loop .inv .1) (few (c .before)) (c .before .before .before .before .field-at .ensures .0) (c .skip .ensures))
 
--- src/routines.rt:78:1
 returns : tie.Need-returns Inv-loop μ-loop
-returns c = filled-all _ _ _ _ (c .before .loop .inv .filled) (omega arith)
+returns c = begun-below _ _ _ _ _ (c .before .loop .inv .1 .begun) (omega (arith, c .before .before .routine-count .ensures))
 
 pub first-handles-spec : {M : Type 1} → statement M
 first-handles-spec =
@@ -65,6 +57,7 @@ first-handles-spec =
     Inv-loop
     μ-loop
     field-at-requires
+    routine-count-requires
     loop-holds
     skip-requires
     add-from

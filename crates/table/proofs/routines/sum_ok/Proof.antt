@@ -5,8 +5,8 @@ use lib.Dec.{eqb}
 use denote.Ref.{now}
 use Rattle.table.specs.Entry.{entry}
 use Rattle.table.specs.Header.{routines}
-use Rattle.table.specs.Routines.{sumOk, firstOf}
-use Rattle.table.specs.TabulateLaws.{entry-tabulate}
+use Rattle.table.specs.Routines.{sumOk}
+use Rattle.table.specs.LayoutLaws.{first-at}
 use borrow.Author.Needs.{needs}
 use Rattle.table.proofs.routines.sum_ok.Statement.{statement}
 use Rattle.table.proofs.routines.sum_ok.Tie as tie
@@ -35,7 +35,7 @@ returns c =
     let f = now (a .before .args .numbers) in
     ap₂ eqb
     (c .before .entry-at .ensures ∙ ap (entry (now (a .before .args .first))) (c .before .before .field-at .ensures .0)
-    ∙ entry-tabulate 33 (firstOf f) _ (routines f) (a .before .pre .0) (omega (arith, a .before .pre .1)))
+    ∙ first-at f (a .before .pre .1) _ (routines f) (a .before .pre .0) (omega arith))
     (c .field-at2 .ensures .0)
 
 pub sum-ok-spec : {M : Type 1} → statement M

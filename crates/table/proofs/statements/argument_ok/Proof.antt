@@ -3,15 +3,13 @@ use Prim.Native.Nat.{ℕ, _+_, _<_, _≤_}
 use denote.Ref.{now}
 use Rattle.table.specs.Fields.{field}
 use Rattle.table.specs.Header.{handleLine}
-use Rattle.table.specs.Handles.{handlesFrom, parameters}
 use Rattle.table.specs.Statements.{ownOfKind}
-use Rattle.table.specs.LayoutLaws.{handles-from-most}
+use Rattle.table.specs.LayoutLaws.{handles-from-most, laid-handle, laid-count}
 -- `table::statements::argument_ok` meets its contract. Assumes nothing.
 use native.Mathlib.Omega.{arith}
 use mathlib.Core.Path.{_∙_}
 use borrow.Author.Tests.{le-ltb, lt-ltb}
 use Rattle.table.specs.Statements.{argumentOk}
-use Rattle.table.specs.TabulateLaws.{entry-tabulate}
 use borrow.Author.Needs.{needs}
 use Rattle.table.proofs.statements.argument_ok.Statement.{statement}
 use Rattle.table.proofs.statements.argument_ok.Tie as tie
@@ -33,14 +31,14 @@ entry-at-requires-2 c κs = search needs
 add-field-at : tie.Need-add-field-at
 add-field-at c = let a = c .before .before .before .before .before .before in
     let f = now (a .args .numbers) in
-    let h = c .entry-at2 .ensures ∙ entry-tabulate 33 (handlesFrom f) _ (a .args .q) (a .pre .0 .handle-is) (omega (arith, a .pre .1 .0)) in
+    let h = c .entry-at2 .ensures ∙ laid-handle (a .pre .0) (a .args .q) (omega (arith, a .pre .1 .0)) in
     record { fits = omega (arith, h, handles-from-most f (a .args .q), a .pre .0 .handles-most, a .pre .1 .1) }
 
 -- src/statements.rt:48:58
 add-field-at-2 : tie.Need-add-field-at-2
 add-field-at-2 c = let a = c .before .before .before .before .before .before in
     let f = now (a .args .numbers) in
-    let h = c .entry-at2 .ensures ∙ entry-tabulate 33 (handlesFrom f) _ (a .args .q) (a .pre .0 .handle-is) (omega (arith, a .pre .1 .0)) in
+    let h = c .entry-at2 .ensures ∙ laid-handle (a .pre .0) (a .args .q) (omega (arith, a .pre .1 .0)) in
     record { fits = omega (arith, h, handles-from-most f (a .args .q), a .pre .0 .handles-most, a .pre .1 .1) }
 
 -- src/statements.rt:48:40
@@ -56,8 +54,8 @@ returns : tie.Need-returns
 unfolding argumentOk
 returns c = let a = c .before .before .before .before .before .before .before .before in
     let f = now (a .args .numbers) in
-    let n = c .before .before .before .before .entry-at .ensures ∙ entry-tabulate 32 (parameters f) _ (a .args .q) (a .pre .0 .counts-is) (a .pre .1 .0) in
-    let h = c .before .before .entry-at2 .ensures ∙ entry-tabulate 33 (handlesFrom f) _ (a .args .q) (a .pre .0 .handle-is) (omega (arith, a .pre .1 .0)) in
+    let n = c .before .before .before .before .entry-at .ensures ∙ laid-count (a .pre .0) (a .args .q) (a .pre .1 .0) in
+    let h = c .before .before .entry-at2 .ensures ∙ laid-handle (a .pre .0) (a .args .q) (omega (arith, a .pre .1 .0)) in
     rw (lt-ltb _ _ (rw n at (c .before .before .before .if1 .taken)))
     (c .own-of-kind .ensures
     ∙ ap (λ (kind : ℕ). ownOfKind f (a .args .r) kind (a .args .x)) (c .before .field-at .ensures .0 ∙ ap (λ (m : ℕ). field f (1 + (m + a .args .k)) 2) h))
@@ -67,7 +65,7 @@ returns-2 : tie.Need-returns-2
 unfolding argumentOk
 returns-2 c = let a = c .before .before .before .before .before in
     let f = now (a .args .numbers) in
-    let n = c .before .entry-at .ensures ∙ entry-tabulate 32 (parameters f) _ (a .args .q) (a .pre .0 .counts-is) (a .pre .1 .0) in
+    let n = c .before .entry-at .ensures ∙ laid-count (a .pre .0) (a .args .q) (a .pre .1 .0) in
     rw (le-ltb _ _ (rw n at (c .if1 .left)))
 
 pub argument-ok-spec : {M : Type 1} → statement M

@@ -31,7 +31,7 @@ loop-holds c = looking-start _ _ _
 -- src/statements.rt:182:13
 end-ok-requires : tie.Need-end-ok-requires Inv-loop μ-loop
 end-ok-requires c κs = let start = c .before .before .before .before .before .before in
-    (start .pre, omega (arith, c .before .before .field-at .ensures .0, start .pre .routines-most, c .loop-test .taken))
+    (start .pre, omega (arith, c .before .before .field-at .ensures .0, c .loop-test .taken))
 
 -- src/statements.rt:183:13
 returns : tie.Need-returns Inv-loop μ-loop

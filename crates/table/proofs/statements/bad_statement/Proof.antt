@@ -11,7 +11,7 @@ use Rattle.table.specs.Header.{routines}
 use Rattle.table.specs.Routines.{firstOf}
 use Rattle.table.specs.Statements.{statementOk, badStatement}
 use Rattle.table.specs.SearchLaws.{Searching, searching-start, searching-next, searching-stop, searching-done, searched, badIn}
-use Rattle.table.specs.TabulateLaws.{entry-tabulate}
+use Rattle.table.specs.LayoutLaws.{laid-first}
 use Rattle.table.proofs.statements.bad_statement.Statement.{statement}
 use Rattle.table.proofs.statements.bad_statement.Tie as tie
 use Rattle.table.proofs.statements.bad_statement.Reads as reads
@@ -37,11 +37,11 @@ at c =
     let start = c .before .before .before .before .before .before .before .before .before in
     let f = now (start .args .numbers) in
     let r = c .before .before .before .before .loop .r in
-    let below : r < 32 = omega (arith, c .before .before .before .before .before .field-at .ensures .0, start .pre .routines-most, c .before .before .before .loop-test .taken) in
-    let e = c .before .before .entry-at .ensures ∙ entry-tabulate 33 (firstOf f) _ (r + 1) (start .pre .first-is) (omega arith) in
+    let inside : r < routines f = omega (arith, c .before .before .before .before .before .field-at .ensures .0, c .before .before .before .loop-test .taken) in
+    let e = c .before .before .entry-at .ensures ∙ laid-first (start .pre) (r + 1) (omega arith) in
     record {
       end = e;
-      found = searched f r _ _ _ (c .bad-among .ensures) (c .before .entry-at2 .ensures ∙ entry-tabulate 33 (firstOf f) _ r (start .pre .first-is) (omega arith)) e;
+      found = searched f r _ _ _ (c .bad-among .ensures) (c .before .entry-at2 .ensures ∙ laid-first (start .pre) r (omega arith)) e;
     }
 
 -- src/statements.rt:150:9
@@ -69,11 +69,11 @@ bad-among-requires : tie.Need-bad-among-requires Inv-loop μ-loop
 bad-among-requires c κs = let start = c .before .before .before .before .before .before .before .before in
     let f = now (start .args .numbers) in
     let r = c .before .before .before .loop .r in
-    let below : r < 32 = omega (arith, c .before .before .before .before .field-at .ensures .0, start .pre .routines-most, c .before .before .loop-test .taken) in (
+    let inside : r < routines f = omega (arith, c .before .before .before .before .field-at .ensures .0, c .before .before .loop-test .taken) in (
       start .pre,
       (
-        below,
-        subst⁻¹ (λ (n : ℕ). n < 2 ^ 40) (c .before .entry-at .ensures ∙ entry-tabulate 33 (firstOf f) _ (r + 1) (start .pre .first-is) (omega arith))
+        inside,
+        subst⁻¹ (λ (n : ℕ). n < 2 ^ 40) (c .before .entry-at .ensures ∙ laid-first (start .pre) (r + 1) (omega arith))
             (start .pre .first-small (r + 1) (omega arith)),
       ),
     )
@@ -107,7 +107,7 @@ returns-2 c = let start = c .before .before .before .before .before .before .bef
     let f = now (start .args .numbers) in
     let count = c .before .before .before .field-at .result in
     c .entry-at3 .ensures
-    ∙ entry-tabulate 33 (firstOf f) _ count (start .pre .first-is) (omega (arith, c .before .before .before .field-at .ensures .0, start .pre .routines-most))
+    ∙ laid-first (start .pre) count (omega (arith, c .before .before .before .field-at .ensures .0))
     ∙ searching-done _ _ _ (c .before .before .loop .inv) (c .before .loop-test .left) ∙ ap (badStatement f 0) (c .before .before .before .field-at .ensures .0)
 
 pub bad-statement-spec : {M : Type 1} → statement M

@@ -3,9 +3,8 @@ use native.Mathlib.Omega.{arith}
 use mathlib.Core.Path.{_≡_, ap, _∙_}
 use Prim.Native.Nat.{ℕ, _+_, _-_}
 use denote.Ref.{now}
-use Rattle.table.specs.Routines.{firstOf}
 use Rattle.table.specs.Statements.{endOk}
-use Rattle.table.specs.TabulateLaws.{entry-tabulate}
+use Rattle.table.specs.LayoutLaws.{laid-first}
 use borrow.Author.Needs.{needs}
 use Rattle.table.proofs.statements.end_ok.Statement.{statement}
 use Rattle.table.proofs.statements.end_ok.Tie as tie
@@ -47,7 +46,7 @@ add-field-at-2 c = search needs
 add-field-at-3 : tie.Need-add-field-at-3
 add-field-at-3 c = let start = c .before .before .before .before .before .before .before in
     let f = now (start .args .numbers) in
-    let e = c .before .before .before .entry-at .ensures ∙ entry-tabulate 33 (firstOf f) _ (start .args .r + 1) (start .pre .0 .first-is) (omega (arith, start .pre .1)) in
+    let e = c .before .before .before .entry-at .ensures ∙ laid-first (start .pre .0) (start .args .r + 1) (omega (arith, start .pre .1)) in
     record {
       fits =
           omega
@@ -63,7 +62,7 @@ returns : tie.Need-returns
 unfolding endOk
 returns c = let start = c .before .before .before .before .before .before .before .before in
     let f = now (start .args .numbers) in
-    let e = c .before .before .before .before .entry-at .ensures ∙ entry-tabulate 33 (firstOf f) _ (start .args .r + 1) (start .pre .0 .first-is) (omega (arith, start .pre .1)) in
+    let e = c .before .before .before .before .entry-at .ensures ∙ laid-first (start .pre .0) (start .args .r + 1) (omega (arith, start .pre .1)) in
     rw (c .field-at3 .ensures .0, c .before .before .field-at .ensures .0, c .before .field-at2 .ensures .0, c .before .before .before .previous .ensures, e)
 
 pub end-ok-spec : {M : Type 1} → statement M

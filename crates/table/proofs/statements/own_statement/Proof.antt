@@ -2,13 +2,11 @@ use mathlib.Core.Path.{ap₂}
 use Prim.Native.Nat.{ℕ, _+_}
 use mathlib.Core.Bool.{_&&_}
 use lib.Dec.{leb, ltb}
-use denote.Ref.{now}
-use Rattle.table.specs.Routines.{firstOf}
 -- `table::statements::own_statement` meets its contract. Assumes nothing.
 use native.Mathlib.Omega.{arith}
 use mathlib.Core.Path.{_∙_}
 use Rattle.table.specs.Statements.{ownStatement}
-use Rattle.table.specs.TabulateLaws.{entry-tabulate}
+use Rattle.table.specs.LayoutLaws.{laid-first}
 use borrow.Author.Needs.{needs}
 use Rattle.table.proofs.statements.own_statement.Statement.{statement}
 use Rattle.table.proofs.statements.own_statement.Tie as tie
@@ -32,10 +30,9 @@ entry-at-requires-2 c κs = search needs
 returns : tie.Need-returns
 unfolding ownStatement
 returns c = let a = c .before .before .before .before .before in
-    let g = firstOf (now (a .args .numbers)) in
     let x = a .args .x in
-    ap₂ (λ (m n : ℕ). leb m x && ltb x n) (c .before .entry-at .ensures ∙ entry-tabulate 33 g _ (a .args .r) (a .pre .0 .first-is) (omega arith))
-    (c .entry-at2 .ensures ∙ entry-tabulate 33 g _ (a .args .r + 1) (a .pre .0 .first-is) (omega arith))
+    ap₂ (λ (m n : ℕ). leb m x && ltb x n) (c .before .entry-at .ensures ∙ laid-first (a .pre .0) (a .args .r) (omega (arith, a .pre .1)))
+    (c .entry-at2 .ensures ∙ laid-first (a .pre .0) (a .args .r + 1) (omega (arith, a .pre .1)))
 
 pub own-statement-spec : {M : Type 1} → statement M
 own-statement-spec =
