@@ -10,10 +10,9 @@ use Rattle.lines.specs.Field.{inField}
 use lib.ListN.{length, take, replicate, length-replicate}
 use Rattle.table.specs.Fields.{field, plain}
 use Rattle.table.specs.Header.{handles, routines, statements}
-use Rattle.table.specs.Handles.{handlesFrom, parameters}
+use Rattle.table.specs.Layout.{firstStatements, firstHandles, parameterCounts}
 use Rattle.table.specs.Routines.{firstOf, countOf}
 use Rattle.table.specs.CutLaws.{take-replicate, cut-long}
-use Rattle.table.specs.Tabulate.{tabulate}
 use Rattle.table.specs.TabulateLaws.{length-tabulate}
 use Rattle.table.specs.Table.{Table, tableOf, countsOf}
 use Rattle.table.specs.LookupLaws.{handles-length, routines-length, statements-length}
@@ -45,13 +44,14 @@ module _ (f : List ℤ) (read : AcceptedNumbers f) where
       let c : countOf f k < 2 ^ 31 = plain-small _ (read .in-field _) in
       omega arith
 
-  pub base : (first handle counts : List ℕ) → first ≡ tabulate 33 (firstOf f) → handle ≡ tabulate 33 (handlesFrom f)
-      → counts ≡ tabulate 32 (parameters f) → Base f first handle counts
+  pub base : (first handle counts : List ℕ) → first ≡ firstStatements f → handle ≡ firstHandles f
+      → counts ≡ parameterCounts f → Base f first handle counts
   base first handle counts a b c =
       let acc = read .accepted in
       let h : length (tableOf f .handles) ≤ 128 = acc .handles-most in
       let r : length (tableOf f .routines) ≤ 32 = acc .routines-most in
       let s : length (tableOf f .statements) ≤ 512 = acc .statements-most in
+      let count : routines f ≤ 32 = omega (arith, routines-length f) in
       let few : Laid f first handle counts = record {
         handles-most = omega (arith, handles-length f);
         routines-most = omega (arith, routines-length f);

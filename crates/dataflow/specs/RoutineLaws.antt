@@ -12,7 +12,8 @@ use Rattle.table.specs.Header.{routines, statements}
 use Rattle.table.specs.Handles.{handlesFrom, parameters}
 use Rattle.table.specs.Routines.{firstOf}
 use Rattle.table.specs.Table.{Table, tableOf, routine, argumentsIn, InRoutine}
-use Rattle.table.specs.TabulateLaws.{entry-tabulate}
+use Rattle.table.specs.Layout.{firstStatements}
+use Rattle.table.specs.LayoutLaws as L
 use Rattle.table.specs.Tabulate.{tabulate}
 use Rattle.table.specs.LayoutLaws.{Laid}
 use Rattle.table.specs.LookupLaws.{routines-length, statements-length, routine-says, in-routine, routine-in}
@@ -26,7 +27,7 @@ use Rattle.dataflow.specs.LineLaws.{passingFrom, passing-is}
 
 -- the list of the first statements
 pub record Firsts (f : List ℤ) (first : List ℕ) : Type 0 where
-  pub is : first ≡ tabulate 33 (firstOf f)
+  pub is : first ≡ firstStatements f
   pub few : routines f ≤ 32
 
 pub laid-firsts : {f : List ℤ} {first handle counts : List ℕ} → Laid f first handle counts → Firsts f first
@@ -55,10 +56,10 @@ module _ (f : List ℤ) (acc : Accepted (tableOf f)) where
 
   module _ (first : List ℕ) (firsts : Firsts f first) (r : ℕ) (b : r < routines f) where
     pub first-at : getD first r 0 ≡ routine t r .first
-    first-at = entry-tabulate 33 (firstOf f) first r (firsts .is) (omega (arith, firsts .few)) ∙ sym (routine-says f r b .first)
+    first-at = L.first-at f (firsts .few) first r (firsts .is) (omega arith) ∙ sym (routine-says f r b .first)
 
     next-at : getD first (r + 1) 0 ≡ firstOf f (r + 1)
-    next-at = entry-tabulate 33 (firstOf f) first (r + 1) (firsts .is) (omega (arith, firsts .few))
+    next-at = L.first-at f (firsts .few) first (r + 1) (firsts .is) (omega arith)
 
     pub end-at : getD first (r + 1) 0 ≡ routine t r .first + routine t r .count
     end-at = let says = routine-says f r b in omega (arith, next-at, says .first, says .count, says .next)
@@ -69,10 +70,10 @@ module _ (f : List ℤ) (acc : Accepted (tableOf f)) where
 
   module _ (first handle counts : List ℕ) (laid : Laid f first handle counts) (q : ℕ) (b : q < routines f) where
     handle-at : getD handle q 0 ≡ routine t q .handle
-    handle-at = entry-tabulate 33 (handlesFrom f) handle q (laid .handle-is) (omega (arith, laid .routines-most)) ∙ sym (routine-says f q b .handle)
+    handle-at = L.laid-handle laid q (omega arith) ∙ sym (routine-says f q b .handle)
 
     parameters-at : getD counts q 0 ≡ routine t q .parameters
-    parameters-at = entry-tabulate 32 (parameters f) counts q (laid .counts-is) (omega (arith, laid .routines-most)) ∙ sym (routine-says f q b .parameters)
+    parameters-at = L.laid-count laid q b ∙ sym (routine-says f q b .parameters)
 
     -- the arguments in a line go to the parameters of routine q
     pub passing-parts : (line : ℕ) → PassingParts f line q (getD handle q 0) (getD counts q 0)

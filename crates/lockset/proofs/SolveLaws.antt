@@ -17,7 +17,9 @@ use Rattle.table.specs.Header.{handles, routines, statements, statementLine}
 use Rattle.table.specs.Routines.{firstOf}
 use Rattle.table.specs.Table.{Table, tableOf, countsOf, routine, statement, argumentsIn, statementIn, InRoutine}
 use Rattle.table.specs.Tabulate.{tabulate}
-use Rattle.table.specs.TabulateLaws.{length-tabulate, getD-tabulate, is-tabulate, entry-tabulate}
+use Rattle.table.specs.TabulateLaws.{length-tabulate, getD-tabulate, is-tabulate}
+use Rattle.table.specs.Layout.{firstStatements}
+use Rattle.table.specs.LayoutLaws as L
 use Rattle.table.specs.LayoutLaws.{Laid}
 use Rattle.table.specs.LookupLaws.{routines-length, statements-length, routine-says, in-routine, routine-in}
 use Rattle.table.specs.OperationLaws.{statement-in, by-operation}
@@ -95,7 +97,7 @@ only-has s x l o = rw (only-single s x l o) (o .member)
 
 -- ---- the rules
 
-module _ (f : List ℤ) (first flow given : List ℕ) (acc : Accepted (tableOf f)) (most : routines f ≤ 32) (first-is : first ≡ tabulate 33 (firstOf f))
+module _ (f : List ℤ) (first flow given : List ℕ) (acc : Accepted (tableOf f)) (most : routines f ≤ 32) (first-is : first ≡ firstStatements f)
     (below : (i : ℕ) → getD flow i 0 < 2 ^ 64) where
   abbrev t : Table
   t = tableOf f
@@ -114,8 +116,8 @@ module _ (f : List ℤ) (first flow given : List ℕ) (acc : Accepted (tableOf f
 
   -- ---- where routines and statements stand
 
-  first-at : (r : ℕ) → r < 33 → getD first r 0 ≡ firstOf f r
-  first-at r l = entry-tabulate 33 (firstOf f) first r first-is l
+  first-at : (r : ℕ) → r ≤ routines f → getD first r 0 ≡ firstOf f r
+  first-at r l = L.first-at f most first r first-is l
 
   first-of : (r : ℕ) → r < length (t .routines) → getD first r 0 ≡ routine t r .first
   first-of r l = let k : r < routines f = omega (arith, routines-length f) in first-at r (omega arith) ∙ sym (routine-says f r k .first)
@@ -497,13 +499,7 @@ module _ (f : List ℤ) {x : Counts} (is : x ≡ countsOf f) where
     header-few = omega (arith, line-is, laid .handles-most, laid .routines-most)
 
     pub laid-small : Small first (1 + x .handles + x .routines)
-    laid-small = record { base-small = omega (arith, header-few); first-small = λ k. go k (decLt k 33) }
-      where
-        go : (k : ℕ) → Dec (k < 33) → getD first k 0 < 2 ^ 40
-        go k (yes l) = subst (λ (y : ℕ). y < 2 ^ 40) (sym (entry-tabulate 33 (firstOf f) first k (laid .first-is) l)) (laid .first-small k l)
-        go k (no d) =
-            let long : length first ≡ 33 = ap length (laid .first-is) ∙ length-tabulate 33 (firstOf f) in
-            subst (λ (y : ℕ). y < 2 ^ 40) (sym (List·getD-eq-default first 0 (omega arith))) (omega arith)
+    laid-small = record { base-small = omega (arith, header-few); first-small = L.laid-small laid }
 
     pub held-is : {flow given start out back r : List ℕ} {all : ℕ} → Accepted (tableOf f) → ((i : ℕ) → getD flow i 0 < 2 ^ 64) → all ≡ firsts (x .locks)
         → start ≡ replicate (statements f) 0 → Solved (setting f first flow given all (1 + x .handles + x .routines)) start (replicate 32 0) out back

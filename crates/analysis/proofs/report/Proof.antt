@@ -1,4 +1,5 @@
 -- `analysis::report` meets its contract. Assumes nothing.
+use borrow.Author.Tests.{not-true}
 use Rattle.analysis.specs.ReportedLaws.{bad-length-answer, bad-length-written}
 use denote.Ref.{now}
 use mathlib.Core.Path.{sym, _∙_}
@@ -19,7 +20,7 @@ has-length-requires c κs = search needs
 
 -- src/lib.rt:228:9
 returns : tie.Need-returns
-returns c = let e = sym (c .before .has-length .ensures) ∙ c .if1 .taken in
+returns c = let e = sym (c .before .has-length .ensures) ∙ not-true (c .before .has-length .result) (c .if1 .taken) in
     let text = now (c .before .before .before .before .args .text) in
     (bad-length-answer text e _, bad-length-written text e _)
 
