@@ -178,7 +178,7 @@ fn explore_all(seed: u64, tables: usize) {
     println!("{tables} tables, every order of steps: {clean} clean, none races ({clean_whole} of them seen whole); of {warned} with a finding and all states seen, {races} race ({cut} of all too large to see whole)");
 }
 
-/// Small tables that start a thread, as FOLDER/N.table, and a line for each in FOLDER/said: N, race, none or cut, states, clean or found.
+/// Small tables that start a thread, as FOLDER/N.table, and a line for each in FOLDER/said: N; race, none, large or threads (not seen whole); states; clean or found by the library.
 fn models(seed: u64, tables: usize, folder: &str) {
     let mut r = Random(seed * 2 + 1181783497276652981);
     let (mut done, mut alone, mut said) = (0, 0, String::new());
@@ -191,7 +191,7 @@ fn models(seed: u64, tables: usize, folder: &str) {
             continue;
         }
         let may = unsafe { station_may_load_text(text.as_ptr(), text.len()) };
-        let word = if seen.race { "race" } else if seen.whole { "none" } else { "cut" };
+        let word = if seen.race { "race" } else if seen.whole { "none" } else if seen.threads > MOST_THREADS { "threads" } else { "large" };
         said += &format!("{done} {word} {} {}\n", seen.states, if may { "clean" } else { "found" });
         std::fs::write(format!("{folder}/{done}.table"), text).expect(folder);
         done += 1;
