@@ -65,7 +65,8 @@ fn against_order(n: usize) -> Vec<u8> {
     text(1, 1, &[(vec![], vec![vec![9, 1], vec![12]]), (vec![[1, 1, 0], [2, 1, 0]], body)])
 }
 
-/// 16 routines of 32 statements, each of `each` handles; a routine STARTs or CALLs the next and passes up to four, and the rest are pointed on.
+/// 16 routines of 32 statements, each of `each` handles; a handle is pointed to what the next one refers to, and the first one is passed
+/// for each parameter of the next routine, which is CALLed or STARTed.
 fn by_handles(each: usize) -> Vec<u8> {
     let mut routines: Vec<Routine> = vec![];
     for q in 0..16usize {
@@ -80,7 +81,7 @@ fn by_handles(each: usize) -> Vec<u8> {
             body.push(vec![1 + k % 2, base + k]);
         }
         if q < 15 {
-            let passed: Line = (0..each.min(4) as i64).map(|k| base + k).collect();
+            let passed: Line = vec![base; each.min(4)];
             body.push([vec![8 + (q % 2) as i64, q as i64 + 1], passed].concat());
         }
         body.resize(31, vec![3, 0]);

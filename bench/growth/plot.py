@@ -41,7 +41,7 @@ class Panel:
         values = [v for _, points in curves for _, v in points if v is not None]
         self.logarithmic = logarithmic
         if logarithmic:
-            self.low, self.high = floor(log10(min(values))), ceil(log10(max(values) * 1.2))
+            self.low, self.high = floor(log10(min(values))), ceil(log10(max(values) * 5))
             self.marks = [10.0 ** e for e in range(self.low, self.high + 1)]
         else:
             step = round_step(max(values), 6)
@@ -65,6 +65,8 @@ class Panel:
             out.append(line(self.x(tick), self.top + HEIGHT, self.x(tick), self.top + HEIGHT + 5, "#555555"))
             out.append(text(self.x(tick), self.top + HEIGHT + 19, tick))
         out.append(text(self.left + WIDTH / 2, self.top + HEIGHT + 38, self.x_label))
+        middle = self.top + HEIGHT / 2
+        out.append(text(self.left - 66, middle, "time of one call", "middle", 12, f'transform="rotate(-90 {self.left - 66} {middle})"'))
         out.append(f'<rect x="{self.left}" y="{self.top}" width="{WIDTH}" height="{HEIGHT}" fill="none" stroke="#555555"/>')
         return out
 
@@ -93,7 +95,7 @@ def main():
     f = read(sys.argv[1])
     sizes = [s for s, _ in f["threads"]]
     panels = [
-        Panel(90, 50, "Class exercise, by threads", "threads started, ten statements each (time on a log scale)",
+        Panel(90, 50, "Class exercise, by threads", "threads started, ten statements each (log scale of time)",
               [("the proved check", f["threads"]), ("Spin, search of all states (compiling not counted)", f.get("spin", []))], sizes, True),
         Panel(600, 50, "The check, by statements", "statements, two routines",
               [("blocks of TAKE, READ, ADD, WRITE, GIVE", f["in-order"]), ("jumps against the order, one access at the end", f["against-order"])],

@@ -117,8 +117,8 @@ static struct station_answer reported(struct input in, uint8_t *copy) {
     struct station_answer said = report_once(in, REPORT_LONGEST, true, copy);
     DEMAND(said.number != 13);
     size_t length = length_near(said.bytes, in.near_report);
-    for (int behind = 0; behind < 2; behind++) {
-        struct station_answer second = report_once(in, length, behind, again);
+    for (int turn = 0; turn < 2; turn++) {
+        struct station_answer second = report_once(in, length, turn == 0, again);
         if (said.number) {
             DEMAND(second.number == said.number && second.line == said.line);
         } else if (length < said.bytes) {
