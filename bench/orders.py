@@ -1,5 +1,5 @@
 #!/usr/bin/env python3
-"""orders.py THREADS STATEMENTS: in how many orders so many threads can take so many steps each, (T*S)! / (S!)^T, exactly."""
+"""orders.py THREADS STATEMENTS: in how many orders so many threads can take so many steps each if none has to wait, (T*S)! / (S!)^T, exactly."""
 import sys
 from math import factorial
 

@@ -112,13 +112,13 @@ fn by_routines(n: usize) -> Vec<u8> {
     text(1, 1, &routines)
 }
 
-/// The least of some runs of the check, in microseconds.
+/// The least of many runs of the check, for a quarter of a second, in microseconds.
 fn time(text: &[u8]) -> f64 {
     let mut out = vec![0u8; 65536];
     let mut call = || unsafe { station_report_packed(text.as_ptr(), text.len(), out.as_mut_ptr(), out.len()) };
     assert_eq!(call() >> 48, 0, "refused:\n{}", String::from_utf8_lossy(text));
-    let mut least = f64::MAX;
-    for _ in 0..15 {
+    let (mut least, whole) = (f64::MAX, Instant::now());
+    while whole.elapsed().as_secs_f64() < 0.25 {
         let begin = Instant::now();
         for _ in 0..20 {
             black_box(call());
