@@ -120,10 +120,8 @@ fn time(text: &[u8]) -> f64 {
     let (mut least, whole) = (f64::MAX, Instant::now());
     while whole.elapsed().as_secs_f64() < 0.25 {
         let begin = Instant::now();
-        for _ in 0..20 {
-            black_box(call());
-        }
-        least = least.min(begin.elapsed().as_secs_f64() * 1e6 / 20.0);
+        black_box(call());
+        least = least.min(begin.elapsed().as_secs_f64() * 1e6);
     }
     least
 }

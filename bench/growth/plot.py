@@ -41,7 +41,7 @@ class Panel:
         values = [v for _, points in curves for _, v in points if v is not None]
         self.logarithmic = logarithmic
         if logarithmic:
-            self.low, self.high = floor(log10(min(values))), ceil(log10(max(values) * 5))
+            self.low, self.high = floor(log10(min(values))), ceil(log10(max(values) * 5)) + any(v is None for _, points in curves for _, v in points)
             self.marks = [10.0 ** e for e in range(self.low, self.high + 1)]
         else:
             step = round_step(max(values), 6)
@@ -75,10 +75,10 @@ class Panel:
         path = " ".join(f"{x:.1f},{y:.1f}" for x, y in done)
         out = [f'<polyline points="{path}" fill="none" stroke="{colour}" stroke-width="2"/>']
         out += [f'<circle cx="{x:.1f}" cy="{y:.1f}" r="3" fill="{colour}"/>' for x, y in done]
-        for size, value in points:
-            if value is None:
-                out.append(text(self.x(size) - 6, self.top + 16, "not finished", "end", 11, f'fill="{colour}"'))
-                out.append(text(self.x(size), self.top + 17, "×", "middle", 16, f'fill="{colour}"'))
+        cut = [size for size, value in points if value is None]
+        out += [text(self.x(size), self.top + 17, "×", "middle", 16, f'fill="{colour}"') for size in cut]
+        if cut:
+            out.append(text(self.x(cut[0]) - 10, self.top + 16, "not finished", "end", 11, f'fill="{colour}"'))
         return out
 
     def draw(self):
