@@ -1,6 +1,6 @@
 /* A fuzzer's harness for include/station.h. Built and run by tests/fuzz/run.
  *
- * Instrumented: this file and the inline functions of station.h, with the address and undefined-behaviour sanitizers and libFuzzer's
+ * Instrumented: this file, mutate.c and the inline functions of station.h, with the address and undefined-behaviour sanitizers and libFuzzer's
  * coverage. Not instrumented: the proved library, which is machine code. So two things stand in for it:
  * - every buffer lies against a page that may not be touched, behind it in the first call and before it in the second, so a byte
  *   read or written outside on that side by the library stops the run;
