@@ -115,6 +115,69 @@ pub fn table(r: &mut Random, largest: bool) -> Vec<u8> {
     out
 }
 
+/// A block: READ or WRITE of a cell, mostly between TAKE and GIVE of its lock; handles 0 and 1 of the routine are cells, 2 and 3 their locks.
+fn guarded_block(r: &mut Random, base: i64, body: &mut Vec<Vec<i64>>) {
+    let cell = r.below(2) as i64;
+    let lock = base + 2 + if r.one_in(8) { 1 - cell } else { cell };
+    let guarded = !r.one_in(6);
+    if guarded {
+        body.push(vec![5, lock]);
+    }
+    for _ in 0..1 + r.below(2) {
+        body.push(vec![1 + r.below(2) as i64, base + cell]);
+        if r.one_in(2) {
+            body.push(vec![4, 1]);
+        }
+    }
+    if guarded && !r.one_in(12) {
+        body.push(vec![6, lock]);
+    }
+}
+
+/// A table text of two cells and two locks: routine 0 starts up to three threads, all access the cells, most under their locks.
+pub fn guarded(r: &mut Random) -> Vec<u8> {
+    let routines = 2 + r.below(2);
+    let passed = r.one_in(2);
+    let mut bodies: Vec<Vec<Vec<i64>>> = vec![];
+    for q in 0..routines {
+        let base = 4 * q as i64;
+        let mut body = vec![];
+        if q == 0 {
+            for k in 0..1 + r.below(3) {
+                let mut l = vec![9 - r.one_in(5) as i64, 1 + (k % (routines - 1)) as i64];
+                l.extend(if passed { vec![0, 1, 2, 3] } else { vec![] });
+                body.push(l);
+            }
+        }
+        for _ in 0..1 + r.below(2) {
+            guarded_block(r, base, &mut body);
+        }
+        // The end: mostly RETURN; else routine 0 stands still, and another goes round.
+        let first = bodies.iter().map(|b| b.len()).sum::<usize>();
+        let target = if q == 0 { body.len() } else { first } as i64;
+        body.push(if r.one_in(6) { vec![10, target] } else { vec![12] });
+        bodies.push(body);
+    }
+    let statements: usize = bodies.iter().map(|b| b.len()).sum();
+    let mut out = vec![];
+    line(&mut out, &[1, 2, 2, 4 * routines as i64, routines as i64, statements as i64]);
+    for q in 0..routines {
+        for k in 0..4 {
+            let parameter = passed && q > 0;
+            line(&mut out, &[2, q as i64, 1 + k / 2, !parameter as i64, if parameter { 0 } else { k % 2 }]);
+        }
+    }
+    for b in &bodies {
+        line(&mut out, &[3, b.len() as i64]);
+    }
+    for s in bodies.iter().flatten() {
+        let mut numbers = vec![4];
+        numbers.extend(s);
+        line(&mut out, &numbers);
+    }
+    out
+}
+
 fn pick(r: &mut Random, mine: &Own, base: usize, kind: i64) -> Option<i64> {
     let all: Vec<usize> = (0..mine.len()).filter(|&k| mine[k].0 == kind).collect();
     if all.is_empty() {

@@ -2,9 +2,12 @@
 //!
 //!     judge compare SEED COUNT     COUNT texts, each with a report, a run and the loader's question
 //!     judge explore SEED COUNT     every order of steps of COUNT small tables: a clean one never races
+//!     judge promela TABLE THREADS  the table as a Promela model with at most THREADS threads
+//!     judge models SEED COUNT FOLDER   COUNT small tables that start a thread, and what `explore` says of each, for tests/spin/run
 //!     judge lengths TABLE ...      report buffers of every length from 0 to one more than the report needs
 mod document;
 mod generate;
+mod promela;
 use document::{findings, read, report, State, Table};
 use generate::Random;
 use std::collections::HashSet;
@@ -114,18 +117,35 @@ fn compare(seed: u64, texts: usize) {
     for n in 1..=13 {
         assert!(reports[n] > 0 || texts < 20000, "refusal {n} was never met");
     }
+    for n in 14..=18 {
+        assert!(steps[n] > 0 || texts < 20000, "step answer {n} was never met");
+    }
+    assert_eq!(steps[19], 0, "step answer 19 was met");
 }
 
-/// All states that a table reaches, up to a number: whether one is unsafe, and whether that was all.
-fn explore(t: &Table, most: usize) -> (bool, bool) {
+/// What the states of a table say: whether one is unsafe, whether all were seen, how many, and the most threads in one.
+struct Seen {
+    race: bool,
+    whole: bool,
+    states: usize,
+    threads: usize,
+}
+
+/// Threads in a state beyond which the search stops.
+const MOST_THREADS: usize = 5;
+
+/// All states that a table reaches, up to a number of states.
+fn explore(t: &Table, most: usize) -> Seen {
     let start = State::start(t);
     let (mut todo, mut seen) = (vec![start.clone()], HashSet::from([start]));
+    let mut threads = 1;
     while let Some(state) = todo.pop() {
+        threads = threads.max(state.threads.len());
         if state.unsafe_now(t) {
-            return (true, true);
+            return Seen { race: true, whole: true, states: seen.len(), threads };
         }
-        if state.threads.len() > 5 {
-            return (false, false);
+        if state.threads.len() > MOST_THREADS || seen.len() > most {
+            return Seen { race: false, whole: false, states: seen.len(), threads };
         }
         for n in 0..state.threads.len() {
             let mut next = state.clone();
@@ -133,31 +153,51 @@ fn explore(t: &Table, most: usize) -> (bool, bool) {
                 todo.push(next);
             }
         }
-        if seen.len() > most {
-            return (false, false);
-        }
     }
-    (false, true)
+    Seen { race: false, whole: true, states: seen.len(), threads }
 }
 
 fn explore_all(seed: u64, tables: usize) {
     let mut r = Random(seed * 2 + 1181783497276652981);
-    let (mut done, mut clean, mut warned, mut races, mut cut) = (0, 0, 0, 0, 0);
+    let (mut done, mut clean, mut clean_whole, mut warned, mut races, mut cut) = (0, 0, 0, 0, 0, 0);
     while done < tables {
         let text = generate::table(&mut r, false);
         let Ok(t) = read(&text) else { continue };
         done += 1;
         let may = unsafe { station_may_load_text(text.as_ptr(), text.len()) };
-        let (race, whole) = explore(&t, 3000);
-        assert!(!(may && race), "a clean table races:\n{}", String::from_utf8_lossy(&text));
+        let seen = explore(&t, 3000);
+        assert!(!(may && seen.race), "a clean table races:\n{}", String::from_utf8_lossy(&text));
         clean += may as usize;
+        clean_whole += (may && seen.whole) as usize;
         if !may {
-            warned += whole as usize;
-            races += race as usize;
+            warned += seen.whole as usize;
+            races += seen.race as usize;
         }
-        cut += !whole as usize;
+        cut += !seen.whole as usize;
     }
-    println!("{tables} tables, every order of steps: {clean} clean, none races; of {warned} with a finding and all states seen, {races} race ({cut} too large to see whole)");
+    println!("{tables} tables, every order of steps: {clean} clean, none races ({clean_whole} of them seen whole); of {warned} with a finding and all states seen, {races} race ({cut} of all too large to see whole)");
+}
+
+/// Small tables that start a thread, as FOLDER/N.table, and a line for each in FOLDER/said: N; race, none, large or threads (not seen whole); states; clean or found by the library.
+fn models(seed: u64, tables: usize, folder: &str) {
+    let mut r = Random(seed * 2 + 1181783497276652981);
+    let (mut done, mut alone, mut said) = (0, 0, String::new());
+    while done < tables {
+        let text = if r.one_in(2) { generate::guarded(&mut r) } else { generate::table(&mut r, false) };
+        let Ok(t) = read(&text) else { continue };
+        let seen = explore(&t, 20000);
+        if seen.whole && seen.threads == 1 && !seen.race {
+            alone += 1;
+            continue;
+        }
+        let may = unsafe { station_may_load_text(text.as_ptr(), text.len()) };
+        let word = if seen.race { "race" } else if seen.whole { "none" } else if seen.threads > MOST_THREADS { "threads" } else { "large" };
+        said += &format!("{done} {word} {} {}\n", seen.states, if may { "clean" } else { "found" });
+        std::fs::write(format!("{folder}/{done}.table"), text).expect(folder);
+        done += 1;
+    }
+    std::fs::write(format!("{folder}/said"), said).expect(folder);
+    println!("{tables} tables, seed {seed}; {alone} more with one thread and no finding in any state left out");
 }
 
 fn lengths(paths: &[String]) {
@@ -181,6 +221,11 @@ fn main() {
         Some("compare") => compare(number(2), number(3) as usize),
         Some("explore") => explore_all(number(2), number(3) as usize),
         Some("lengths") => lengths(&words[2..]),
-        _ => panic!("judge compare|explore SEED COUNT, or lengths TABLE ..."),
+        Some("promela") => {
+            let text = std::fs::read(&words[2]).expect(&words[2]);
+            print!("{}", promela::model(&read(&text).expect("an accepted table"), number(3) as usize));
+        }
+        Some("models") => models(number(2), number(3) as usize, &words[4]),
+        _ => panic!("judge compare|explore SEED COUNT, lengths TABLE ..., promela TABLE THREADS, or models SEED COUNT FOLDER"),
     }
 }
