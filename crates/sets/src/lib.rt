@@ -379,13 +379,32 @@ fn chase(sets: &mut [u64], from: &[u16], to: &[u16], order: Order)
     }
 }
 
-// At most four passes, and where the last still changed something, a chase. Returns whether anything may be left to put.
+// The other order.
+fn turned(order: Order) -> Order {
+    match order {
+        Order::FirstToLast => Order::LastToFirst,
+        Order::LastToFirst => Order::FirstToLast,
+    }
+}
+
+// One pass, in the given order where `turn` is even, else in the other.
+fn pass_turned(sets: &mut [u64], from: &[u16], to: &[u16], order: Order, turn: usize) -> bool
+    ensures { λ r. ⌜ Passed (now (from .entry)) (now (to .entry)) (now (sets .entry)) (now (sets .exit)) r 0 (min (length (now (from .entry))) (length (now (to .entry)))) ⌝ }
+{
+    if turn % 2 == 0 {
+        return pass(sets, from, to, order);
+    }
+    pass(sets, from, to, turned(order))
+}
+
+// At most four passes, every other one in the other order, and where the last still changed something, a chase. Returns whether anything may be left
+// to put.
 fn few_passes(sets: &mut [u64], from: &[u16], to: &[u16], order: Order) -> bool
     ensures { λ r. ⌜ Solving (now (from .entry)) (now (to .entry)) (now (sets .entry)) (now (sets .exit)) r ⌝ }
 {
     let mut left: usize = 4;
     while 0 < left {
-        if pass(sets, from, to, order) {
+        if pass_turned(sets, from, to, order, left) {
             left -= 1;
         } else {
             return false;

@@ -16,8 +16,8 @@ abbrev μ-loop : tie.MeasureT-loop
 loop-holds : tie.Need-loop-holds Inv-loop μ-loop
 loop-holds c = solving-start _ _ _
 
-pass-requires : tie.Need-pass-requires Inv-loop μ-loop
-pass-requires c κs = search needs
+pass-turned-requires : tie.Need-pass-turned-requires Inv-loop μ-loop
+pass-turned-requires c κs = search needs
 
 sub-left : tie.Need-sub-left Inv-loop μ-loop
 sub-left c = search needs
@@ -26,13 +26,13 @@ loop-less : tie.Need-loop-less Inv-loop μ-loop
 loop-less c = search needs
 
 loop-again : tie.Need-loop-again Inv-loop μ-loop
-loop-again c = subst (Solving _ _ _ _) (c .if1 .taken) (solving-next _ _ (c .before .before .before .before .before .before .loop .inv) (c .before .before .before .pass .ensures))
+loop-again c = subst (Solving _ _ _ _) (c .if1 .taken) (solving-next _ _ (c .before .before .before .before .before .before .loop .inv) (c .before .before .before .pass-turned .ensures))
 
 same-length : tie.Need-same-length Inv-loop μ-loop
 same-length c = search needs
 
 returns : tie.Need-returns Inv-loop μ-loop
-returns c = subst (Solving _ _ _ _) (c .if1 .left) (solving-next _ _ (c .before .before .before .before .before .before .loop .inv) (c .before .before .before .pass .ensures))
+returns c = subst (Solving _ _ _ _) (c .if1 .left) (solving-next _ _ (c .before .before .before .before .before .before .loop .inv) (c .before .before .before .pass-turned .ensures))
 
 chase-requires : tie.Need-chase-requires Inv-loop μ-loop
 chase-requires c κs = search needs
@@ -50,7 +50,7 @@ few-passes-spec =
     Inv-loop
     μ-loop
     loop-holds
-    pass-requires
+    pass-turned-requires
     sub-left
     loop-less
     loop-again
