@@ -238,6 +238,12 @@ pub record Paging (t : List ℕ) (n i : ℕ) (numbers : List ℤ) : Type 0 where
   pub passed : Passed (goodLine t) n i
   pub kept : take (8 * i) numbers ≡ pieces lineNumbers 49 i t
 
+-- where the lines are left: at a bad one, or behind the last
+pub record Left (t : List ℕ) (n i : ℕ) (numbers : List ℤ) : Type 0 where
+  pub sized : length numbers ≡ 8 * n
+  pub bad : i < n → firstBad t ≡ some i
+  pub good : n ≤ i → (firstBad t ≡ none) × (numbers ≡ numbersOf t)
+
 -- the same, with j fields of line i
 pub record InLine (t : List ℕ) (n i j : ℕ) (numbers : List ℤ) : Type 0 where
   pub counted : n ≡ lineCount t
@@ -260,11 +266,15 @@ module _ {t : List ℕ} {n i : ℕ} {numbers : List ℤ} (p : Paging t n i numbe
     reading = reading-start (pieces lineNumbers 49 i t) (8 * i) (8 * n) (lineAt t i) numbers (p .sized) (p .kept);
   }
 
-  pub page-done : n ≤ i → (firstBad t ≡ none) × (numbers ≡ numbersOf t)
+  pub page-done : n ≤ i → Left t n i numbers
   page-done h =
       let e : i ≡ lineCount t = omega (arith, p .passed .within, p .counted) in
       let w : length numbers ≤ 8 * i = omega (arith, p .sized) in
-      (rw (← (p .counted)) (passed-done (p .passed) h), sym (take-all (8 * i) numbers w) ∙ p .kept ∙ rw e)
+      record {
+        sized = p .sized;
+        bad = λ g. absurd (omega arith);
+        good = λ g. (rw (← (p .counted)) (passed-done (p .passed) h), sym (take-all (8 * i) numbers w) ∙ p .kept ∙ rw e);
+      }
 
 module _ {t : List ℕ} {n i j : ℕ} {numbers : List ℤ} (p : InLine t n i j numbers) where
   -- the line lies inside the text, and its numbers among those of the text
@@ -297,13 +307,17 @@ module _ {t : List ℕ} {n i j : ℕ} {numbers : List ℤ} (p : InLine t n i j n
       let w : length (lineAt t i) ≡ 49 = line-whole t (49 * i) line-inside in
       page-next (firstFields 8 (lineAt t i)) (reading-end (p .reading) h w (line-last t (49 * i) ∙ e)) (reading-kept (p .reading) h w)
 
-  page-bad : lineOf (lineAt t i) ≡ none → firstBad t ≡ some i
-  page-bad e = rw (← (p .counted)) (passed-stop (p .passed) (p .more) (rw e))
+  page-bad : lineOf (lineAt t i) ≡ none → Left t n i numbers
+  page-bad e = record {
+    sized = p .reading .sized;
+    bad = λ g. rw (← (p .counted)) (passed-stop (p .passed) (p .more) (rw e));
+    good = λ g. absurd (omega (arith, p .more));
+  }
 
-  pub page-bad-field : j < 8 → fieldOf (take 6 (drop (49 * i + 6 * j) t)) ≡ none → firstBad t ≡ some i
+  pub page-bad-field : j < 8 → fieldOf (take 6 (drop (49 * i + 6 * j) t)) ≡ none → Left t n i numbers
   page-bad-field h e = page-bad (reading-bad (p .reading) h (ap fieldOf (line-field t (49 * i) j h) ∙ e))
 
-  pub page-bad-feed : 8 ≤ j → (getD t (49 * i + 48) 0 ≡ 10 → ⊥) → firstBad t ≡ some i
+  pub page-bad-feed : 8 ≤ j → (getD t (49 * i + 48) 0 ≡ 10 → ⊥) → Left t n i numbers
   page-bad-feed h e = page-bad (reading-no-end (p .reading) h (line-whole t (49 * i) line-inside) (λ u. e (sym (line-last t (49 * i)) ∙ u)))
 
 -- the answers of the reader

@@ -197,19 +197,22 @@ pub fn read_numbers(text: &[u8], numbers: &mut [i32]) -> FirstBad
 {
     let lines = line_count(text);
     let mut i = 0;
-    while i < lines {
+    'lines: while i < lines {
         let mut j = 0;
         while j < 8 {
             let Field::Number(z) = read_field(text, 49 * i + 6 * j) else {
-                return FirstBad::Line(i);
+                break 'lines;
             };
             numbers[8 * i + j] = z;
             j += 1;
         }
         if text[49 * i + 48] != b'\n' {
-            return FirstBad::Line(i);
+            break 'lines;
         }
         i += 1;
+    }
+    if i < lines {
+        return FirstBad::Line(i);
     }
     FirstBad::Nothing
 }
