@@ -397,8 +397,8 @@ fn pass_turned(sets: &mut [u64], from: &[u16], to: &[u16], order: Order, turn: u
     pass(sets, from, to, turned(order))
 }
 
-// At most four passes, every other one in the other order, and where the last still changed something, a chase. Returns whether anything may be left
-// to put.
+// At most four passes, every other one in the other order, and where the last still changed something, a chase in the other order. Returns whether
+// anything may be left to put.
 fn few_passes(sets: &mut [u64], from: &[u16], to: &[u16], order: Order) -> bool
     ensures { λ r. ⌜ Solving (now (from .entry)) (now (to .entry)) (now (sets .entry)) (now (sets .exit)) r ⌝ }
 {
@@ -410,7 +410,7 @@ fn few_passes(sets: &mut [u64], from: &[u16], to: &[u16], order: Order) -> bool
             return false;
         }
     }
-    chase(sets, from, to, order);
+    chase(sets, from, to, turned(order));
     true
 }
 

@@ -34,6 +34,9 @@ same-length c = search needs
 returns : tie.Need-returns Inv-loop μ-loop
 returns c = subst (Solving _ _ _ _) (c .if1 .left) (solving-next _ _ (c .before .before .before .before .before .before .loop .inv) (c .before .before .before .pass-turned .ensures))
 
+turned-requires : tie.Need-turned-requires Inv-loop μ-loop
+turned-requires c κs = search needs
+
 chase-requires : tie.Need-chase-requires Inv-loop μ-loop
 chase-requires c κs = search needs
 
@@ -41,7 +44,7 @@ same-length-2 : tie.Need-same-length-2 Inv-loop μ-loop
 same-length-2 c = search needs
 
 returns-2 : tie.Need-returns-2 Inv-loop μ-loop
-returns-2 c = solving-both _ _ (c .before .before .before .before .before .loop .inv) (c .before .before .chase .ensures)
+returns-2 c = solving-both _ _ (c .before .before .before .before .before .before .loop .inv) (c .before .before .chase .ensures)
 
 pub few-passes-spec : {M : Type 1} → statement M
 few-passes-spec =
@@ -56,6 +59,7 @@ few-passes-spec =
     loop-again
     same-length
     returns
+    turned-requires
     chase-requires
     same-length-2
     returns-2)
