@@ -6,7 +6,10 @@ use mathlib.Core.List.{List}
 use native.Mathlib.Omega.{arith}
 use lib.IntN.{ℤ, pos, _+ℤ_}
 use lib.ListN.{length, getD, set}
-use Rattle.table.specs.Table.{Table, tableOf, statement, statementOf, InRoutine}
+use Rattle.table.specs.Fields.{field}
+use Rattle.table.specs.Header.{statementLine}
+use Rattle.table.specs.TabulateLaws.{length-tabulate}
+use Rattle.table.specs.Table.{Table, tableOf, statement, statementIn, statementOf, InRoutine}
 use Rattle.table.specs.Accepted.{Accepted, Operands, Passes}
 use Rattle.table.specs.declared.Arguments.{Arguments}
 use Rattle.table.specs.declared.Handle.{Handle}
@@ -26,6 +29,34 @@ use Rattle.engine.specs.StepLaws.{Top, top, placed, read-step, write-ste
 pub slot-low : (numbers : List ℤ) (first handle : List ℕ) (a : Arrays) (n slot : ℕ) → Standing numbers first handle a → n < a .started
     → slot + 1 ≡ n * 32 + getD (a .counts) n 0 → slot < 512
 slot-low numbers first handle a n slot s l e = omega (arith, s .shows .most, s .shows .thread-is n l .few)
+
+-- where a thread whose newest frame is in `slot` stands
+standing-placed : (numbers : List ℤ) (first handle : List ℕ) (a : Arrays) (n slot next : ℕ) → Standing numbers first handle a → n < a .started
+    → 0 < getD (a .counts) n 0 → slot + 1 ≡ n * 32 + getD (a .counts) n 0 → next ≡ getD (a .nexts) slot 0 → Placed n slot next
+standing-placed numbers first handle a n slot next s l m e q =
+    let p = top (tableOf numbers) a (s .state) n slot (s .shows) l m e in
+    subst (λ (i : ℕ). Placed n slot i) (sym (q ∙ p .shown .next-is)) (placed (tableOf numbers) (s .accepted) a (s .state) n slot (s .shows) l p)
+
+-- the line of its next statement is a small number
+pub line-low : (numbers : List ℤ) (first handle : List ℕ) (a : Arrays) (n slot next base : ℕ) → Standing numbers first handle a → n < a .started
+    → 0 < getD (a .counts) n 0 → slot + 1 ≡ n * 32 + getD (a .counts) n 0 → next ≡ getD (a .nexts) slot 0 → base ≡ statementLine numbers 0
+    → base + next < 65536
+unfolding tableOf
+line-low numbers first handle a n slot next base s l m e q b =
+    omega (
+      arith,
+      rw length-tabulate at (s .accepted .handles-most),
+      rw length-tabulate at (s .accepted .routines-most),
+      standing-placed numbers first handle a n slot next s l m e q .next-low,
+    )
+
+-- the statement of that line is the table's
+pub line-said : (numbers : List ℤ) (base next : ℕ) (σ : Statement) → base ≡ statementLine numbers 0
+    → σ ≡ statementIn numbers (base + next) (field numbers (base + next) 1) → σ ≡ statementOf numbers next
+unfolding statementOf
+line-said numbers base next σ b q =
+    let e : base + next ≡ statementLine numbers next = omega arith in
+    subst (λ (line : ℕ). σ ≡ statementIn numbers line (field numbers line 1)) e q
 
 pub record Here (numbers : List ℤ) (first handle : List ℕ) (a : Arrays) (n slot next : ℕ) (σ : Statement) : Type 0 where
   pub standing : Standing numbers first handle a
@@ -65,9 +96,7 @@ module _ (numbers : List ℤ) (first handle : List ℕ) (a : Arrays) (n slot nex
   stands = p (here .standing .state) (here .standing .shows)
 
   pub placed-here : Placed n slot next
-  placed-here =
-      subst (λ (i : ℕ). Placed n slot i) (sym (at (here .standing .state) (here .standing .shows)))
-      (placed (tableOf numbers) accepted a (here .standing .state) n slot (here .standing .shows) (here .low) stands)
+  placed-here = standing-placed numbers first handle a n slot next (here .standing) (here .low) (here .some) (here .slot-is) (here .next-is)
 
   inside-low : (r s : ℕ) → r < length (tableOf numbers .routines) → InRoutine (tableOf numbers) r s → s < 512
   inside-low r s l i = omega (arith, i .high, accepted .routine-facts r l .statements-there, accepted .statements-most)

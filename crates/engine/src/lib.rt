@@ -9,6 +9,7 @@ ghost use mathlib.Core.List.{_++_};
 ghost use Prim.Native.Nat.{_*_, _≤_};
 ghost use lib.ListN.{length, drop, replicate};
 ghost use Rattle.lines.specs.Line.{lineCount};
+ghost use Rattle.table.specs.Header.{statementLine};
 ghost use Rattle.table.specs.Table.{tableOf};
 ghost use Rattle.table.specs.Accepted.{Accepted};
 ghost use Rattle.machine.specs.State.{start};
@@ -31,6 +32,13 @@ pub enum Step {
     Nothing { number: u32 },
 }
 
+// The line of statement 0.
+fn first_line(numbers: &[i32]) -> usize
+    ensures { λ r. ⌜ r ≡ statementLine (now (numbers .entry)) 0 ⌝ }
+{
+    1 + table::field_of(numbers, 0, 3) + table::field_of(numbers, 0, 4)
+}
+
 // The steps of a schedule from the start of an accepted table's run, with as many locks as `owners` is long.
 fn play(
     numbers: &[i32],
@@ -45,6 +53,7 @@ fn play(
 {
     let first = table::first_statements(numbers);
     let handle = table::first_handles(numbers);
+    let base = first_line(numbers);
     let mut nexts = [0u16; 512];
     let mut values = [0u8; 4096];
     let mut counts = [0usize; 16];
@@ -70,6 +79,7 @@ fn play(
         numbers,
         &first,
         &handle,
+        base,
         schedule,
         answers,
         &mut started,

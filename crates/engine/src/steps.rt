@@ -3,6 +3,7 @@ ghost use mathlib.Core.Path.{_≡_};
 ghost use mathlib.Core.List.{_++_};
 ghost use Prim.Native.Nat.{_+_, _*_, _<_, _≤_};
 ghost use lib.ListN.{getD, length, drop};
+ghost use Rattle.table.specs.Header.{statementLine};
 ghost use Rattle.table.specs.Table.{tableOf};
 ghost use Rattle.machine.specs.State.{State, start};
 ghost use Rattle.machine.specs.Engine.{engineRun, answers as answersOf};
@@ -44,6 +45,7 @@ fn operate(
     numbers: &[i32],
     first: &[usize; 33],
     handle: &[usize; 33],
+    base: usize,
     n: usize,
     slot: usize,
     started: &mut usize,
@@ -55,11 +57,11 @@ fn operate(
     cells: &mut [i32],
 ) -> Step
     requires { ⌜ Standing (now numbers) (now first) (now handle) (arrays (now started) (now nexts) (now values) (now counts) (now accumulators) (now owners) (now cells)) ⌝ }
-    requires { ⌜ (n < now started) × (0 < getD (now counts) n 0) × (slot + 1 ≡ n * 32 + getD (now counts) n 0) ⌝ }
+    requires { ⌜ (n < now started) × (0 < getD (now counts) n 0) × (slot + 1 ≡ n * 32 + getD (now counts) n 0) × (base ≡ statementLine (now numbers) 0) ⌝ }
     ensures { λ r. ⌜ ((state : State) → Shows (tableOf (now (numbers .entry))) (arrays (now (started .entry)) (now (nexts .entry)) (now (values .entry)) (now (counts .entry)) (now (accumulators .entry)) (now (owners .entry)) (now (cells .entry))) state → Stepped (tableOf (now (numbers .entry))) (arrays (now (started .exit)) (now (nexts .exit)) (now (values .exit)) (now (counts .exit)) (now (accumulators .exit)) (now (owners .exit)) (now (cells .exit))) state n r) ⌝ }
 {
     let next = frames::next_of(nexts, slot);
-    let statement = table::statement_of(numbers, next);
+    let statement = table::statement_at(numbers, base + next);
     match statement {
         Statement::Read(h) => {
             operations::read(h.number, n, slot, next, nexts, values, accumulators, cells);
@@ -142,6 +144,7 @@ fn step(
     numbers: &[i32],
     first: &[usize; 33],
     handle: &[usize; 33],
+    base: usize,
     n: usize,
     started: &mut usize,
     nexts: &mut [u16; 512],
@@ -152,6 +155,7 @@ fn step(
     cells: &mut [i32],
 ) -> Step
     requires { ⌜ Standing (now numbers) (now first) (now handle) (arrays (now started) (now nexts) (now values) (now counts) (now accumulators) (now owners) (now cells)) ⌝ }
+    requires { ⌜ base ≡ statementLine (now numbers) 0 ⌝ }
     ensures { λ r. ⌜ ((state : State) → Shows (tableOf (now (numbers .entry))) (arrays (now (started .entry)) (now (nexts .entry)) (now (values .entry)) (now (counts .entry)) (now (accumulators .entry)) (now (owners .entry)) (now (cells .entry))) state → Stepped (tableOf (now (numbers .entry))) (arrays (now (started .exit)) (now (nexts .exit)) (now (values .exit)) (now (counts .exit)) (now (accumulators .exit)) (now (owners .exit)) (now (cells .exit))) state n r) ⌝ }
 {
     if *started <= n {
@@ -165,6 +169,7 @@ fn step(
         numbers,
         first,
         handle,
+        base,
         n,
         n * 32 + count - 1,
         started,
@@ -188,6 +193,7 @@ pub fn follow(
     numbers: &[i32],
     first: &[usize; 33],
     handle: &[usize; 33],
+    base: usize,
     schedule: &[u8],
     answers: &mut [u8],
     started: &mut usize,
@@ -198,7 +204,7 @@ pub fn follow(
     owners: &mut [usize],
     cells: &mut [i32],
 )
-    requires { ⌜ Beginning (now numbers) (now first) (now handle) (arrays (now started) (now nexts) (now values) (now counts) (now accumulators) (now owners) (now cells)) × (length (now schedule) ≤ length (now answers)) ⌝ }
+    requires { ⌜ Beginning (now numbers) (now first) (now handle) (arrays (now started) (now nexts) (now values) (now counts) (now accumulators) (now owners) (now cells)) × (length (now schedule) ≤ length (now answers)) × (base ≡ statementLine (now numbers) 0) ⌝ }
     ensures { λ _. ⌜ now (answers .exit) ≡ answersOf (tableOf (now (numbers .entry))) (start (tableOf (now (numbers .entry)))) (now (schedule .entry)) ++ drop (length (now (schedule .entry))) (now (answers .entry)) ⌝ }
     ensures { λ _. ⌜ now (cells .exit) ≡ engineRun (tableOf (now (numbers .entry))) (start (tableOf (now (numbers .entry)))) (now (schedule .entry)) .cells ⌝ }
 {
@@ -208,6 +214,7 @@ pub fn follow(
             numbers,
             first,
             handle,
+            base,
             wide(schedule[i]),
             started,
             nexts,

@@ -16,7 +16,7 @@ ghost use Rattle.table.specs.Fields.{field};
 ghost use Rattle.table.specs.Handles.{handlesFrom, parameters};
 ghost use Rattle.table.specs.Routines.{firstOf};
 ghost use Rattle.table.specs.Verdict.{verdict, readingOf, turnedDown};
-ghost use Rattle.table.specs.Table.{countsOf, declarationOf, argumentsIn, statementIn, statementOf};
+ghost use Rattle.table.specs.Table.{countsOf, declarationOf, argumentsIn, statementIn};
 use lines::FirstBad;
 
 // What is said of a text: a table, or the number of the first refusal that applies and the line that goes with it.
@@ -226,14 +226,10 @@ fn statement_in(numbers: &[i32], line: usize, op: usize) -> Statement
     }
 }
 
-// Statement `s` of a table's numbers; a RETURN past the end.
-pub fn statement_of(numbers: &[i32], s: usize) -> Statement
-    ensures { λ r. ⌜ r ≡ statementOf (now (numbers .entry)) s ⌝ }
+// The statement of `line` of a table's numbers; a RETURN past the end.
+pub fn statement_at(numbers: &[i32], line: usize) -> Statement
+    ensures { λ r. ⌜ r ≡ statementIn (now (numbers .entry)) line (field (now (numbers .entry)) line 1) ⌝ }
 {
-    if numbers.len() <= s {
-        return Statement::Return;
-    }
-    let line = 1 + fields::field_at(numbers, 0, 3) + fields::field_at(numbers, 0, 4) + s;
     statement_in(numbers, line, fields::field_at(numbers, line, 1))
 }
 

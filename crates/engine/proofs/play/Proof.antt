@@ -14,6 +14,9 @@ first-statements-requires c κs = search needs
 first-handles-requires : tie.Need-first-handles-requires
 first-handles-requires c κs = search needs
 
+first-line-requires : tie.Need-first-line-requires
+first-line-requires c κs = search needs
+
 clear-requires : tie.Need-clear-requires
 clear-requires c κs = search needs
 
@@ -27,10 +30,10 @@ array-read-enter-2 : tie.Need-array-read-enter-2
 array-read-enter-2 c = search needs
 
 enter-requires : tie.Need-enter-requires
-enter-requires c κs = let p = c .before .before .before .before .before .before .before .before .before .pre in (entering _ _ _ (p .0) (c .before .before .before .before .before .first-statements .ensures) (c .before .before .before .before .first-handles .ensures), refl)
+enter-requires c κs = let p = c .before .before .before .before .before .before .before .before .before .before .pre in (entering _ _ _ (p .0) (c .before .before .before .before .before .before .first-statements .ensures) (c .before .before .before .before .before .first-handles .ensures), refl)
 
 follow-requires : tie.Need-follow-requires
-follow-requires c κs = let p = c .before .before .before .before .before .before .before .before .before .before .before .before .before .before .before .before .before .before .before .before .pre in (beginning _ _ _ (p .0) (c .before .before .before .before .before .before .before .before .before .before .before .before .before .before .before .before .first-statements .ensures) (c .before .before .before .before .before .before .before .before .before .before .before .before .before .before .before .first-handles .ensures) _ _ _ (c .before .before .before .before .before .before .before .before .before .before .enter .ensures) (p .2) (c .before .before .before .before .before .before .before .before .before .before .before .before .before .clear .ensures ∙ ap (λ (n : ℕ). replicate n (pos 0)) (p .1)), p .3)
+follow-requires c κs = let p = c .before .before .before .before .before .before .before .before .before .before .before .before .before .before .before .before .before .before .before .before .before .pre in (beginning _ _ _ (p .0) (c .before .before .before .before .before .before .before .before .before .before .before .before .before .before .before .before .before .first-statements .ensures) (c .before .before .before .before .before .before .before .before .before .before .before .before .before .before .before .before .first-handles .ensures) _ _ _ (c .before .before .before .before .before .before .before .before .before .before .enter .ensures) (p .2) (c .before .before .before .before .before .before .before .before .before .before .before .before .before .clear .ensures ∙ ap (λ (n : ℕ). replicate n (pos 0)) (p .1)), p .3, c .before .before .before .before .before .before .before .before .before .before .before .before .before .before .before .first-line .ensures)
 
 same-length : tie.Need-same-length
 same-length c = search needs
@@ -50,6 +53,7 @@ play-spec =
     (tie.spec
     first-statements-requires
     first-handles-requires
+    first-line-requires
     clear-requires
     array-write-counts
     array-read-enter

@@ -6,15 +6,15 @@ use mathlib.Core.Path.{refl}
 use denote.Ref.{now}
 use native.Mathlib.Omega.{arith}
 use Rattle.engine.specs.Shown.{Arrays, arrays}
-use Rattle.engine.proofs.Operating.{slot-low, Here, placed-here, jump-low, jump-zero-low, call-naming, start-naming, values-long, slot-below, did-read, did-write, did-set, did-add, did-take, did-give, did-point, did-call, did-start, did-jump, did-jump-zero, did-return}
+use Rattle.engine.proofs.Operating.{slot-low, line-low, line-said, Here, placed-here, jump-low, jump-zero-low, call-naming, start-naming, values-long, slot-below, did-read, did-write, did-set, did-add, did-take, did-give, did-point, did-call, did-start, did-jump, did-jump-zero, did-return}
 use borrow.Author.Needs.{needs}
 use Rattle.engine.proofs.steps.operate.Statement.{statement}
 use Rattle.engine.proofs.steps.operate.Tie as tie
 
-abbrev A : tie.After-statement-of → Arrays
+abbrev A : tie.After-statement-at → Arrays
 A c = let a = c .before .before .before .before .args in arrays (now (a .started)) (now (a .nexts)) (now (a .values)) (now (a .counts)) (now (a .accumulators)) (now (a .owners)) (now (a .cells))
 
-here : (c : tie.After-statement-of) → Here (now (c .before .before .before .before .args .numbers)) (now (c .before .before .before .before .args .first)) (now (c .before .before .before .before .args .handle)) (A c) (c .before .before .before .before .args .n) (c .before .before .before .before .args .slot) (c .before .next-of .result) (c .statement-of .result)
+here : (c : tie.After-statement-at) → Here (now (c .before .before .before .before .args .numbers)) (now (c .before .before .before .before .args .first)) (now (c .before .before .before .before .args .handle)) (A c) (c .before .before .before .before .args .n) (c .before .before .before .before .args .slot) (c .before .next-of .result) (c .statement-at .result)
 here c =
     record {
       standing = c .before .before .before .before .pre .0;
@@ -22,14 +22,19 @@ here c =
       some = c .before .before .before .before .pre .1 .1;
       slot-is = c .before .before .before .before .pre .1 .2;
       next-is = c .before .next-of .ensures;
-      statement-is = c .statement-of .ensures;
+      statement-is = line-said _ _ _ _ (c .before .before .before .before .pre .1 .3) (c .statement-at .ensures);
     }
 
 next-of-requires : tie.Need-next-of-requires
 next-of-requires c κs = slot-low _ _ _ _ _ _ (c .before .before .pre .0) (c .before .before .pre .1 .0) (c .before .before .pre .1 .2)
 
-statement-of-requires : tie.Need-statement-of-requires
-statement-of-requires c κs = search needs
+add-statement-at : tie.Need-add-statement-at
+add-statement-at c =
+    let p = c .before .before .before .pre in
+    record { fits = omega (arith, line-low _ _ _ _ _ _ _ _ (p .0) (p .1 .0) (p .1 .1) (p .1 .2) (c .next-of .ensures) (p .1 .3)) }
+
+statement-at-requires : tie.Need-statement-at-requires
+statement-at-requires c κs = search needs
 
 enum-known-statement : tie.Need-enum-known-statement
 enum-known-statement c = search needs
@@ -180,7 +185,8 @@ operate-spec =
     tie.close
     (tie.spec
     next-of-requires
-    statement-of-requires
+    add-statement-at
+    statement-at-requires
     enum-known-statement
     read-requires
     enum-known-statement-2
