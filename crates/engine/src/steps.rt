@@ -3,12 +3,11 @@ ghost use mathlib.Core.Path.{_≡_};
 ghost use mathlib.Core.List.{_++_};
 ghost use Prim.Native.Nat.{_+_, _*_, _<_, _≤_};
 ghost use lib.ListN.{getD, length, drop};
-ghost use Rattle.table.specs.Header.{statementLine};
 ghost use Rattle.table.specs.Table.{tableOf};
 ghost use Rattle.machine.specs.State.{State, start};
 ghost use Rattle.machine.specs.Engine.{engineRun, answers as answersOf};
 ghost use Rattle.engine.specs.Step.{numberOf, answeredAt};
-ghost use Rattle.engine.specs.Shown.{arrays, Shows, Standing, Beginning, Stepped};
+ghost use Rattle.engine.specs.Shown.{arrays, Laid, Shows, Standing, Beginning, Stepped};
 use crate::Step;
 use crate::frames;
 use crate::operations;
@@ -57,11 +56,12 @@ fn operate(
     cells: &mut [i32],
 ) -> Step
     requires { ⌜ Standing (now numbers) (now first) (now handle) (arrays (now started) (now nexts) (now values) (now counts) (now accumulators) (now owners) (now cells)) ⌝ }
-    requires { ⌜ (n < now started) × (0 < getD (now counts) n 0) × (slot + 1 ≡ n * 32 + getD (now counts) n 0) × (base ≡ statementLine (now numbers) 0) ⌝ }
+    requires { ⌜ (n < now started) × (0 < getD (now counts) n 0) × (slot + 1 ≡ n * 32 + getD (now counts) n 0) × Laid (now numbers) base ⌝ }
     ensures { λ r. ⌜ ((state : State) → Shows (tableOf (now (numbers .entry))) (arrays (now (started .entry)) (now (nexts .entry)) (now (values .entry)) (now (counts .entry)) (now (accumulators .entry)) (now (owners .entry)) (now (cells .entry))) state → Stepped (tableOf (now (numbers .entry))) (arrays (now (started .exit)) (now (nexts .exit)) (now (values .exit)) (now (counts .exit)) (now (accumulators .exit)) (now (owners .exit)) (now (cells .exit))) state n r) ⌝ }
 {
     let next = frames::next_of(nexts, slot);
-    let statement = table::statement_at(numbers, base + next);
+    let line = base + next;
+    let statement = table::statement_at(numbers, line);
     match statement {
         Statement::Read(h) => {
             operations::read(h.number, n, slot, next, nexts, values, accumulators, cells);
@@ -91,13 +91,16 @@ fn operate(
             operations::point(h.number, g.number, slot, next, nexts, values);
             Step::Ran(statement)
         }
-        Statement::Call { routine, arguments } => answered(
+        Statement::Call {
+            routine,
+            arguments: _,
+        } => answered(
             operations::call(
                 numbers,
                 first,
                 handle,
                 routine,
-                arguments,
+                line,
                 n,
                 slot,
                 next,
@@ -107,13 +110,16 @@ fn operate(
             ),
             statement,
         ),
-        Statement::Start { routine, arguments } => answered(
+        Statement::Start {
+            routine,
+            arguments: _,
+        } => answered(
             operations::start(
                 numbers,
                 first,
                 handle,
                 routine,
-                arguments,
+                line,
                 slot,
                 next,
                 started,
@@ -155,7 +161,7 @@ fn step(
     cells: &mut [i32],
 ) -> Step
     requires { ⌜ Standing (now numbers) (now first) (now handle) (arrays (now started) (now nexts) (now values) (now counts) (now accumulators) (now owners) (now cells)) ⌝ }
-    requires { ⌜ base ≡ statementLine (now numbers) 0 ⌝ }
+    requires { ⌜ Laid (now numbers) base ⌝ }
     ensures { λ r. ⌜ ((state : State) → Shows (tableOf (now (numbers .entry))) (arrays (now (started .entry)) (now (nexts .entry)) (now (values .entry)) (now (counts .entry)) (now (accumulators .entry)) (now (owners .entry)) (now (cells .entry))) state → Stepped (tableOf (now (numbers .entry))) (arrays (now (started .exit)) (now (nexts .exit)) (now (values .exit)) (now (counts .exit)) (now (accumulators .exit)) (now (owners .exit)) (now (cells .exit))) state n r) ⌝ }
 {
     if *started <= n {
@@ -204,7 +210,7 @@ pub fn follow(
     owners: &mut [usize],
     cells: &mut [i32],
 )
-    requires { ⌜ Beginning (now numbers) (now first) (now handle) (arrays (now started) (now nexts) (now values) (now counts) (now accumulators) (now owners) (now cells)) × (length (now schedule) ≤ length (now answers)) × (base ≡ statementLine (now numbers) 0) ⌝ }
+    requires { ⌜ Beginning (now numbers) (now first) (now handle) (arrays (now started) (now nexts) (now values) (now counts) (now accumulators) (now owners) (now cells)) × (length (now schedule) ≤ length (now answers)) × Laid (now numbers) base ⌝ }
     ensures { λ _. ⌜ now (answers .exit) ≡ answersOf (tableOf (now (numbers .entry))) (start (tableOf (now (numbers .entry)))) (now (schedule .entry)) ++ drop (length (now (schedule .entry))) (now (answers .entry)) ⌝ }
     ensures { λ _. ⌜ now (cells .exit) ≡ engineRun (tableOf (now (numbers .entry))) (start (tableOf (now (numbers .entry)))) (now (schedule .entry)) .cells ⌝ }
 {
