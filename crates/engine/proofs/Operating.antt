@@ -6,7 +6,11 @@ use mathlib.Core.List.{List}
 use native.Mathlib.Omega.{arith}
 use lib.IntN.{ℤ, pos, _+ℤ_}
 use lib.ListN.{length, getD, set}
-use Rattle.table.specs.Table.{Table, tableOf, statement, statementOf, InRoutine}
+use Rattle.table.specs.Fields.{field}
+use Rattle.table.specs.Header.{statements, statementLine}
+use Rattle.table.specs.TabulateLaws.{length-tabulate}
+use Rattle.table.specs.Table.{Table, tableOf, statement, argumentsIn, statementIn, statementOf, InRoutine}
+use Rattle.table.specs.OperationLaws.{by-operation}
 use Rattle.table.specs.Accepted.{Accepted, Operands, Passes}
 use Rattle.table.specs.declared.Arguments.{Arguments}
 use Rattle.table.specs.declared.Handle.{Handle}
@@ -18,14 +22,82 @@ use Rattle.machine.specs.Step.{wrap, isZero}
 use Rattle.engine.specs.declared.Step.{Step}
 use Rattle.engine.specs.declared.Step.the-variants.{Ran}
 use Rattle.engine.specs.Step.{answeredAt}
-use Rattle.engine.specs.Shown.{Arrays, arrays, valuePlace, Shows, Standing, Stepped, Placed, Naming, Locked, Called, Started}
-use Rattle.engine.specs.TableLaws.{statement-read, LookedUp, looked-up, naming}
+use Rattle.engine.specs.Shown.{Arrays, arrays, valuePlace, Laid, Reaching, Shows, Standing, Stepped, Placed, Naming, Locked, Called, Started}
+use Rattle.engine.specs.TableLaws.{statement-read, reaching, LookedUp, looked-up, naming}
 use Rattle.engine.specs.StepLaws.{Top, top, placed, read-step, write-step, set-step, add-step, jump-step, jump-zero-step, return-step, take-step, give-step, point-step, call-step, start-step}
 
 -- a thread's newest slot is one of the 512
 pub slot-low : (numbers : List ℤ) (first handle : List ℕ) (a : Arrays) (n slot : ℕ) → Standing numbers first handle a → n < a .started
     → slot + 1 ≡ n * 32 + getD (a .counts) n 0 → slot < 512
 slot-low numbers first handle a n slot s l e = omega (arith, s .shows .most, s .shows .thread-is n l .few)
+
+-- where a thread whose newest frame is in `slot` stands
+standing-placed : (numbers : List ℤ) (first handle : List ℕ) (a : Arrays) (n slot next : ℕ) → Standing numbers first handle a → n < a .started
+    → 0 < getD (a .counts) n 0 → slot + 1 ≡ n * 32 + getD (a .counts) n 0 → next ≡ getD (a .nexts) slot 0 → Placed n slot next
+standing-placed numbers first handle a n slot next s l m e q =
+    let p = top (tableOf numbers) a (s .state) n slot (s .shows) l m e in
+    subst (λ (i : ℕ). Placed n slot i) (sym (q ∙ p .shown .next-is)) (placed (tableOf numbers) (s .accepted) a (s .state) n slot (s .shows) l p)
+
+-- the line of its next statement is there
+pub record Lined (numbers : List ℤ) (line : ℕ) : Type 0 where
+  pub low : line < 65536
+  pub reaching : Reaching numbers line
+
+pub lined : (numbers : List ℤ) (first handle : List ℕ) (a : Arrays) (n slot next base : ℕ) → Standing numbers first handle a → n < a .started
+    → 0 < getD (a .counts) n 0 → slot + 1 ≡ n * 32 + getD (a .counts) n 0 → next ≡ getD (a .nexts) slot 0 → Laid numbers base
+    → Lined numbers (base + next)
+unfolding tableOf
+lined numbers first handle a n slot next base s l m e q b =
+    let p = top (tableOf numbers) a (s .state) n slot (s .shows) l m e in
+    let facts = s .accepted .routine-facts (p .f .routine) (p .shown .there) in
+    let inside : next < statements numbers = omega (arith, q ∙ p .shown .next-is, p .shown .inside .high, rw length-tabulate at (facts .statements-there)) in
+    record {
+      low =
+          omega (
+            arith,
+            b .base-is,
+            rw length-tabulate at (s .accepted .handles-most),
+            rw length-tabulate at (s .accepted .routines-most),
+            rw length-tabulate at (s .accepted .statements-most),
+          );
+      reaching = reaching numbers (base + next) (b .long) (omega (arith, b .base-is));
+    }
+
+-- the statement of that line is the table's
+pub line-said : (numbers : List ℤ) (base next : ℕ) (σ : Statement) → base ≡ statementLine numbers 0
+    → σ ≡ statementIn numbers (base + next) (field numbers (base + next) 1) → σ ≡ statementOf numbers next
+unfolding statementOf
+line-said numbers base next σ b q =
+    let e : base + next ≡ statementLine numbers next = omega arith in
+    subst (λ (line : ℕ). σ ≡ statementIn numbers line (field numbers line 1)) e q
+
+-- what a CALL or START passes is what its line passes
+Passing : Arguments → Statement → Type 0
+Passing arguments (Read h) = Unit {0}
+Passing arguments (Write h) = Unit {0}
+Passing arguments (Set x) = Unit {0}
+Passing arguments (Add x) = Unit {0}
+Passing arguments (Take h) = Unit {0}
+Passing arguments (Give h) = Unit {0}
+Passing arguments (Point h g) = Unit {0}
+Passing arguments (Call q a) = arguments ≡ a
+Passing arguments (Start q a) = arguments ≡ a
+Passing arguments (Jump s) = Unit {0}
+Passing arguments (JumpZero s) = Unit {0}
+Passing arguments Return = Unit {0}
+
+passing : (f : List ℤ) (line op : ℕ) → Passing (argumentsIn f line) (statementIn f line op)
+unfolding Passing
+passing f line op =
+    by-operation f line (λ o σ. Passing (argumentsIn f line) σ) tt tt tt tt tt tt tt refl refl tt tt (λ o. tt) op
+
+pub call-passing : (f : List ℤ) (line op q : ℕ) (a : Arguments) (σ : Statement) → σ ≡ statementIn f line op → σ ≡ Call q a → argumentsIn f line ≡ a
+unfolding Passing
+call-passing f line op q a σ s e = subst (Passing (argumentsIn f line)) (sym s ∙ e) (passing f line op)
+
+pub start-passing : (f : List ℤ) (line op q : ℕ) (a : Arguments) (σ : Statement) → σ ≡ statementIn f line op → σ ≡ Start q a → argumentsIn f line ≡ a
+unfolding Passing
+start-passing f line op q a σ s e = subst (Passing (argumentsIn f line)) (sym s ∙ e) (passing f line op)
 
 pub record Here (numbers : List ℤ) (first handle : List ℕ) (a : Arrays) (n slot next : ℕ) (σ : Statement) : Type 0 where
   pub standing : Standing numbers first handle a
@@ -65,9 +137,7 @@ module _ (numbers : List ℤ) (first handle : List ℕ) (a : Arrays) (n slot nex
   stands = p (here .standing .state) (here .standing .shows)
 
   pub placed-here : Placed n slot next
-  placed-here =
-      subst (λ (i : ℕ). Placed n slot i) (sym (at (here .standing .state) (here .standing .shows)))
-      (placed (tableOf numbers) accepted a (here .standing .state) n slot (here .standing .shows) (here .low) stands)
+  placed-here = standing-placed numbers first handle a n slot next (here .standing) (here .low) (here .some) (here .slot-is) (here .next-is)
 
   inside-low : (r s : ℕ) → r < length (tableOf numbers .routines) → InRoutine (tableOf numbers) r s → s < 512
   inside-low r s l i = omega (arith, i .high, accepted .routine-facts r l .statements-there, accepted .statements-most)
@@ -144,24 +214,24 @@ module _ (numbers : List ℤ) (first handle : List ℕ) (a : Arrays) (n slot nex
     did-point h g nexts values e x y =
         point-step (tableOf numbers) accepted a state n slot s (here .low) (p state s) next (at state s) h g nexts values (is state s (Point h g) e) x y
 
-    pub did-call : (q : ℕ) (arguments : Arguments) (number : ℕ) (r : Step) (nexts values counts : List ℕ) → σ ≡ Call q arguments → r ≡ answeredAt number (Call q arguments)
-        → Called (tableOf numbers) (getD first q 0) (getD handle q 0) (getD handle (q + 1) 0) arguments n slot next number (a .nexts) nexts (a .values) values (a .counts) counts
+    pub did-call : (q : ℕ) (arguments read : Arguments) (number : ℕ) (r : Step) (nexts values counts : List ℕ) → σ ≡ Call q arguments → read ≡ arguments → r ≡ answeredAt number (Call q arguments)
+        → Called (tableOf numbers) (getD first q 0) (getD handle q 0) (getD handle (q + 1) 0) read n slot next number (a .nexts) nexts (a .values) values (a .counts) counts
         → Stepped (tableOf numbers) (arrays (a .started) nexts values counts (a .accumulators) (a .owners) (a .cells)) state n r
-    did-call q arguments number r nexts values counts e k w =
+    did-call q arguments read number r nexts values counts e same k w =
         let u = looked q (called-there q arguments e) in
         rw k
         (call-step (tableOf numbers) accepted a state n slot s (here .low) (p state s) next (at state s) q arguments (getD first q 0) (getD handle q 0) (getD handle (q + 1) 0)
-        (u .first-is) (u .from-is) (u .end-is) number nexts values counts (is state s (Call q arguments) e) w)
+        (u .first-is) (u .from-is) (u .end-is) number nexts values counts (is state s (Call q arguments) e) (rw same at w))
 
-    pub did-start : (q : ℕ) (arguments : Arguments) (number started : ℕ) (r : Step) (nexts values counts : List ℕ) (accumulators : List ℤ) → σ ≡ Start q arguments
+    pub did-start : (q : ℕ) (arguments read : Arguments) (number started : ℕ) (r : Step) (nexts values counts : List ℕ) (accumulators : List ℤ) → σ ≡ Start q arguments → read ≡ arguments
         → r ≡ answeredAt number (Start q arguments)
-        → Started (tableOf numbers) (getD first q 0) (getD handle q 0) (getD handle (q + 1) 0) arguments slot next number (a .started) started (a .nexts) nexts (a .values) values (a .counts) counts (a .accumulators) accumulators
+        → Started (tableOf numbers) (getD first q 0) (getD handle q 0) (getD handle (q + 1) 0) read slot next number (a .started) started (a .nexts) nexts (a .values) values (a .counts) counts (a .accumulators) accumulators
         → Stepped (tableOf numbers) (arrays started nexts values counts accumulators (a .owners) (a .cells)) state n r
-    did-start q arguments number started r nexts values counts accumulators e k w =
+    did-start q arguments read number started r nexts values counts accumulators e same k w =
         let u = looked q (started-there q arguments e) in
         rw k
         (start-step (tableOf numbers) accepted a state n slot s (here .low) (p state s) next (at state s) q arguments (getD first q 0) (getD handle q 0) (getD handle (q + 1) 0)
-        (u .first-is) (u .from-is) (u .end-is) number started nexts values counts accumulators (is state s (Start q arguments) e) w)
+        (u .first-is) (u .from-is) (u .end-is) number started nexts values counts accumulators (is state s (Start q arguments) e) (rw same at w))
 
     pub did-jump : (target : Target) (nexts : List ℕ) → σ ≡ Jump target → nexts ≡ set (a .nexts) slot (target .statement)
         → Stepped (tableOf numbers) (arrays (a .started) nexts (a .values) (a .counts) (a .accumulators) (a .owners) (a .cells)) state n (Ran (Jump target))

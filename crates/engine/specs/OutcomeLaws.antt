@@ -1,5 +1,5 @@
 -- What a call answers and leaves, by what is read of its text. Assumes nothing.
-use Prim.Native.Nat.{ℕ, _<_, _≤_}
+use Prim.Native.Nat.{ℕ, _*_, _<_, _≤_}
 use mathlib.Core.Path.{_≡_, refl, sym, ap, _∙_, subst}
 use mathlib.Core.Bool.{true, false}
 use mathlib.Core.List.{List, _++_}
@@ -7,10 +7,12 @@ use borrow.Author.Tests.{le-leb, lt-leb}
 use lib.IntN.{ℤ}
 use lib.ListN.{length, drop}
 use Rattle.lines.specs.Line.{numbersOf}
+use Rattle.table.specs.Header.{statements, statementLine}
 use Rattle.table.specs.Table.{tableOf, countsOf}
 use Rattle.table.specs.Verdict.{verdict}
 use Rattle.table.specs.Accepted.{Accepted}
 use Rattle.table.specs.AcceptedLaws.{accepted}
+use Rattle.table.specs.CheckLaws.{text-long}
 use Rattle.table.specs.declared.Verdict.{Verdict}
 use Rattle.table.specs.declared.Verdict as Declared
 use Rattle.table.specs.declared.Counts.{Counts}
@@ -27,6 +29,7 @@ pub record ReadFacts (text : List ℕ) (numbers : List ℤ) (k : Counts) : Type 
   pub verdict-is : verdict text ≡ Declared.Verdict.Accepted
   pub numbers-are : numbers ≡ numbersOf text
   pub facts : Accepted (tableOf numbers)
+  pub long : length numbers ≡ 8 * statementLine numbers (statements numbers)
   pub cells-are : k .cells ≡ tableOf numbers .cells
   pub locks-are : k .locks ≡ tableOf numbers .locks
 
@@ -40,6 +43,7 @@ read-facts text v numbers k said filled q c =
       verdict-is = e;
       numbers-are = n;
       facts = subst (λ (f : List ℤ). Accepted (tableOf f)) (sym n) (accepted text e);
+      long = subst (λ (f : List ℤ). length f ≡ 8 * statementLine f (statements f)) (sym n) (text-long text e);
       cells-are = ap (λ (x : Counts). x .cells) c;
       locks-are = ap (λ (x : Counts). x .locks) c;
     }

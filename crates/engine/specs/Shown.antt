@@ -7,6 +7,7 @@ use mathlib.Core.Logic.{_⊎_}
 use lib.Dec.{eqb}
 use lib.IntN.{ℤ, pos}
 use lib.ListN.{length, getD, set}
+use Rattle.table.specs.Header.{statements, statementLine}
 use Rattle.table.specs.Table.{Table, tableOf, declaration, routine, passed, InRoutine, OwnHandle}
 use Rattle.table.specs.Layout.{firstStatements, firstHandles}
 use Rattle.table.specs.Accepted.{Accepted}
@@ -95,6 +96,16 @@ pub record Stepped (t : Table) (new : Arrays) (state : State) (n : ℕ) (step : 
   pub answered : step ≡ stepOf t state n
   pub small : numberOf step < 256
   pub shows : Shows t new (after state (engineStep t state n))
+
+-- the numbers of an accepted text are as many as its header says, and `base` is the line of statement 0
+pub record Laid (numbers : List ℤ) (base : ℕ) : Type 0 where
+  pub base-is : base ≡ statementLine numbers 0
+  pub long : length numbers ≡ 8 * statementLine numbers (statements numbers)
+
+-- a line is there, and so are the lines of the handles
+pub record Reaching (numbers : List ℤ) (line : ℕ) : Type 0 where
+  pub line-there : line * 8 + 8 ≤ length numbers
+  pub handles-there : 8 * length (tableOf numbers .handles) + 8 ≤ length numbers
 
 -- what handle h refers to in a new frame, with arguments from the frame in slot `caller`
 unfoldable pub startValue : Table → List ℕ → ℕ → ℕ → Arguments → ℕ → ℕ

@@ -1,6 +1,6 @@
 -- The parts of a table as its numbers give them, and what the two lists of routines give. Assumes nothing.
-use Prim.Native.Nat.{ℕ, _+_, _-_, _<_, _≤_}
-use mathlib.Core.Path.{_≡_, sym, ap, _∙_}
+use Prim.Native.Nat.{ℕ, zero, suc, _+_, _-_, _*_, _<_, _≤_}
+use mathlib.Core.Path.{_≡_, refl, sym, ap, _∙_}
 use mathlib.Core.List.{List}
 use mathlib.Core.Logic.{_⊎_, inl, inr}
 use borrow.Author.Tests.{eq-eqb, ne-eqb}
@@ -8,18 +8,18 @@ use native.Mathlib.Omega.{arith}
 use lib.Dec.{eqb}
 use lib.IntN.{ℤ}
 use lib.ListN.{length, getD}
-use Rattle.table.specs.Header.{handles, routines, statements}
+use Rattle.table.specs.Fields.{field}
+use Rattle.table.specs.Header.{handles, routines, statements, statementLine}
 use Rattle.table.specs.Handles.{routineOf, handlesFrom}
 use Rattle.table.specs.Layout.{firstStatements, firstHandles}
 use Rattle.table.specs.TabulateLaws.{length-tabulate, getD-tabulate}
 use Rattle.table.specs.LayoutLaws.{handles-next, first-at, handle-at}
 use Rattle.table.specs.LookupLaws.{routines-length}
 use Rattle.table.specs.UntilLaws.{until-range}
-use Rattle.table.specs.Table.{Table, tableOf, declaration, routine, statement, passed, declarationOf, routineAt, statementOf}
+use Rattle.table.specs.Table.{Table, tableOf, declaration, routine, statement, passed, argumentsIn, declarationOf, routineAt, statementOf}
 use Rattle.table.specs.Accepted.{Accepted, HandleFacts}
 use Rattle.table.specs.declared.Arguments.{Arguments}
-use Rattle.table.specs.declared.Declaration.{Declaration}
-use Rattle.engine.specs.Shown.{Naming, valuePlace, startValue}
+use Rattle.engine.specs.Shown.{Reaching, Naming, valuePlace, startValue}
 
 pub declaration-read : (f : List ℤ) (h : ℕ) → h < length (tableOf f .handles) → declaration (tableOf f) h ≡ declarationOf f h
 unfolding tableOf
@@ -35,20 +35,30 @@ routine-read f r l = getD-tabulate (routines f) (routineAt f) r _ (rw length-tab
 
 -- ---- a new frame's values, by a handle's line
 
-module _ (f : List ℤ) (values : List ℕ) (caller from : ℕ) (arguments : Arguments) (h : ℕ) (d : Declaration) (there : h < length (tableOf f .handles)) (is : d ≡ declarationOf f h) where
-  same : declaration (tableOf f) h ≡ d
-  same = declaration-read f h there ∙ sym is
+-- handle k of those that a line passes
+pub argument-said : (f : List ℤ) (line k : ℕ) → k < 4 → field f line (3 + k) ≡ getD (passed (argumentsIn f line)) k 0
+unfolding argumentsIn
+argument-said f line zero l = refl
+argument-said f line (suc zero) l = refl
+argument-said f line (suc (suc zero)) l = refl
+argument-said f line (suc (suc (suc zero))) l = refl
+argument-said f line (suc (suc (suc (suc k)))) l = absurd (omega arith)
 
-  pub argument-value : (g x : ℕ) → d .origin ≡ 0 → g ≡ getD (passed arguments) (h - from) 0 → x ≡ getD values (valuePlace caller g) 0
+module _ (f : List ℤ) (values : List ℕ) (caller from : ℕ) (arguments : Arguments) (h : ℕ) (there : h < length (tableOf f .handles)) where
+  same : declaration (tableOf f) h ≡ declarationOf f h
+  same = declaration-read f h there
+
+  pub argument-value : (g x : ℕ) → field f (1 + h) 3 ≡ 0 → g ≡ getD (passed arguments) (h - from) 0 → x ≡ getD values (valuePlace caller g) 0
       → x ≡ startValue (tableOf f) values caller from arguments h
-  unfolding startValue
-  argument-value g x o e v = rw (same, eq-eqb (d .origin) 0 o, ← e) v
+  unfolding startValue declarationOf
+  argument-value g x o e v = rw (same, eq-eqb (field f (1 + h) 3) 0 o, ← e) v
 
-  pub local-value : (d .origin ≡ 0 → ⊥) → d .start ≡ startValue (tableOf f) values caller from arguments h
-  unfolding startValue
-  local-value o = rw (same, ne-eqb (d .origin) 0 o)
+  pub local-value : (field f (1 + h) 3 ≡ 0 → ⊥) → field f (1 + h) 4 ≡ startValue (tableOf f) values caller from arguments h
+  unfolding startValue declarationOf
+  local-value o = rw (same, ne-eqb (field f (1 + h) 3) 0 o)
 
-  pub local-small : Accepted (tableOf f) → (d .origin ≡ 0 → ⊥) → d .start < 256
+  pub local-small : Accepted (tableOf f) → (field f (1 + h) 3 ≡ 0 → ⊥) → field f (1 + h) 4 < 256
+  unfolding declarationOf
   local-small accepted o = rw same at (small (facts .origin-known) (facts .kind-known))
     where
       facts : HandleFacts (tableOf f) h
@@ -59,6 +69,11 @@ module _ (f : List ℤ) (values : List ℕ) (caller from : ℕ) (arguments : Arg
       small (inl z) k = absurd (o (ap (λ q. q .origin) (sym same) ∙ z))
       small (inr z) (inl k) = omega (arith, facts .cell-there z k, accepted .cells-most)
       small (inr z) (inr k) = omega (arith, facts .lock-there z k, accepted .locks-most)
+
+-- a line of the table is there
+pub reaching : (f : List ℤ) (line : ℕ) → length f ≡ 8 * statementLine f (statements f) → line < statementLine f (statements f) → Reaching f line
+unfolding tableOf
+reaching f line e l = record { line-there = omega arith; handles-there = rw length-tabulate (omega arith) }
 
 -- what the two lists hold at a routine
 pub record LookedUp (t : Table) (first handle : List ℕ) (r : ℕ) : Type 0 where

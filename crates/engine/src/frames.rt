@@ -2,13 +2,12 @@
 // `values` at slot * 8 + h % 8 (a routine has at most eight handles, in a row).
 ghost use mathlib.Core.Path.{_≡_};
 ghost use mathlib.Core.Bool.{cond};
-ghost use Prim.Native.Nat.{_+_, _-_, _<_, _≤_};
+ghost use Prim.Native.Nat.{_+_, _-_, _*_, _<_, _≤_};
 ghost use lib.Dec.{eqb};
 ghost use lib.ListN.{getD, set, length};
-ghost use Rattle.table.specs.Table.{tableOf, declaration, passed};
+ghost use Rattle.table.specs.Table.{tableOf, passed, argumentsIn};
 ghost use Rattle.table.specs.Accepted.{Accepted};
-ghost use Rattle.engine.specs.Shown.{valuePlace, Entering, Entered, startValue};
-use table::Arguments;
+ghost use Rattle.engine.specs.Shown.{valuePlace, Reaching, Entering, Entered, startValue};
 
 fn wide(x: u16) -> usize
     ensures { λ r. ⌜ r ≡ x ⌝ }
@@ -54,56 +53,54 @@ pub fn put_value(values: &mut [u8; 4096], slot: usize, h: usize, v: usize)
     values[slot * 8 + h % 8] = (v % 256) as u8;
 }
 
-// The handle that is passed for parameter `k`; 0 where there is none.
-fn argument_of(arguments: Arguments, k: usize) -> usize
-    ensures { λ r. ⌜ r ≡ getD (passed arguments) k 0 ⌝ }
+// The handle that the CALL or START in `line` passes for parameter `k`; 0 where there is none.
+fn argument_of(numbers: &[i32], line: usize, k: usize) -> usize
+    requires { ⌜ line * 8 + 8 ≤ length (now numbers) ⌝ }
+    ensures { λ r. ⌜ r ≡ getD (passed (argumentsIn (now (numbers .entry)) line)) k 0 ⌝ }
 {
-    match k {
-        0 => arguments.first,
-        1 => arguments.second,
-        2 => arguments.third,
-        3 => arguments.fourth,
-        _ => 0,
+    if k < 4 {
+        table::field_in(numbers, line, 3 + k)
+    } else {
+        0
     }
 }
 
-// What handle `h` of a routine whose handles begin at `from` refers to in a new frame, with arguments from the frame in slot `caller`.
+// What handle `h` of a routine whose handles begin at `from` refers to in a new frame, with the arguments in `line` from the frame in slot `caller`.
 fn entry_value(
     numbers: &[i32],
     from: usize,
     h: usize,
-    arguments: Arguments,
+    line: usize,
     values: &[u8; 4096],
     caller: usize,
 ) -> usize
-    requires { ⌜ (caller < 512) × (from ≤ h) × (h < length (tableOf (now numbers) .handles)) × Accepted (tableOf (now numbers)) ⌝ }
-    ensures { λ r. ⌜ (r ≡ startValue (tableOf (now (numbers .entry))) (now (values .entry)) caller from arguments h) × (r < 256) ⌝ }
+    requires { ⌜ (caller < 512) × (from ≤ h) × (h < length (tableOf (now numbers) .handles)) × Accepted (tableOf (now numbers)) × Reaching (now numbers) line ⌝ }
+    ensures { λ r. ⌜ (r ≡ startValue (tableOf (now (numbers .entry))) (now (values .entry)) caller from (argumentsIn (now (numbers .entry)) line) h) × (r < 256) ⌝ }
 {
-    let declaration = table::declaration_of(numbers, h);
-    if declaration.origin == 0 {
-        value_of(values, caller, argument_of(arguments, h - from))
+    if table::field_in(numbers, 1 + h, 3) == 0 {
+        value_of(values, caller, argument_of(numbers, line, h - from))
     } else {
-        declaration.start
+        table::field_in(numbers, 1 + h, 4)
     }
 }
 
-// Sets the handles `from` to `end`, those of one routine, in the new frame in `slot`: parameters to what the arguments refer to in the frame in slot
-// `caller`, locals to their starts.
+// Sets the handles `from` to `end`, those of one routine, in the new frame in `slot`: parameters to what the arguments in `line` refer to in the frame
+// in slot `caller`, locals to their starts.
 pub fn enter(
     numbers: &[i32],
     from: usize,
     end: usize,
-    arguments: Arguments,
+    line: usize,
     values: &mut [u8; 4096],
     slot: usize,
     caller: usize,
 )
-    requires { ⌜ Entering (tableOf (now numbers)) from end slot caller × (length (now values) ≡ 4096) ⌝ }
-    ensures { λ _. ⌜ Entered (tableOf (now (numbers .entry))) (now (values .entry)) (now (values .exit)) slot caller from end arguments ⌝ }
+    requires { ⌜ Entering (tableOf (now numbers)) from end slot caller × (length (now values) ≡ 4096) × Reaching (now numbers) line ⌝ }
+    ensures { λ _. ⌜ Entered (tableOf (now (numbers .entry))) (now (values .entry)) (now (values .exit)) slot caller from end (argumentsIn (now (numbers .entry)) line) ⌝ }
 {
     let mut h = from;
     while h < end {
-        let v = entry_value(numbers, from, h, arguments, values, caller);
+        let v = entry_value(numbers, from, h, line, values, caller);
         put_value(values, slot, h, v);
         h += 1;
     }

@@ -9,6 +9,7 @@ ghost use mathlib.Core.List.{_++_};
 ghost use Prim.Native.Nat.{_*_, _≤_};
 ghost use lib.ListN.{length, drop, replicate};
 ghost use Rattle.lines.specs.Line.{lineCount};
+ghost use Rattle.table.specs.Header.{statements, statementLine};
 ghost use Rattle.table.specs.Table.{tableOf};
 ghost use Rattle.table.specs.Accepted.{Accepted};
 ghost use Rattle.machine.specs.State.{start};
@@ -31,6 +32,13 @@ pub enum Step {
     Nothing { number: u32 },
 }
 
+// The line of statement 0.
+fn first_line(numbers: &[i32]) -> usize
+    ensures { λ r. ⌜ r ≡ statementLine (now (numbers .entry)) 0 ⌝ }
+{
+    1 + table::field_of(numbers, 0, 3) + table::field_of(numbers, 0, 4)
+}
+
 // The steps of a schedule from the start of an accepted table's run, with as many locks as `owners` is long.
 fn play(
     numbers: &[i32],
@@ -39,12 +47,13 @@ fn play(
     cells: &mut [i32],
     owners: &mut [usize],
 )
-    requires { ⌜ Accepted (tableOf (now numbers)) × (length (now cells) ≡ tableOf (now numbers) .cells) × (now owners ≡ replicate (tableOf (now numbers) .locks) 0) × (length (now schedule) ≤ length (now answers)) ⌝ }
+    requires { ⌜ Accepted (tableOf (now numbers)) × (length (now cells) ≡ tableOf (now numbers) .cells) × (now owners ≡ replicate (tableOf (now numbers) .locks) 0) × (length (now schedule) ≤ length (now answers)) × (length (now numbers) ≡ 8 * statementLine (now numbers) (statements (now numbers))) ⌝ }
     ensures { λ _. ⌜ now (answers .exit) ≡ answersOf (tableOf (now (numbers .entry))) (start (tableOf (now (numbers .entry)))) (now (schedule .entry)) ++ drop (length (now (schedule .entry))) (now (answers .entry)) ⌝ }
     ensures { λ _. ⌜ now (cells .exit) ≡ engineRun (tableOf (now (numbers .entry))) (start (tableOf (now (numbers .entry)))) (now (schedule .entry)) .cells ⌝ }
 {
     let first = table::first_statements(numbers);
     let handle = table::first_handles(numbers);
+    let base = first_line(numbers);
     let mut nexts = [0u16; 512];
     let mut values = [0u8; 4096];
     let mut counts = [0usize; 16];
@@ -52,24 +61,12 @@ fn play(
     let mut started = 1;
     places::clear(cells);
     counts[0] = 1;
-    frames::enter(
-        numbers,
-        handle[0],
-        handle[1],
-        table::Arguments {
-            first: 0,
-            second: 0,
-            third: 0,
-            fourth: 0,
-        },
-        &mut values,
-        0,
-        1,
-    );
+    frames::enter(numbers, handle[0], handle[1], 0, &mut values, 0, 1);
     steps::follow(
         numbers,
         &first,
         &handle,
+        base,
         schedule,
         answers,
         &mut started,

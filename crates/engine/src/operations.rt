@@ -6,9 +6,9 @@ ghost use mathlib.Core.Logic.{_⊎_};
 ghost use Prim.Native.Nat.{_+_, _*_, _<_, _≤_};
 ghost use lib.IntN.{pos, _+ℤ_};
 ghost use lib.ListN.{getD, set, length};
-ghost use Rattle.table.specs.Table.{tableOf};
+ghost use Rattle.table.specs.Table.{tableOf, argumentsIn};
 ghost use Rattle.machine.specs.Step.{wrap, isZero};
-ghost use Rattle.engine.specs.Shown.{valuePlace, Placed, Naming, Locked, Called, Started};
+ghost use Rattle.engine.specs.Shown.{valuePlace, Placed, Reaching, Naming, Locked, Called, Started};
 use crate::frames::enter;
 use crate::frames::go_to;
 use crate::frames::put_value;
@@ -20,7 +20,6 @@ use crate::places::owner_at;
 use crate::places::put_cell;
 use crate::places::put_owner;
 use crate::places::wrapped_sum;
-use table::Arguments;
 
 // READ: "accumulator becomes the cell's value".
 pub fn read(
@@ -155,13 +154,13 @@ pub fn point(
     go_to(nexts, slot, next + 1);
 }
 
-// CALL: "opens a frame"; 19 where 32 are open.
+// CALL in `line`: "opens a frame"; 19 where 32 are open.
 pub fn call(
     numbers: &[i32],
     first: &[usize; 33],
     handle: &[usize; 33],
     routine: usize,
-    arguments: Arguments,
+    line: usize,
     n: usize,
     slot: usize,
     next: usize,
@@ -169,8 +168,8 @@ pub fn call(
     values: &mut [u8; 4096],
     counts: &mut [usize; 16],
 ) -> u32
-    requires { ⌜ Naming (now numbers) (now first) (now handle) routine × Placed n slot next × (slot + 1 ≡ n * 32 + getD (now counts) n 0) × (length (now values) ≡ 4096) ⌝ }
-    ensures { λ r. ⌜ Called (tableOf (now (numbers .entry))) (getD (now (first .entry)) routine 0) (getD (now (handle .entry)) routine 0) (getD (now (handle .entry)) (routine + 1) 0) arguments n slot next r (now (nexts .entry)) (now (nexts .exit)) (now (values .entry)) (now (values .exit)) (now (counts .entry)) (now (counts .exit)) ⌝ }
+    requires { ⌜ Naming (now numbers) (now first) (now handle) routine × Placed n slot next × (slot + 1 ≡ n * 32 + getD (now counts) n 0) × (length (now values) ≡ 4096) × Reaching (now numbers) line ⌝ }
+    ensures { λ r. ⌜ Called (tableOf (now (numbers .entry))) (getD (now (first .entry)) routine 0) (getD (now (handle .entry)) routine 0) (getD (now (handle .entry)) (routine + 1) 0) (argumentsIn (now (numbers .entry)) line) n slot next r (now (nexts .entry)) (now (nexts .exit)) (now (values .entry)) (now (values .exit)) (now (counts .entry)) (now (counts .exit)) ⌝ }
 {
     let count = counts[n];
     if 32 <= count {
@@ -180,7 +179,7 @@ pub fn call(
         numbers,
         handle[routine],
         handle[routine + 1],
-        arguments,
+        line,
         values,
         slot + 1,
         slot,
@@ -191,13 +190,13 @@ pub fn call(
     0
 }
 
-// START: "adds a thread"; 18 where 16 are started.
+// START in `line`: "adds a thread"; 18 where 16 are started.
 pub fn start(
     numbers: &[i32],
     first: &[usize; 33],
     handle: &[usize; 33],
     routine: usize,
-    arguments: Arguments,
+    line: usize,
     slot: usize,
     next: usize,
     started: &mut usize,
@@ -206,8 +205,8 @@ pub fn start(
     counts: &mut [usize; 16],
     accumulators: &mut [i32; 16],
 ) -> u32
-    requires { ⌜ Naming (now numbers) (now first) (now handle) routine × (slot < now started * 32) × (slot < 512) × (next < 512) × (length (now values) ≡ 4096) ⌝ }
-    ensures { λ r. ⌜ Started (tableOf (now (numbers .entry))) (getD (now (first .entry)) routine 0) (getD (now (handle .entry)) routine 0) (getD (now (handle .entry)) (routine + 1) 0) arguments slot next r (now (started .entry)) (now (started .exit)) (now (nexts .entry)) (now (nexts .exit)) (now (values .entry)) (now (values .exit)) (now (counts .entry)) (now (counts .exit)) (now (accumulators .entry)) (now (accumulators .exit)) ⌝ }
+    requires { ⌜ Naming (now numbers) (now first) (now handle) routine × (slot < now started * 32) × (slot < 512) × (next < 512) × (length (now values) ≡ 4096) × Reaching (now numbers) line ⌝ }
+    ensures { λ r. ⌜ Started (tableOf (now (numbers .entry))) (getD (now (first .entry)) routine 0) (getD (now (handle .entry)) routine 0) (getD (now (handle .entry)) (routine + 1) 0) (argumentsIn (now (numbers .entry)) line) slot next r (now (started .entry)) (now (started .exit)) (now (nexts .entry)) (now (nexts .exit)) (now (values .entry)) (now (values .exit)) (now (counts .entry)) (now (counts .exit)) (now (accumulators .entry)) (now (accumulators .exit)) ⌝ }
 {
     let n = *started;
     if 16 <= n {
@@ -217,7 +216,7 @@ pub fn start(
         numbers,
         handle[routine],
         handle[routine + 1],
-        arguments,
+        line,
         values,
         n * 32,
         slot,

@@ -7,7 +7,7 @@ ghost use Rattle.table.specs.Table.{tableOf};
 ghost use Rattle.machine.specs.State.{State, start};
 ghost use Rattle.machine.specs.Engine.{engineRun, answers as answersOf};
 ghost use Rattle.engine.specs.Step.{numberOf, answeredAt};
-ghost use Rattle.engine.specs.Shown.{arrays, Shows, Standing, Beginning, Stepped};
+ghost use Rattle.engine.specs.Shown.{arrays, Laid, Shows, Standing, Beginning, Stepped};
 use crate::Step;
 use crate::frames;
 use crate::operations;
@@ -44,6 +44,7 @@ fn operate(
     numbers: &[i32],
     first: &[usize; 33],
     handle: &[usize; 33],
+    base: usize,
     n: usize,
     slot: usize,
     started: &mut usize,
@@ -55,11 +56,12 @@ fn operate(
     cells: &mut [i32],
 ) -> Step
     requires { ⌜ Standing (now numbers) (now first) (now handle) (arrays (now started) (now nexts) (now values) (now counts) (now accumulators) (now owners) (now cells)) ⌝ }
-    requires { ⌜ (n < now started) × (0 < getD (now counts) n 0) × (slot + 1 ≡ n * 32 + getD (now counts) n 0) ⌝ }
+    requires { ⌜ (n < now started) × (0 < getD (now counts) n 0) × (slot + 1 ≡ n * 32 + getD (now counts) n 0) × Laid (now numbers) base ⌝ }
     ensures { λ r. ⌜ ((state : State) → Shows (tableOf (now (numbers .entry))) (arrays (now (started .entry)) (now (nexts .entry)) (now (values .entry)) (now (counts .entry)) (now (accumulators .entry)) (now (owners .entry)) (now (cells .entry))) state → Stepped (tableOf (now (numbers .entry))) (arrays (now (started .exit)) (now (nexts .exit)) (now (values .exit)) (now (counts .exit)) (now (accumulators .exit)) (now (owners .exit)) (now (cells .exit))) state n r) ⌝ }
 {
     let next = frames::next_of(nexts, slot);
-    let statement = table::statement_of(numbers, next);
+    let line = base + next;
+    let statement = table::statement_at(numbers, line);
     match statement {
         Statement::Read(h) => {
             operations::read(h.number, n, slot, next, nexts, values, accumulators, cells);
@@ -89,13 +91,16 @@ fn operate(
             operations::point(h.number, g.number, slot, next, nexts, values);
             Step::Ran(statement)
         }
-        Statement::Call { routine, arguments } => answered(
+        Statement::Call {
+            routine,
+            arguments: _,
+        } => answered(
             operations::call(
                 numbers,
                 first,
                 handle,
                 routine,
-                arguments,
+                line,
                 n,
                 slot,
                 next,
@@ -105,13 +110,16 @@ fn operate(
             ),
             statement,
         ),
-        Statement::Start { routine, arguments } => answered(
+        Statement::Start {
+            routine,
+            arguments: _,
+        } => answered(
             operations::start(
                 numbers,
                 first,
                 handle,
                 routine,
-                arguments,
+                line,
                 slot,
                 next,
                 started,
@@ -142,6 +150,7 @@ fn step(
     numbers: &[i32],
     first: &[usize; 33],
     handle: &[usize; 33],
+    base: usize,
     n: usize,
     started: &mut usize,
     nexts: &mut [u16; 512],
@@ -152,6 +161,7 @@ fn step(
     cells: &mut [i32],
 ) -> Step
     requires { ⌜ Standing (now numbers) (now first) (now handle) (arrays (now started) (now nexts) (now values) (now counts) (now accumulators) (now owners) (now cells)) ⌝ }
+    requires { ⌜ Laid (now numbers) base ⌝ }
     ensures { λ r. ⌜ ((state : State) → Shows (tableOf (now (numbers .entry))) (arrays (now (started .entry)) (now (nexts .entry)) (now (values .entry)) (now (counts .entry)) (now (accumulators .entry)) (now (owners .entry)) (now (cells .entry))) state → Stepped (tableOf (now (numbers .entry))) (arrays (now (started .exit)) (now (nexts .exit)) (now (values .exit)) (now (counts .exit)) (now (accumulators .exit)) (now (owners .exit)) (now (cells .exit))) state n r) ⌝ }
 {
     if *started <= n {
@@ -165,6 +175,7 @@ fn step(
         numbers,
         first,
         handle,
+        base,
         n,
         n * 32 + count - 1,
         started,
@@ -188,6 +199,7 @@ pub fn follow(
     numbers: &[i32],
     first: &[usize; 33],
     handle: &[usize; 33],
+    base: usize,
     schedule: &[u8],
     answers: &mut [u8],
     started: &mut usize,
@@ -198,7 +210,7 @@ pub fn follow(
     owners: &mut [usize],
     cells: &mut [i32],
 )
-    requires { ⌜ Beginning (now numbers) (now first) (now handle) (arrays (now started) (now nexts) (now values) (now counts) (now accumulators) (now owners) (now cells)) × (length (now schedule) ≤ length (now answers)) ⌝ }
+    requires { ⌜ Beginning (now numbers) (now first) (now handle) (arrays (now started) (now nexts) (now values) (now counts) (now accumulators) (now owners) (now cells)) × (length (now schedule) ≤ length (now answers)) × Laid (now numbers) base ⌝ }
     ensures { λ _. ⌜ now (answers .exit) ≡ answersOf (tableOf (now (numbers .entry))) (start (tableOf (now (numbers .entry)))) (now (schedule .entry)) ++ drop (length (now (schedule .entry))) (now (answers .entry)) ⌝ }
     ensures { λ _. ⌜ now (cells .exit) ≡ engineRun (tableOf (now (numbers .entry))) (start (tableOf (now (numbers .entry)))) (now (schedule .entry)) .cells ⌝ }
 {
@@ -208,6 +220,7 @@ pub fn follow(
             numbers,
             first,
             handle,
+            base,
             wide(schedule[i]),
             started,
             nexts,

@@ -1,20 +1,21 @@
 -- What the verdict "accepted" says of each check: it fails nowhere. Assumes nothing.
-use mathlib.Core.Path.{_≡_, refl}
+use mathlib.Core.Path.{_≡_, refl, _∙_}
 use mathlib.Core.List.{List}
 use mathlib.Core.Option.{Option, none, some}
-use mathlib.Core.Bool.{Bool, true, false, cond}
-use Prim.Native.Nat.{ℕ, _+_, _-_, _/_, _≤_, _<_, zero-le}
+use mathlib.Core.Bool.{Bool, true, false, cond, _&&_}
+use Prim.Native.Nat.{ℕ, _+_, _-_, _*_, _/_, _%_, _≤_, _<_, zero-le}
 use native.Mathlib.Omega.{arith}
-use lib.Dec.{ltb}
+use lib.Dec.{ltb, leb, eqb}
 use lib.ListN.{length}
 use lib.IntN.{ℤ}
-use borrow.Author.Tests.{ltb-false, eqb-true}
+use borrow.Author.Tests.{ltb-false, leb-true, eqb-true}
 use Rattle.lines.specs.Line.{firstBad, numbersOf}
+use Rattle.lines.specs.LineLoops.{numbers-sized}
 use Rattle.lines.specs.Lowest.{lowest}
 use Rattle.lines.specs.LowestLaws.{none-all-good, some-lowest}
 use Rattle.table.specs.Until.{until, orElse}
-use Rattle.table.specs.Header.{headerOk, lengthOk, leadingOk, handles, routines, statements}
-use Rattle.table.specs.HeaderLaws.{Sized, header-sized}
+use Rattle.table.specs.Header.{headerOk, lengthOk, leadingOk, handles, routines, statements, statementLine}
+use Rattle.table.specs.HeaderLaws.{Sized, header-sized, both}
 use Rattle.table.specs.Handles.{handleOk}
 use Rattle.table.specs.Routines.{routineOk, sumOk, firstOf}
 use Rattle.table.specs.Statements.{badStatement, endOk}
@@ -135,3 +136,21 @@ text-passed text e = go (firstBad text) (passes (textOk (length text)) _ _ _ e .
     go : (b : Option ℕ) → unlessBad b (numbersVerdict (numbersOf text) (length text / 49)) ≡ Accepted → Passed (numbersOf text)
     go none h = numbers-passed (numbersOf text) (length text / 49) h
     go (some i) h = let z : _≡_ {A = ℕ} 0 1 = cc in absurd (omega arith)
+
+-- an accepted text has as many lines as its header says
+lines-are : (f : List ℤ) (lines : ℕ) → numbersVerdict f lines ≡ Accepted → lines ≡ statementLine f (statements f)
+unfolding numbersVerdict lengthOk
+lines-are f lines e = eqb-true _ _ (passes (lengthOk f lines) _ _ _ (passes (headerOk f) _ _ _ e .1) .0)
+
+text-short : (n : ℕ) → textOk n ≡ true → n ≤ 32977
+unfolding textOk
+text-short n e = leb-true n 32977 (both (ltb 0 n && eqb (n % 49) 0) (leb n 32977) e .1)
+
+pub text-long : (text : List ℕ) → verdict text ≡ Accepted → length (numbersOf text) ≡ 8 * statementLine (numbersOf text) (statements (numbersOf text))
+unfolding verdict
+text-long text e = let p = passes (textOk (length text)) _ _ _ e in go (firstBad text) (text-short (length text) (p .0)) (p .1)
+  where
+    go : (b : Option ℕ) → length text ≤ 32977 → unlessBad b (numbersVerdict (numbersOf text) (length text / 49)) ≡ Accepted
+        → length (numbersOf text) ≡ 8 * statementLine (numbersOf text) (statements (numbersOf text))
+    go none l h = numbers-sized text ∙ omega (arith, lines-are (numbersOf text) (length text / 49) h)
+    go (some i) l h = let z : _≡_ {A = ℕ} 0 1 = cc in absurd (omega arith)

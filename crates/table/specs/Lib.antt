@@ -5,7 +5,6 @@ pub mod Entry
 pub mod Until
 pub mod UntilLaws
 pub mod Fields
-pub mod FieldLaws
 pub mod Header
 pub mod HeaderLaws
 pub mod Handles

@@ -8,13 +8,13 @@ mod routines;
 mod statements;
 
 ghost use mathlib.Core.Path.{_≡_};
-ghost use Prim.Native.Nat.{_*_, _<_, _^_};
+ghost use Prim.Native.Nat.{_+_, _*_, _<_, _≤_, _^_};
 ghost use lib.ListN.{length};
 ghost use Rattle.lines.specs.Line.{lineCount, numbersOf};
 ghost use Rattle.table.specs.Fields.{field};
 ghost use Rattle.table.specs.Layout.{firstStatements, firstHandles, parameterCounts};
 ghost use Rattle.table.specs.Verdict.{textOk, verdict, readingOf, turnedDown};
-ghost use Rattle.table.specs.Table.{countsOf, declarationOf, argumentsIn, statementIn, statementOf};
+ghost use Rattle.table.specs.Table.{countsOf, argumentsIn, statementIn};
 use lines::FirstBad;
 
 // What is said of a text: a table, or the number of the first refusal that applies and the line that goes with it.
@@ -153,6 +153,15 @@ pub fn field_of(numbers: &[i32], line: usize, j: usize) -> usize
     fields::field_at(numbers, line, j)
 }
 
+// Field `j` of a line that is there, as the rules compare it.
+pub fn field_in(numbers: &[i32], line: usize, j: usize) -> usize
+    requires { ⌜ (line * 8 + 8 ≤ length (now numbers)) × (j < 8) ⌝ }
+    ensures is { λ r. ⌜ r ≡ field (now (numbers .entry)) line j ⌝ }
+    ensures small { λ r. ⌜ r < 2 ^ 31 ⌝ }
+{
+    fields::field_in(numbers, line, j)
+}
+
 // What the header of a table's numbers says.
 pub fn counts_of(numbers: &[i32]) -> Counts
     ensures { λ r. ⌜ r ≡ countsOf (now (numbers .entry)) ⌝ }
@@ -166,55 +175,36 @@ pub fn counts_of(numbers: &[i32]) -> Counts
     }
 }
 
-// What handle line `h` of a table's numbers says; zeros past the end.
-pub fn declaration_of(numbers: &[i32], h: usize) -> Declaration
-    ensures { λ r. ⌜ r ≡ declarationOf (now (numbers .entry)) h ⌝ }
-{
-    if numbers.len() <= h {
-        return Declaration {
-            routine: 0,
-            kind: 0,
-            origin: 0,
-            start: 0,
-        };
-    }
-    let line = 1 + h;
-    Declaration {
-        routine: fields::field_at(numbers, line, 1),
-        kind: fields::field_at(numbers, line, 2),
-        origin: fields::field_at(numbers, line, 3),
-        start: fields::field_at(numbers, line, 4),
-    }
-}
-
-// The handles that the CALL or START in `line` passes.
+// The handles that a CALL or START passes, by its line, which is there.
 fn arguments_in(numbers: &[i32], line: usize) -> Arguments
+    requires { ⌜ line * 8 + 8 ≤ length (now numbers) ⌝ }
     ensures { λ r. ⌜ r ≡ argumentsIn (now (numbers .entry)) line ⌝ }
 {
     Arguments {
-        first: fields::field_at(numbers, line, 3),
-        second: fields::field_at(numbers, line, 4),
-        third: fields::field_at(numbers, line, 5),
-        fourth: fields::field_at(numbers, line, 6),
+        first: fields::field_in(numbers, line, 3),
+        second: fields::field_in(numbers, line, 4),
+        third: fields::field_in(numbers, line, 5),
+        fourth: fields::field_in(numbers, line, 6),
     }
 }
 
 // The statement of `line`, whose operation is `op`.
 fn statement_in(numbers: &[i32], line: usize, op: usize) -> Statement
+    requires { ⌜ line * 8 + 8 ≤ length (now numbers) ⌝ }
     ensures { λ r. ⌜ r ≡ statementIn (now (numbers .entry)) line op ⌝ }
 {
-    let number = fields::field_at(numbers, line, 2);
+    let number = fields::field_in(numbers, line, 2);
     match op {
         1 => Statement::Read(Handle { number }),
         2 => Statement::Write(Handle { number }),
-        3 => Statement::Set(fields::number_at(numbers, line, 2)),
-        4 => Statement::Add(fields::number_at(numbers, line, 2)),
+        3 => Statement::Set(fields::number_in(numbers, line, 2)),
+        4 => Statement::Add(fields::number_in(numbers, line, 2)),
         5 => Statement::Take(Handle { number }),
         6 => Statement::Give(Handle { number }),
         7 => Statement::Point {
             handle: Handle { number },
             from: Handle {
-                number: fields::field_at(numbers, line, 3),
+                number: fields::field_in(numbers, line, 3),
             },
         },
         8 => Statement::Call {
@@ -231,15 +221,12 @@ fn statement_in(numbers: &[i32], line: usize, op: usize) -> Statement
     }
 }
 
-// Statement `s` of a table's numbers; a RETURN past the end.
-pub fn statement_of(numbers: &[i32], s: usize) -> Statement
-    ensures { λ r. ⌜ r ≡ statementOf (now (numbers .entry)) s ⌝ }
+// The statement of a line that is there.
+pub fn statement_at(numbers: &[i32], line: usize) -> Statement
+    requires { ⌜ line * 8 + 8 ≤ length (now numbers) ⌝ }
+    ensures { λ r. ⌜ r ≡ statementIn (now (numbers .entry)) line (field (now (numbers .entry)) line 1) ⌝ }
 {
-    if numbers.len() <= s {
-        return Statement::Return;
-    }
-    let line = 1 + fields::field_at(numbers, 0, 3) + fields::field_at(numbers, 0, 4) + s;
-    statement_in(numbers, line, fields::field_at(numbers, line, 1))
+    statement_in(numbers, line, fields::field_in(numbers, line, 1))
 }
 
 // The first statement of each routine of a table's numbers, behind the last routine's the number of statements, then zeros.

@@ -81,7 +81,7 @@ play-requires : tie.Need-play-requires
 play-requires c κs = let a = c .before .before .before .before .before .before .before .before .before .before .before .before .before .before .before .before .args in
     let r = c .before .before .before .before .before .before .before .before .before .before .before .read-into in
     let q = read-facts (now (a .text)) (r .result) (r .last .1 .0) (c .before .before .before .before .before .before .counts-of .result) (r .ensures .0) (r .ensures .1) (c .before .before .before .before .before .before .before .before .enum-told .given .1) (c .before .before .before .before .before .before .counts-of .ensures) in
-    (q .facts, length-take-le _ _ (c .before .before .before .before .if2 .left) ∙ q .cells-are, take-replicate {A = ℕ} (c .before .before .before .before .before .before .counts-of .result .locks) 16 0 (omega (arith, q .locks-are, q .facts .locks-most)) ∙ ap (λ (n : ℕ). replicate {A = ℕ} n 0) (q .locks-are), c .before .before .before .before .before .if1 .left)
+    (q .facts, length-take-le _ _ (c .before .before .before .before .if2 .left) ∙ q .cells-are, take-replicate {A = ℕ} (c .before .before .before .before .before .before .counts-of .result .locks) 16 0 (omega (arith, q .locks-are, q .facts .locks-most)) ∙ ap (λ (n : ℕ). replicate {A = ℕ} n 0) (q .locks-are), c .before .before .before .before .before .if1 .left, q .long)
 
 -- src/lib.rt:86:1
 same-length-3 : tie.Need-same-length-3

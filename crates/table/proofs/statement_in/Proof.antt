@@ -10,24 +10,24 @@ use Rattle.table.proofs.statement_in.Tie as tie
 use Rattle.table.proofs.statement_in.Reads as reads
 use Rattle.table.proofs.statement_in.Lts as lts
 use Rattle.table.proofs.arguments_in.Reads as arguments-in-reads
-use Rattle.table.proofs.fields.field_at.Reads as field-at-reads
-use Rattle.table.proofs.fields.number_at.Reads as number-at-reads
+use Rattle.table.proofs.fields.field_in.Reads as field-in-reads
+use Rattle.table.proofs.fields.number_in.Reads as number-in-reads
 
 -- src/lib.rt:184:9
-field-at-requires : tie.Need-field-at-requires
-field-at-requires c κs = search needs
+field-in-requires : tie.Need-field-in-requires
+field-in-requires c κs = search needs
 
 -- src/lib.rt:188:29
-number-at-requires : tie.Need-number-at-requires
-number-at-requires c κs = search needs
+number-in-requires : tie.Need-number-in-requires
+number-in-requires c κs = search needs
 
 -- src/lib.rt:189:29
-number-at-requires-2 : tie.Need-number-at-requires-2
-number-at-requires-2 c κs = search needs
+number-in-requires-2 : tie.Need-number-in-requires-2
+number-in-requires-2 c κs = search needs
 
 -- src/lib.rt:195:25
-field-at-requires-2 : tie.Need-field-at-requires-2
-field-at-requires-2 c κs = search needs
+field-in-requires-2 : tie.Need-field-in-requires-2
+field-in-requires-2 c κs = search needs
 
 -- src/lib.rt:200:24
 arguments-in-requires : tie.Need-arguments-in-requires
@@ -40,57 +40,57 @@ arguments-in-requires-2 c κs = search needs
 -- src/lib.rt:181:1
 returns : tie.Need-returns
 unfolding statementIn
-returns c = rw (c .match .keys1, c .before .field-at .ensures .0)
+returns c = rw (c .match .keys1, c .before .field-in .ensures .0)
 
 -- src/lib.rt:181:1
 returns-2 : tie.Need-returns-2
 unfolding statementIn
-returns-2 c = rw (c .match .keys2, c .before .field-at .ensures .0)
+returns-2 c = rw (c .match .keys2, c .before .field-in .ensures .0)
 
 -- src/lib.rt:181:1
 returns-3 : tie.Need-returns-3
 unfolding statementIn
-returns-3 c = rw (c .before .match .keys3, toZ-ofZ {w = w32} (record { sfits = c .number-at .ok }), c .number-at .ensures)
+returns-3 c = rw (c .before .match .keys3, toZ-ofZ {w = w32} (record { sfits = c .number-in .ok }), c .number-in .ensures)
 
 -- src/lib.rt:181:1
 returns-4 : tie.Need-returns-4
 unfolding statementIn
-returns-4 c = rw (c .before .match .keys4, toZ-ofZ {w = w32} (record { sfits = c .number-at2 .ok }), c .number-at2 .ensures)
+returns-4 c = rw (c .before .match .keys4, toZ-ofZ {w = w32} (record { sfits = c .number-in2 .ok }), c .number-in2 .ensures)
 
 -- src/lib.rt:181:1
 returns-5 : tie.Need-returns-5
 unfolding statementIn
-returns-5 c = rw (c .match .keys5, c .before .field-at .ensures .0)
+returns-5 c = rw (c .match .keys5, c .before .field-in .ensures .0)
 
 -- src/lib.rt:181:1
 returns-6 : tie.Need-returns-6
 unfolding statementIn
-returns-6 c = rw (c .match .keys6, c .before .field-at .ensures .0)
+returns-6 c = rw (c .match .keys6, c .before .field-in .ensures .0)
 
 -- src/lib.rt:181:1
 returns-7 : tie.Need-returns-7
 unfolding statementIn
-returns-7 c = rw (c .before .match .keys7, c .before .before .field-at .ensures .0, c .field-at2 .ensures .0)
+returns-7 c = rw (c .before .match .keys7, c .before .before .field-in .ensures .0, c .field-in2 .ensures .0)
 
 -- src/lib.rt:181:1
 returns-8 : tie.Need-returns-8
 unfolding statementIn
-returns-8 c = rw (c .before .match .keys8, c .before .before .field-at .ensures .0, c .arguments-in .ensures)
+returns-8 c = rw (c .before .match .keys8, c .before .before .field-in .ensures .0, c .arguments-in .ensures)
 
 -- src/lib.rt:181:1
 returns-9 : tie.Need-returns-9
 unfolding statementIn
-returns-9 c = rw (c .before .match .keys9, c .before .before .field-at .ensures .0, c .arguments-in2 .ensures)
+returns-9 c = rw (c .before .match .keys9, c .before .before .field-in .ensures .0, c .arguments-in2 .ensures)
 
 -- src/lib.rt:181:1
 returns-10 : tie.Need-returns-10
 unfolding statementIn
-returns-10 c = rw (c .match .keys10, c .before .field-at .ensures .0)
+returns-10 c = rw (c .match .keys10, c .before .field-in .ensures .0)
 
 -- src/lib.rt:181:1
 returns-11 : tie.Need-returns-11
 unfolding statementIn
-returns-11 c = rw (c .match .keys11, c .before .field-at .ensures .0)
+returns-11 c = rw (c .match .keys11, c .before .field-in .ensures .0)
 
 -- src/lib.rt:181:1
 returns-12 : tie.Need-returns-12
@@ -113,10 +113,10 @@ pub statement-in-spec : {M : Type 1} → statement M
 statement-in-spec =
     tie.close
     (tie.spec
-    field-at-requires
-    number-at-requires
-    number-at-requires-2
-    field-at-requires-2
+    field-in-requires
+    number-in-requires
+    number-in-requires-2
+    field-in-requires-2
     arguments-in-requires
     arguments-in-requires-2
     returns

@@ -3,22 +3,22 @@ use mathlib.Core.Path.{sym, ap, _∙_, refl}
 use Prim.Native.Nat.{_-_}
 use native.Mathlib.Omega.{arith}
 use borrow.Author.Needs.{needs}
-use Rattle.table.specs.Table.{tableOf}
+use Rattle.table.specs.Table.{tableOf, argumentsIn}
 use Rattle.engine.proofs.Filling.{Setting, setting-none, setting-next, setting-all, value-kept}
 use Rattle.engine.proofs.frames.enter.Statement.{statement}
 use Rattle.engine.proofs.frames.enter.Tie as tie
 
 abbrev Inv-loop : tie.InvT-loop
-Inv-loop numbers from end arguments values₀ slot caller h₀ values h = Setting (tableOf numbers) values₀ values slot caller from end h arguments
+Inv-loop numbers from end line values₀ slot caller h₀ values h = Setting (tableOf numbers) values₀ values slot caller from end h (argumentsIn numbers line)
 
 abbrev μ-loop : tie.MeasureT-loop
-μ-loop numbers from end arguments values₀ slot caller h₀ values h = end - h
+μ-loop numbers from end line values₀ slot caller h₀ values h = end - h
 
 loop-holds : tie.Need-loop-holds Inv-loop μ-loop
 loop-holds c = setting-none _ _ _ _ _ _ _ (c .pre .1)
 
 entry-value-requires : tie.Need-entry-value-requires Inv-loop μ-loop
-entry-value-requires c κs = let q = c .before .before .before .pre .0 in (q .caller-low, c .before .before .loop .inv .low, omega (arith, q .there), q .accepted)
+entry-value-requires c κs = let q = c .before .before .before .pre .0 in (q .caller-low, c .before .before .loop .inv .low, omega (arith, q .there), q .accepted, c .before .before .before .pre .2)
 
 put-value-requires : tie.Need-put-value-requires Inv-loop μ-loop
 put-value-requires c κs = (c .before .before .before .before .before .pre .0 .slot-low, c .before .entry-value .ensures .1)

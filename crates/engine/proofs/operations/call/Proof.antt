@@ -34,7 +34,7 @@ add-enter-2 : tie.Need-add-enter-2
 add-enter-2 c = search needs
 
 enter-requires : tie.Need-enter-requires
-enter-requires c κs = let q = c .before .before .before .before .before .pre in (record { accepted = q .0 .accepted; few = q .0 .few; there = q .0 .there; slot-low = omega arith; caller-low = q .1 .slot-low; apart = λ e. omega arith }, q .3)
+enter-requires c κs = let q = c .before .before .before .before .before .pre in (record { accepted = q .0 .accepted; few = q .0 .few; there = q .0 .there; slot-low = omega arith; caller-low = q .1 .slot-low; apart = λ e. omega arith }, q .3, q .4)
 
 add-go-to : tie.Need-add-go-to
 add-go-to c = search needs

@@ -28,7 +28,7 @@ mul-enter-3 : tie.Need-mul-enter-3
 mul-enter-3 c = search needs
 
 enter-requires : tie.Need-enter-requires
-enter-requires c κs = let q = c .before .before .before .before .before .pre in (record { accepted = q .0 .accepted; few = q .0 .few; there = q .0 .there; slot-low = omega arith; caller-low = q .2; apart = λ e. omega arith }, q .4)
+enter-requires c κs = let q = c .before .before .before .before .before .pre in (record { accepted = q .0 .accepted; few = q .0 .few; there = q .0 .there; slot-low = omega arith; caller-low = q .2; apart = λ e. omega arith }, q .4, q .5)
 
 add-go-to : tie.Need-add-go-to
 add-go-to c = search needs

@@ -4,17 +4,18 @@ use mir.Syntax.{w32}
 use mir.Facts.{toZ-ofZ}
 use mathlib.Core.Path.{refl}
 use denote.Ref.{now}
+use Prim.Native.Nat.{_+_}
 use native.Mathlib.Omega.{arith}
-use Rattle.engine.specs.Shown.{Arrays, arrays}
-use Rattle.engine.proofs.Operating.{slot-low, Here, placed-here, jump-low, jump-zero-low, call-naming, start-naming, values-long, slot-below, did-read, did-write, did-set, did-add, did-take, did-give, did-point, did-call, did-start, did-jump, did-jump-zero, did-return}
+use Rattle.engine.specs.Shown.{Arrays, arrays, Reaching}
+use Rattle.engine.proofs.Operating.{slot-low, lined, line-said, call-passing, start-passing, Here, placed-here, jump-low, jump-zero-low, call-naming, start-naming, values-long, slot-below, did-read, did-write, did-set, did-add, did-take, did-give, did-point, did-call, did-start, did-jump, did-jump-zero, did-return}
 use borrow.Author.Needs.{needs}
 use Rattle.engine.proofs.steps.operate.Statement.{statement}
 use Rattle.engine.proofs.steps.operate.Tie as tie
 
-abbrev A : tie.After-statement-of → Arrays
+abbrev A : tie.After-statement-at → Arrays
 A c = let a = c .before .before .before .before .args in arrays (now (a .started)) (now (a .nexts)) (now (a .values)) (now (a .counts)) (now (a .accumulators)) (now (a .owners)) (now (a .cells))
 
-here : (c : tie.After-statement-of) → Here (now (c .before .before .before .before .args .numbers)) (now (c .before .before .before .before .args .first)) (now (c .before .before .before .before .args .handle)) (A c) (c .before .before .before .before .args .n) (c .before .before .before .before .args .slot) (c .before .next-of .result) (c .statement-of .result)
+here : (c : tie.After-statement-at) → Here (now (c .before .before .before .before .args .numbers)) (now (c .before .before .before .before .args .first)) (now (c .before .before .before .before .args .handle)) (A c) (c .before .before .before .before .args .n) (c .before .before .before .before .args .slot) (c .before .next-of .result) (c .statement-at .result)
 here c =
     record {
       standing = c .before .before .before .before .pre .0;
@@ -22,14 +23,26 @@ here c =
       some = c .before .before .before .before .pre .1 .1;
       slot-is = c .before .before .before .before .pre .1 .2;
       next-is = c .before .next-of .ensures;
-      statement-is = c .statement-of .ensures;
+      statement-is = line-said _ _ _ _ (c .before .before .before .before .pre .1 .3 .base-is) (c .statement-at .ensures);
     }
+
+there : (c : tie.After-statement-at) → Reaching (now (c .before .before .before .before .args .numbers)) (c .before .before .before .before .args .base + c .before .next-of .result)
+there c =
+    let p = c .before .before .before .before .pre in
+    lined _ _ _ _ _ _ _ _ (p .0) (p .1 .0) (p .1 .1) (p .1 .2) (c .before .next-of .ensures) (p .1 .3) .reaching
 
 next-of-requires : tie.Need-next-of-requires
 next-of-requires c κs = slot-low _ _ _ _ _ _ (c .before .before .pre .0) (c .before .before .pre .1 .0) (c .before .before .pre .1 .2)
 
-statement-of-requires : tie.Need-statement-of-requires
-statement-of-requires c κs = search needs
+add-line : tie.Need-add-line
+add-line c =
+    let p = c .before .before .before .pre in
+    record { fits = omega (arith, lined _ _ _ _ _ _ _ _ (p .0) (p .1 .0) (p .1 .1) (p .1 .2) (c .next-of .ensures) (p .1 .3) .low) }
+
+statement-at-requires : tie.Need-statement-at-requires
+statement-at-requires c κs =
+    let p = c .before .before .before .pre in
+    lined _ _ _ _ _ _ _ _ (p .0) (p .1 .0) (p .1 .1) (p .1 .2) (c .next-of .ensures) (p .1 .3) .reaching .line-there
 
 enum-known-statement : tie.Need-enum-known-statement
 enum-known-statement c = search needs
@@ -83,7 +96,7 @@ enum-known-statement-8 : tie.Need-enum-known-statement-8
 enum-known-statement-8 c = search needs
 
 call-requires : tie.Need-call-requires
-call-requires c κs = (call-naming _ _ _ _ _ _ _ _ (here (c .before .before .before .before .before .before)) _ _ (c .before .before .before .before .statement8 .given .1), placed-here _ _ _ _ _ _ _ _ (here (c .before .before .before .before .before .before)), c .before .before .before .before .before .before .before .before .before .before .pre .1 .2, values-long _ _ _ _ _ _ _ _ (here (c .before .before .before .before .before .before)))
+call-requires c κs = (call-naming _ _ _ _ _ _ _ _ (here (c .before .before .before .before .before .before)) _ _ (c .before .before .before .before .statement8 .given .1), placed-here _ _ _ _ _ _ _ _ (here (c .before .before .before .before .before .before)), c .before .before .before .before .before .before .before .before .before .before .pre .1 .2, values-long _ _ _ _ _ _ _ _ (here (c .before .before .before .before .before .before)), there (c .before .before .before .before .before .before))
 
 answered-requires-3 : tie.Need-answered-requires-3
 answered-requires-3 c κs = search needs
@@ -92,7 +105,7 @@ enum-known-statement-9 : tie.Need-enum-known-statement-9
 enum-known-statement-9 c = search needs
 
 start-requires : tie.Need-start-requires
-start-requires c κs = let q = placed-here _ _ _ _ _ _ _ _ (here (c .before .before .before .before .before .before .before .before)) in (start-naming _ _ _ _ _ _ _ _ (here (c .before .before .before .before .before .before .before .before)) _ _ (c .before .before .before .before .before .before .statement9 .given .1), slot-below _ _ _ _ _ _ _ _ (here (c .before .before .before .before .before .before .before .before)), q .slot-low, q .next-low, values-long _ _ _ _ _ _ _ _ (here (c .before .before .before .before .before .before .before .before)))
+start-requires c κs = let q = placed-here _ _ _ _ _ _ _ _ (here (c .before .before .before .before .before .before .before .before)) in (start-naming _ _ _ _ _ _ _ _ (here (c .before .before .before .before .before .before .before .before)) _ _ (c .before .before .before .before .before .before .statement9 .given .1), slot-below _ _ _ _ _ _ _ _ (here (c .before .before .before .before .before .before .before .before)), q .slot-low, q .next-low, values-long _ _ _ _ _ _ _ _ (here (c .before .before .before .before .before .before .before .before)), there (c .before .before .before .before .before .before .before .before))
 
 answered-requires-4 : tie.Need-answered-requires-4
 answered-requires-4 c κs = search needs
@@ -161,10 +174,10 @@ returns-7 : tie.Need-returns-7
 returns-7 c = λ state shown. did-point _ _ _ _ _ _ _ _ (here (c .before .before .before .before .before .before)) state shown _ _ _ _ (c .before .before .before .before .statement7 .given .1) (c .point .ensures .0) (c .point .ensures .1)
 
 returns-8 : tie.Need-returns-8
-returns-8 c = λ state shown. did-call _ _ _ _ _ _ _ _ (here (c .before .before .before .before .before .before .before .before)) state shown _ _ _ _ _ _ _ (c .before .before .before .before .before .before .statement8 .given .1) (c .answered3 .ensures) (c .before .call .ensures)
+returns-8 c = λ state shown. did-call _ _ _ _ _ _ _ _ (here (c .before .before .before .before .before .before .before .before)) state shown _ _ _ _ _ _ _ _ (c .before .before .before .before .before .before .statement8 .given .1) (call-passing _ _ _ _ _ _ (c .before .before .before .before .before .before .before .before .statement-at .ensures) (c .before .before .before .before .before .before .statement8 .given .1)) (c .answered3 .ensures) (c .before .call .ensures)
 
 returns-9 : tie.Need-returns-9
-returns-9 c = λ state shown. did-start _ _ _ _ _ _ _ _ (here (c .before .before .before .before .before .before .before .before .before .before)) state shown _ _ _ _ _ _ _ _ _ (c .before .before .before .before .before .before .before .before .statement9 .given .1) (c .answered4 .ensures) (c .before .start .ensures)
+returns-9 c = λ state shown. did-start _ _ _ _ _ _ _ _ (here (c .before .before .before .before .before .before .before .before .before .before)) state shown _ _ _ _ _ _ _ _ _ _ (c .before .before .before .before .before .before .before .before .statement9 .given .1) (start-passing _ _ _ _ _ _ (c .before .before .before .before .before .before .before .before .before .before .statement-at .ensures) (c .before .before .before .before .before .before .before .before .statement9 .given .1)) (c .answered4 .ensures) (c .before .start .ensures)
 
 returns-10 : tie.Need-returns-10
 returns-10 c = λ state shown. did-jump _ _ _ _ _ _ _ _ (here (c .before .before .before .before .before)) state shown _ _ (c .before .before .before .statement10 .given .1) (c .go-to .ensures)
@@ -180,7 +193,8 @@ operate-spec =
     tie.close
     (tie.spec
     next-of-requires
-    statement-of-requires
+    add-line
+    statement-at-requires
     enum-known-statement
     read-requires
     enum-known-statement-2

@@ -21,13 +21,13 @@ mul-operate : tie.Need-mul-operate
 mul-operate c = search needs
 
 add-operate : tie.Need-add-operate
-add-operate c = record { fits = omega (arith, c .before .before .before .before .before .pre .shows .most, c .before .before .before .before .before .pre .shows .thread-is (c .before .before .before .before .before .args .n) (c .before .before .if1 .left) .few) }
+add-operate c = record { fits = omega (arith, c .before .before .before .before .before .pre .0 .shows .most, c .before .before .before .before .before .pre .0 .shows .thread-is (c .before .before .before .before .before .args .n) (c .before .before .if1 .left) .few) }
 
 sub-operate : tie.Need-sub-operate
 sub-operate c = search needs
 
 operate-requires : tie.Need-operate-requires
-operate-requires c κs = (c .before .before .before .before .before .before .before .before .before .before .before .before .pre, (c .before .before .before .before .before .before .before .before .before .if1 .left, omega (arith, c .before .before .before .before .before .before .before .if2 .left), omega (arith, c .before .before .before .before .before .before .before .if2 .left)))
+operate-requires c κs = (c .before .before .before .before .before .before .before .before .before .before .before .before .pre .0, (c .before .before .before .before .before .before .before .before .before .if1 .left, omega (arith, c .before .before .before .before .before .before .before .if2 .left), omega (arith, c .before .before .before .before .before .before .before .if2 .left), c .before .before .before .before .before .before .before .before .before .before .before .before .pre .1))
 
 same-length : tie.Need-same-length
 same-length c = search needs
