@@ -61,6 +61,7 @@ fn play(
     let mut started = 1;
     places::clear(cells);
     counts[0] = 1;
+    // routine 0 has no parameter, so any line will do for the arguments
     frames::enter(numbers, handle[0], handle[1], 0, &mut values, 0, 1);
     steps::follow(
         numbers,
