@@ -12,8 +12,9 @@ use lib.Dec.{eqb}
 use lib.IntN.{ℤ}
 use lib.ListN.{length, getD, set}
 use lib.Seq.{set-out, set-getD, getD-set-same, getD-set-other}
-use Rattle.sets.specs.Set.{has, union, minus, isSingle}
-use Rattle.sets.specs.SetLaws.{has-union-left, has-union-right, union-cases}
+use Rattle.sets.specs.Set.{has, union, minus, isSingle, one, only}
+use Rattle.sets.specs.SetLaws.{has-union-left, has-union-right, union-cases, only-is, only-when, only-unless}
+use Rattle.sets.specs.declared.Which.the-variants.{Element, Nothing}
 use Rattle.sets.specs.Least.{SetList, room, putInto}
 use Rattle.sets.specs.InsideLaws.{room-less}
 use Rattle.sets.specs.Rules.{put-length, put-grows, put-sets}
@@ -27,13 +28,21 @@ use Rattle.lockset.specs.Steps.{behind, Became, Turned}
 
 -- ---- the one lock of a flow set
 
-pub only-one : (s : ℕ) {b : Bool} → b ≡ isSingle s → b ≡ true → s ≡ onlyLock s
+pub only-lock-one : (s i : ℕ) → s < 2 ^ 64 → only s ≡ Element i → one i ≡ onlyLock s
 unfolding onlyLock
-only-one s e t = rw (sym e ∙ t)
+only-lock-one s i h e = go (isSingle s) refl
+  where
+    go : (b : Bool) → isSingle s ≡ b → one i ≡ onlyLock s
+    go true t = rw t (sym (only-is s i h e .1))
+    go false t = let q : only s ≡ Nothing = only-unless s t in absurd (let w : _≡_ {A = ℕ} 0 1 = cc in omega arith)
 
-pub only-none : (s : ℕ) {b : Bool} → b ≡ isSingle s → b ≡ false → 0 ≡ onlyLock s
+pub only-lock-none : (s : ℕ) → only s ≡ Nothing → _≡_ {A = ℕ} 0 (onlyLock s)
 unfolding onlyLock
-only-none s e t = rw (sym e ∙ t)
+only-lock-none s e = go (isSingle s) refl
+  where
+    go : (b : Bool) → isSingle s ≡ b → _≡_ {A = ℕ} 0 (onlyLock s)
+    go true t = let q = only-when s t in absurd (let w : _≡_ {A = ℕ} 0 1 = cc in omega arith)
+    go false t = rw t
 
 -- ---- the number of an operation, by what it is not
 

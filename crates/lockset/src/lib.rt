@@ -16,6 +16,7 @@ ghost use Rattle.report.specs.Layout.{oneEach};
 ghost use Rattle.report.specs.Held.{onlyLock, heldSets};
 ghost use Rattle.lockset.specs.Steps.{Became, behind};
 ghost use Rattle.lockset.specs.Rules.{setting, Small, Owns, Part, Rule, RulesIn, Closed, Kept, Moved, Solved};
+use sets::Which;
 
 // The set at place `i` of a list; the empty set past the end.
 fn set_at(list: &[u64], i: usize) -> u64
@@ -42,7 +43,10 @@ fn held_at(out: &[u64], all: u64, p: usize) -> u64
 fn only_lock(flow: u64) -> u64
     ensures { λ r. ⌜ r ≡ onlyLock flow ⌝ }
 {
-    if sets::is_single(flow) { flow } else { 0 }
+    match sets::only(flow) {
+        Which::Element(i) => sets::one(i),
+        Which::Nothing => 0,
+    }
 }
 
 // What is held behind statement `s` in line `line`, whose operation is number `op`. `back` has for each routine what its RETURNs leave out.

@@ -1,20 +1,28 @@
 -- `lockset::only_lock` meets its contract. Assumes nothing.
+use mathlib.Core.Path.{sym, _∙_}
+use Rattle.lockset.proofs.StepLaws.{only-lock-one, only-lock-none}
 use borrow.Author.Needs.{needs}
-use Rattle.lockset.proofs.StepLaws.{only-one, only-none}
 use Rattle.lockset.proofs.only_lock.Statement.{statement}
 use Rattle.lockset.proofs.only_lock.Tie as tie
 
--- src/lib.rt:45:8
-is-single-requires : tie.Need-is-single-requires
-is-single-requires c κs = search needs
+only-requires : tie.Need-only-requires
+only-requires c κs = search needs
 
--- src/lib.rt:42:1
+enum-known-i : tie.Need-enum-known-i
+enum-known-i c = search needs
+
+one-requires : tie.Need-one-requires
+one-requires c κs = search needs
+
+enum-told : tie.Need-enum-told
+enum-told c = search needs
+
 returns : tie.Need-returns
-returns c = only-one _ (c .before .is-single .ensures) (c .if1 .taken)
+returns c = c .one .ensures ∙ only-lock-one _ _ (c .before .before .before .before .before .fits .flow .fits) (sym (c .before .before .before .before .only .ensures) ∙ c .before .before .i .given .1)
 
--- src/lib.rt:42:1
 returns-2 : tie.Need-returns-2
-returns-2 c = only-none _ (c .before .is-single .ensures) (c .if1 .left)
+returns-2 c = only-lock-none _ (sym (c .before .before .only .ensures) ∙ c .enum-told .given .1)
 
 pub only-lock-spec : {M : Type 1} → statement M
-only-lock-spec = tie.close (tie.spec is-single-requires returns returns-2)
+only-lock-spec =
+    tie.close (tie.spec only-requires enum-known-i one-requires enum-told returns returns-2)
