@@ -6,5 +6,3 @@ pub mod Line
 pub mod LineLoops
 pub mod FieldLaws
 pub mod LineLaws
-pub mod Print
-pub mod PrintLoops

@@ -3,7 +3,7 @@ use libc::STDOUT_FILENO;
 use lines::Field;
 use lines::FirstBad;
 use lines::Form;
-use lines::Printed;
+use line_printer::Printed;
 
 fn say(text: &[u8]) {
     io::write_all(STDOUT_FILENO, text);
@@ -12,7 +12,7 @@ fn say(text: &[u8]) {
 // Eight numbers as a printed line.
 fn show_numbers(numbers: [i32; 8]) {
     let mut out = [b'?'; 49];
-    lines::print_line(&mut out, 0, numbers);
+    line_printer::print_line(&mut out, 0, numbers);
     say(&out);
 }
 
@@ -58,7 +58,7 @@ fn show_page(text: &[u8]) {
 // What printing into sixty dots from a place on answers and leaves.
 fn show_printed(at: usize, numbers: [i32; 8]) {
     let mut out = [b'.'; 60];
-    match lines::print_line(&mut out, at, numbers) {
+    match line_printer::print_line(&mut out, at, numbers) {
         Printed::Whole => say(b"whole "),
         Printed::NoRoom => say(b"no room "),
         Printed::NoField => say(b"no field "),

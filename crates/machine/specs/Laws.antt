@@ -1,20 +1,22 @@
--- What single steps do to locks and threads: document 01's refusals 14 to 17, and what START and RETURN leave. Assumes nothing.
-use Prim.Native.Nat.{ℕ, _+_, _≤_}
-use mathlib.Core.Path.{_≡_, refl}
+-- What single steps do to locks, threads and handles: document 01's refusals 14 to 17, and what TAKE, GIVE, POINT, START and RETURN leave. Assumes nothing.
+use Prim.Native.Nat.{ℕ, _+_, _≤_, _<_}
+use mathlib.Core.Path.{_≡_, refl, sym, _∙_}
 use mathlib.Core.Bool.{Bool, true, false, cond}
 use mathlib.Core.List.{List, [], _∷_}
 use lib.Dec.{ltb, eqb}
-use lib.IntN.{ℤ}
-use lib.ListN.{length, set, length-append, length-set}
-use borrow.Author.Tests.{le-ltb, ne-eqb}
+use lib.IntN.{ℤ, pos}
+use lib.ListN.{length, getD, set, length-append, length-set}
+use lib.Seq.{getD-set-same, getD-set-other, getD-at}
+use borrow.Author.Tests.{le-ltb, eq-eqb, ne-eqb}
 use native.Mathlib.Omega.{arith}
 use Rattle.table.specs.Table.{Table, statement}
 use Rattle.table.specs.declared.Arguments.{Arguments}
 use Rattle.table.specs.declared.Handle.{Handle}
 use Rattle.table.specs.declared.Statement.{Statement}
 use Rattle.table.specs.declared.Statement.the-variants.{Read, Write, Set, Add, Take, Give, Point, Call, Start, Jump, JumpZero, Return}
-use Rattle.machine.specs.State.{State, Frame, Holder, free, held, thread, holder, refers}
-use Rattle.machine.specs.Step.{Answer, moved, refused, taking, giving, goes-on, operate, stepped, step, after}
+use Rattle.machine.specs.State.{State, Frame, Thread, Holder, free, held, ended, thread, holder, refers, opened}
+use Rattle.machine.specs.Step.{Answer, moved, refused, taking, giving, going, pointing, goes-on, operate, stepped, step, after}
+use Rattle.machine.specs.Words.{Holds}
 
 -- 14: a thread number that is not started is refused
 pub not-started-refused : (t : Table) (state : State) (n : ℕ) → length (state .threads) ≤ n → step t state n ≡ refused 14
@@ -55,6 +57,47 @@ module _ (t : Table) (state : State) (n : ℕ) (a : ℤ) (f : Frame) (older : Li
       → length (after state (operate t state n a f older (Start r arguments)) .threads) ≡ length (state .threads) + 1
   unfolding operate
   start-adds-one r arguments = simp (length-append, length-set)
+
+  -- "A new thread has accumulator 0 and takes the next thread number", and it stands in the routine's first frame
+  pub start-begins : (r : ℕ) (arguments : Arguments)
+      → thread (after state (operate t state n a f older (Start r arguments))) (length (state .threads))
+      ≡ record { accumulator = pos 0; frames = opened t r (f .values) arguments ∷ [] }
+  unfolding operate
+  start-begins r arguments =
+      getD-at (set (state .threads) n (record { accumulator = a; frames = going f (f .next + 1) ∷ older }))
+      (record { accumulator = pos 0; frames = opened t r (f .values) arguments ∷ [] }) [] ended (length (state .threads)) (length-set (state .threads) n _)
+
+  -- "closes the frame", and the accumulator is the thread's: a caller sees what the called routine left
+  pub return-keeps-accumulator : n < length (state .threads)
+      → thread (after state (operate t state n a f older Return)) n ≡ record { accumulator = a; frames = older }
+  unfolding operate
+  return-keeps-accumulator there = getD-set-same (state .threads) n (record { accumulator = a; frames = older }) ended there
+
+  -- POINT h g: "h refers to what g refers to", and every other handle to what it did
+  pub point-refers : (h g : Handle) → n < length (state .threads)
+      → thread (after state (operate t state n a f older (Point h g))) n
+      ≡ record { accumulator = a; frames = pointing (going f (f .next + 1)) (h .number) (refers f (g .number)) ∷ older }
+  unfolding operate
+  point-refers h g there =
+      getD-set-same (state .threads) n (record { accumulator = a; frames = pointing (going f (f .next + 1)) (h .number) (refers f (g .number)) ∷ older }) ended there
+
+  pub pointed-refers : (h x : ℕ) → h < length (f .values) → refers (pointing f h x) h ≡ x
+  pointed-refers h x there = getD-set-same (f .values) h x 0 there
+
+  pub others-refer : (h x other : ℕ) → (other ≡ h → ⊥) → refers (pointing f h x) other ≡ refers f other
+  others-refer h x other differ = getD-set-other (f .values) h other x 0 differ
+
+  -- a thread "holds a lock from the step by which it gets it": a free lock that is there
+  pub take-gets : (h : Handle) → holder state (refers f (h .number)) ≡ free → refers f (h .number) < length (state .locks)
+      → Holds (after state (operate t state n a f older (Take h))) n (refers f (h .number))
+  unfolding operate
+  take-gets h e there = rw e (getD-set-same (state .locks) (refers f (h .number)) (held n) free there)
+
+  -- "to the step by which it gives it up": nobody holds it then
+  pub give-frees : (h : Handle) → Holds state n (refers f (h .number)) → refers f (h .number) < length (state .locks)
+      → holder (after state (operate t state n a f older (Give h))) (refers f (h .number)) ≡ free
+  unfolding operate
+  give-frees h e there = rw (e, eq-eqb n n refl) (getD-set-same (state .locks) (refers f (h .number)) free free there)
 
   -- "An ended thread keeps its locks"
   pub return-keeps-locks : after state (operate t state n a f older Return) .locks ≡ state .locks

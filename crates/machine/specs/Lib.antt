@@ -5,4 +5,3 @@ pub mod Engine
 pub mod Notebook
 pub mod Laws
 pub mod EngineLaws
-pub mod Vectors

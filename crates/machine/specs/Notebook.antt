@@ -10,8 +10,8 @@ use Rattle.table.specs.Table.{Table}
 use Rattle.table.specs.Tabulate.{tabulateFrom, tabulate}
 use Rattle.table.specs.declared.Arguments.{Arguments}
 use Rattle.table.specs.declared.Statement.{Statement}
-use Rattle.table.specs.declared.Statement.the-variants.{Read, Write, Add, Take, Start, JumpZero, Return}
-use Rattle.machine.specs.State.{State, Frame, thread, start, opened, entered, free}
+use Rattle.table.specs.declared.Statement.the-variants.{Read, Write, Add, Take, Give, Start, JumpZero, Return}
+use Rattle.machine.specs.State.{State, Frame, thread, start, opened, entered, free, held}
 use Rattle.machine.specs.Step.{refused, wrap, step, after, run}
 use Rattle.machine.specs.Words.{Safe}
 
@@ -62,6 +62,11 @@ pub own-lock-stays-shut :
     step t (run t (start t) (0 ∷ [])) 0 ≡ refused 16
 unfolding alone run start opened entered tabulateFrom tabulate
 own-lock-stays-shut = refl
+
+-- (b) of demand 3 says something: a thread that stands before a GIVE of a free lock is not safe
+pub give-of-free-is-not-safe : let t = alone (Give (record { number = 0 }) ∷ Return ∷ Return ∷ []) in Safe t (start t) → ⊥
+unfolding alone start opened entered tabulateFrom tabulate
+give-of-free-is-not-safe safe = let held-by : free ≡ held 0 = safe .no-stray 0 0 refl in let z : _≡_ {A = ℕ} 0 1 = cc in omega arith
 
 -- ---- document 01's own table
 

@@ -1,7 +1,7 @@
 -- A case is a table as its lines and the report that it is to have. Assumes nothing.
 use Prim.Native.Nat.{ℕ}
 use mathlib.Core.List.{List, [], _∷_, _++_, map}
-use lib.IntN.{ℤ, pos, negsuc}
+use lib.IntN.{ℤ, pos}
 use lib.Count.{onesIn}
 use Rattle.sets.specs.Set.{has, firsts, one, union, inter, minus, subset, isEmpty, count, isSingle}
 use Rattle.sets.specs.Least.{same, room, settle, settled, putInto, along, passEdges, least}
@@ -30,10 +30,6 @@ pub record Case : Type 0 where
 -- a line of eight numbers
 abbrev pub row : ℕ → ℕ → ℕ → ℕ → ℕ → ℕ → ℕ → ℕ → List ℤ
 row a b c d e f g h = pos a ∷ pos b ∷ pos c ∷ pos d ∷ pos e ∷ pos f ∷ pos g ∷ pos h ∷ []
-
--- the line of SET or ADD with the number -(n + 1)
-abbrev pub negative : ℕ → ℕ → List ℤ
-negative operation n = pos 4 ∷ pos operation ∷ negsuc n ∷ pos 0 ∷ pos 0 ∷ pos 0 ∷ pos 0 ∷ pos 0 ∷ []
 
 abbrev pub inOneList : List (List ℤ) → List ℤ
 inOneList [] = []

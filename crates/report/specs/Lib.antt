@@ -12,7 +12,6 @@ pub mod Findings
 pub mod Report
 pub mod Cases
 pub mod Notebook
-pub mod Vectors
 pub mod Fits
 pub mod OverLaws
 pub mod GreatestLaws

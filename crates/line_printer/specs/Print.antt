@@ -5,8 +5,8 @@ use mathlib.Core.List.{List, _++_}
 use lib.Dec.{leb}
 use lib.IntN.{ℤ}
 use lib.ListN.{length, take, drop}
 use Rattle.lines.specs.Line.{allInField, lineText}
-use Rattle.lines.specs.declared.Printed as P
+use Rattle.line_printer.specs.declared.Printed as P
 
 -- a where the test passes, else b: for answers, and for bytes
 abbrev pub pickPrinted : Bool → P.Printed → P.Printed → P.Printed

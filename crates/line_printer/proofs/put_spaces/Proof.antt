@@ -1,11 +1,11 @@
--- `lines::put_spaces` meets its contract: the first i spaces are written. Assumes nothing.
+-- `line_printer::put_spaces` meets its contract: the first i spaces are written. Assumes nothing.
 use borrow.Author.Needs.{needs}
 use native.Mathlib.Omega.{arith}
 use Prim.Native.Nat.{_-_}
 use lib.ListN.{replicate}
-use Rattle.lines.specs.PrintLoops.{Copied, copied-start, copied-length, copied-done, spaces-next}
-use Rattle.lines.proofs.put_spaces.Statement.{statement}
-use Rattle.lines.proofs.put_spaces.Tie as tie
+use Rattle.line_printer.specs.PrintLoops.{Copied, copied-start, copied-length, copied-done, spaces-next}
+use Rattle.line_printer.proofs.put_spaces.Statement.{statement}
+use Rattle.line_printer.proofs.put_spaces.Tie as tie
 
 abbrev Inv-loop : tie.InvT-loop
 Inv-loop part₀ at i₀ part i = Copied part₀ at (replicate 6 32) 6 i part

@@ -1,4 +1,4 @@
--- `lines::all_in_range` meets its contract: the numbers before place i are in the range. Assumes nothing.
+-- `line_printer::all_in_range` meets its contract: the numbers before place i are in the range. Assumes nothing.
 use borrow.Author.Needs.{needs}
 use native.Mathlib.Omega.{arith}
 use mathlib.Core.Path.{_≡_, refl, ap, sym, _∙_}
@@ -7,11 +7,11 @@ use lib.ListN.{getD}
 use mir.Syntax.{w32}
 use mir.Facts.{toZ-ofZ}
 use borrow.Author.Tests.{not-true, not-false}
 use Rattle.lines.specs.Field.{inField}
 use Prim.Native.Nat.{_-_}
-use Rattle.lines.specs.PrintLoops.{InRange, range-next, range-stop, range-done}
-use Rattle.lines.proofs.all_in_range.Statement.{statement}
-use Rattle.lines.proofs.all_in_range.Tie as tie
+use Rattle.line_printer.specs.PrintLoops.{InRange, range-next, range-stop, range-done}
+use Rattle.line_printer.proofs.all_in_range.Statement.{statement}
+use Rattle.line_printer.proofs.all_in_range.Tie as tie
 
 abbrev Inv-loop : tie.InvT-loop
 Inv-loop numbers i₀ i = InRange numbers i

@@ -1,4 +1,4 @@
--- `lines::put_line` meets its contract: the fields of the first i numbers are written, the places behind stay. Assumes nothing.
+-- `line_printer::put_line` meets its contract: the fields of the first i numbers are written, the places behind stay. Assumes nothing.
 use borrow.Author.Needs.{needs}
 use native.Mathlib.Omega.{arith}
 use mathlib.Core.Path.{_≡_}
@@ -8,10 +8,10 @@ use lib.ListN.{getD, length-set}
 use mir.Syntax.{w32}
 use mir.Val.{toZ, ofZ}
 use mir.Facts.{toZ-ofZ}
 use Rattle.lines.specs.LineLaws.{all-at}
-use Rattle.lines.specs.PrintLoops.{Lining, lining-start, lining-next, lining-done}
-use Rattle.lines.proofs.put_line.Statement.{statement}
-use Rattle.lines.proofs.put_line.Tie as tie
+use Rattle.line_printer.specs.PrintLoops.{Lining, lining-start, lining-next, lining-done}
+use Rattle.line_printer.proofs.put_line.Statement.{statement}
+use Rattle.line_printer.proofs.put_line.Tie as tie
 
 abbrev Inv-loop : tie.InvT-loop
 Inv-loop part₀ numbers i₀ part i = Lining part₀ numbers i part

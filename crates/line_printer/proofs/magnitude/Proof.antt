@@ -1,4 +1,4 @@
--- `lines::magnitude` meets its contract: by the sign. Assumes nothing.
+-- `line_printer::magnitude` meets its contract: by the sign. Assumes nothing.
 use borrow.Author.Needs.{needs}
 use native.Mathlib.Omega.{arith}
 use mathlib.Core.Path.{_≡_, ap, _∙_}
@@ -8,9 +8,9 @@ use lib.Signed.{ltZ}
 use mir.Syntax.{w32}
 use mir.Val.{toZ, ofZ}
 use mir.Facts.{toZ-ofZ}
-use Rattle.lines.specs.PrintLoops.{abs-small, minus-abs, plus-abs}
-use Rattle.lines.proofs.magnitude.Statement.{statement}
-use Rattle.lines.proofs.magnitude.Tie as tie
+use Rattle.line_printer.specs.PrintLoops.{abs-small, minus-abs, plus-abs}
+use Rattle.line_printer.proofs.magnitude.Statement.{statement}
+use Rattle.line_printer.proofs.magnitude.Tie as tie
 
 sub-result : tie.Need-sub-result
 sub-result c =

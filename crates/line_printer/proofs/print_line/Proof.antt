@@ -1,15 +1,15 @@
--- `lines::print_line` meets its contract: each return is one case of the answer, and a whole line is the part put back.
+-- `line_printer::print_line` meets its contract: each return is one case of the answer, and a whole line is the part put back.
 -- Assumes nothing.
 use native.Mathlib.Omega.{arith}
 use mathlib.Core.Path.{_≡_, sym, _∙_}
 use mathlib.Core.Bool.{true}
 use denote.Ref.{now}
 use borrow.Author.Tests.{not-true, not-false}
 use Rattle.lines.specs.Line.{allInField}
-use Rattle.lines.specs.PrintLoops.{printed-no-field, printed-no-room, printed-whole}
+use Rattle.line_printer.specs.PrintLoops.{printed-no-field, printed-no-room, printed-whole}
 use borrow.Author.Needs.{needs}
-use Rattle.lines.proofs.print_line.Statement.{statement}
-use Rattle.lines.proofs.print_line.Tie as tie
+use Rattle.line_printer.proofs.print_line.Statement.{statement}
+use Rattle.line_printer.proofs.print_line.Tie as tie
 
 all-in-range-requires : tie.Need-all-in-range-requires
 all-in-range-requires c κs = search needs

@@ -1,10 +1,10 @@
--- `lines::in_range` meets its contract: each return is one side of the range. Assumes nothing.
+-- `line_printer::in_range` meets its contract: each return is one side of the range. Assumes nothing.
 use mathlib.Core.Path.{sym}
 use mir.Syntax.{w32}
 use mir.Facts.{toZ-ofZ}
-use Rattle.lines.specs.PrintLoops.{range-low, range-high, range-between}
-use Rattle.lines.proofs.in_range.Statement.{statement}
-use Rattle.lines.proofs.in_range.Tie as tie
+use Rattle.line_printer.specs.PrintLoops.{range-low, range-high, range-between}
+use Rattle.line_printer.proofs.in_range.Statement.{statement}
+use Rattle.line_printer.proofs.in_range.Tie as tie
 
 returns : tie.Need-returns
 returns c = sym (range-low (c .before .args .n) (rw (toZ-ofZ {w = w32} {z = c .before .args .n} (c .before .fits .n)) at (c .if1 .taken)))

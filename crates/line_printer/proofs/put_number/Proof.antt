@@ -1,4 +1,4 @@
--- `lines::put_number` meets its contract: the digits behind place k are written, spaces stand before. Assumes nothing.
+-- `line_printer::put_number` meets its contract: the digits behind place k are written, spaces stand before. Assumes nothing.
 use borrow.Author.Needs.{needs}
 use native.Mathlib.Omega.{arith}
 use mathlib.Core.Path.{_≡_, ap, _∙_}
@@ -11,10 +11,10 @@ use lib.Signed.{ltZ}
 use denote.Ref.{now}
 use mir.Syntax.{w32}
 use mir.Facts.{toZ-ofZ}
 use Rattle.lines.specs.Field.{fieldText}
-use Rattle.lines.specs.PrintLoops.{Writing, writing-start, writing-room, writing-length, writing-more, writing-next, writing-minus-room, writing-plus, writing-minus, paste-over, abs-small, abs-less}
-use Rattle.lines.proofs.put_number.Statement.{statement}
-use Rattle.lines.proofs.put_number.Tie as tie
+use Rattle.line_printer.specs.PrintLoops.{Writing, writing-start, writing-room, writing-length, writing-more, writing-next, writing-minus-room, writing-plus, writing-minus, paste-over, abs-small, abs-less}
+use Rattle.line_printer.proofs.put_number.Statement.{statement}
+use Rattle.line_printer.proofs.put_number.Tie as tie
 
 abbrev Inv-loop : tie.InvT-loop
 Inv-loop part₀ at n m₀ k₀ part m k = Writing part₀ at m₀ part m k
