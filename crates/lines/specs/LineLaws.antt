@@ -16,7 +16,7 @@ use Rattle.lines.specs.Field.{fieldOf, fieldText, inField}
 use Rattle.lines.specs.FieldLaws.{FieldIs, field-text-length, printed-field-reads-back, read-field-prints-back}
 use Rattle.lines.specs.Line.{fieldsOf, lineOf, lineText, lineAt, allInField, isSome, orZeros, goodLine, lineCount, firstBad, lineNumbers, numbersOf, pageAnswer, pageOf}
 use Rattle.lines.specs.LineLoops.{Joined, joined-some, end-some, fields-end, fields-cons, line-sized, numbers-sized, pieces-at, line-field}
-use Rattle.lines.specs.LowestLaws.{Lowest, none-all-good, some-lowest}
+use Rattle.lines.specs.LowestLaws.{Lowest, some-lowest}
 
 -- all in the range, one case each
 
@@ -46,10 +46,6 @@ pub all-at : (zs : List ℤ) (i : ℕ) → allInField zs ≡ true → inField (g
 all-at [] i h = refl
 all-at (z ∷ zs) zero h = all-head z zs h
 all-at (z ∷ zs) (suc i) h = all-at zs i (all-tail z zs h)
-
-pub in-field-mag : (z : ℤ) → inField z ≡ true → mag z < 1000000
-in-field-mag (pos n) h = ltb-true n 1000000 h
-in-field-mag (negsuc n) h = omega (arith, ltb-true n 99999 h)
 
 -- a line as text
 
@@ -133,10 +129,6 @@ pub number-at : (t : List ℕ) (i j : ℕ) → i < lineCount t → j < 8 → goo
 number-at t i j h l g =
     rw (number-of-line t i j h l, ← line-field t (49 * i) j l) (fields-at 8 j (lineAt t i) (lineNumbers (lineAt t i)) (good-line t i g) l)
 
--- where no line is bad, each is good
-pub no-bad-line : (t : List ℕ) → firstBad t ≡ none → (i : ℕ) → i < lineCount t → goodLine t i ≡ true
-no-bad-line t e i h = none-all-good (goodLine t) 0 (lineCount t) e i (omega arith) (omega arith)
-
 zeros-in-field : allInField (orZeros none) ≡ true
 unfolding allInField
 zeros-in-field = refl
@@ -171,10 +163,6 @@ bad-line t i g = bad-none (lineOf (lineAt t i)) g
 -- the first bad line is a line, it is bad, and those before it are good
 pub first-bad-line : (t : List ℕ) (i : ℕ) → firstBad t ≡ some i → Lowest (goodLine t) 0 (lineCount t) i
 first-bad-line t i e = some-lowest (goodLine t) 0 (lineCount t) i e
-
--- a text of n whole lines, 673 at most, has n lines
-pub line-count-whole : (t : List ℕ) (n : ℕ) → length t ≡ 49 * n → n ≤ 673 → lineCount t ≡ n
-line-count-whole t n e h = rw e (omega arith)
 
 pub page-good : (t : List ℕ) → firstBad t ≡ none → pageOf t ≡ pageAnswer none (numbersOf t)
 page-good t e = ap (λ (o : Option ℕ). pageAnswer o (numbersOf t)) e

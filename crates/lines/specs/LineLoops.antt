@@ -69,13 +69,6 @@ pub fields-cons : (k : ℕ) (bs : List ℕ) → fieldsOf (suc k) bs ≡ joined (
 unfolding fieldsOf
 fields-cons k bs = refl
 
-pub field-length : (cs : List ℕ) (z : ℤ) → fieldOf cs ≡ some z → length cs ≡ 6
-field-length cs z h = go (eqb (length cs) 6) refl
-  where
-    go : (b : Bool) → eqb (length cs) 6 ≡ b → length cs ≡ 6
-    go true e = eqb-true (length cs) 6 e
-    go false e = let u : _≡_ {A = ℕ} 0 1 = cc (field-short cs (eqb-false (length cs) 6 e)) in absurd (omega arith)
-
 -- the parts of a joined answer
 pub record Joined (o : Option ℤ) (p : Option (List ℤ)) (zs : List ℤ) : Type 0 where
   pub head : ℤ

@@ -1,9 +1,9 @@
 // Reads and prints fields, lines and pages, and writes what came out.
 use libc::STDOUT_FILENO;
+use line_printer::Printed;
 use lines::Field;
 use lines::FirstBad;
 use lines::Form;
-use line_printer::Printed;
 
 fn say(text: &[u8]) {
     io::write_all(STDOUT_FILENO, text);
