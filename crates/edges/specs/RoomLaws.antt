@@ -1,4 +1,4 @@
--- The edges of every question fit into lists of four places a statement: at most four a statement, and every number small. Assumes nothing.
+-- A list of four places a statement has room for the edges of every equation: at most four a statement, and every number small. Assumes nothing.
 use Prim.Native.Nat.{ℕ, zero, suc, _+_, _*_, _≤_, _<_}
 use mathlib.Core.Path.{sym, subst}
 use mathlib.Core.Bool.{Bool, true, false, not, cond}
@@ -8,6 +8,7 @@ use native.Mathlib.Nat.{mul-suc}
 use native.Mathlib.Omega.{arith}
 use lib.IntN.{ℤ}
 use lib.ListN.{length, getD, length-append}
+use Rattle.sets.specs.Least.{Edge}
 use Rattle.table.specs.Header.{statements}
 use Rattle.table.specs.Table.{Table, tableOf, routine, statement, passed, InRoutine}
 use Rattle.table.specs.Accepted.{Accepted, Operands, Passes, RoutineFacts}
@@ -16,14 +17,14 @@ use Rattle.table.specs.UntilLaws.{until-range}
 use Rattle.table.specs.declared.Arguments.{Arguments}
 use Rattle.table.specs.declared.Statement.{Statement}
 use Rattle.table.specs.declared.Statement.the-variants.{Read, Write, Set, Add, Take, Give, Point, Call, Start, Jump, JumpZero, Return}
-use Rattle.report.specs.Over.{joinedFrom, Edge}
+use Rattle.report.specs.Over.{joinedFrom}
 use Rattle.report.specs.OverLaws.{Within, joined-from, within-below}
 use Rattle.report.specs.Layout.{named, isIn, ownerOf, oneEach}
 use Rattle.report.specs.OneEach.{statement-below}
 use Rattle.report.specs.Operations.{nexts, byNaming}
 use Rattle.report.specs.Flow.{passing, flowEdges}
-use Rattle.dataflow.specs.Questions.{Question, Flow, Effects, Gives, Futures, edge, upEdges, nextEdges, callEdges, edgesAt, edgesFor}
-use Rattle.dataflow.specs.EdgeLaws.{Fit, Appended, Ready, ready}
+use Rattle.edges.specs.Equations.{Equation, Flow, Effects, Gives, Futures, edge, upEdges, nextEdges, callEdges, edgesAt, edgesFor}
+use Rattle.edges.specs.EdgeLaws.{Room, Appended, Ready, ready}
 
 -- at most m edges, and every number small
 record Few (m : ℕ) (es : List Edge) : Type 0 where
@@ -175,28 +176,25 @@ module _ (t : Table) (acc : Accepted t) where
         (few-both {m = 1} {n = 1} (edge (length (t .statements) + ownerOf t s) s ∷ []) _
         (few-one 0 (length (t .statements) + ownerOf t s) s (omega (arith, owner-small s, acc .statements-most)) (omega arith)) (few-call σ o))
 
-  -- ---- every question
+  -- ---- every equation
 
-  few-at : (q : Question) (s : ℕ) → s < length (t .statements) → Few 4 (edgesAt q t s)
+  few-at : (q : Equation) (s : ℕ) → s < length (t .statements) → Few 4 (edgesAt q t s)
   unfolding edgesAt
   few-at q s l = go q (acc .owner s l)
     where
-      go : (q : Question) → (r : ℕ) × (r < length (t .routines)) × InRoutine t r s → Few 4 (edgesAt q t s)
+      go : (q : Equation) → (r : ℕ) × (r < length (t .routines)) × InRoutine t r s → Few 4 (edgesAt q t s)
       go Flow o = few-flow (o .0) s (statement t s) (acc .operands (o .0) s (o .1) (o .2))
       go Effects o = few-more 4 (omega arith) (few-up true (ownerOf t s) (o .0) (statement t s) (acc .operands (o .0) s (o .1) (o .2)) (owner-small s))
       go Gives o = few-more 4 (omega arith) (few-up false (ownerOf t s) (o .0) (statement t s) (acc .operands (o .0) s (o .1) (o .2)) (owner-small s))
       go Futures o = few-future s (o .0) (omega (arith, acc .statements-most)) (o .1) (statement t s) (acc .operands (o .0) s (o .1) (o .2))
 
-  edges-fit : (q : Question) (a b : ℕ) → 4 * length (t .statements) ≤ a → 4 * length (t .statements) ≤ b → Fit a b (edgesFor q t)
+  edges-room : (q : Equation) (a : ℕ) → 4 * length (t .statements) ≤ a → Room a (edgesFor q t)
   unfolding edgesFor
-  edges-fit q a b p r =
+  edges-room q a p =
       let all = few-joined 4 0 (length (t .statements)) (edgesAt q t) (λ s w. few-at q s (within-below w)) in
-      record { from-room = omega (arith, all .few); to-room = omega (arith, all .few); small = all .small }
+      record { room = omega (arith, all .few); small = all .small }
 
--- so lists with that much room hold a question's edges, whatever stood in them before
-pub ready-for : (q : Question) (f : List ℤ) → Accepted (tableOf f) → {from to from′ to′ : List ℕ} {n : ℕ}
-    → (4 * statements f ≤ length from) × (4 * statements f ≤ length to) → Appended from to 0 from′ to′ n (edgesFor q (tableOf f))
-    → Ready from′ to′ n (edgesFor q (tableOf f))
-ready-for q f acc {from} {to} room h =
-    ready h
-    (edges-fit (tableOf f) acc q (length from) (length to) (omega (arith, statements-length f, room .0)) (omega (arith, statements-length f, room .1)))
+-- so a list with that much room holds an equation's edges, whatever stood in it before
+pub ready-for : (q : Equation) (f : List ℤ) → Accepted (tableOf f) → {edges edges′ : List ℕ} {n : ℕ} → 4 * statements f ≤ length edges
+    → Appended edges 0 edges′ n (edgesFor q (tableOf f)) → Ready edges′ n (edgesFor q (tableOf f))
+ready-for q f acc {edges} room h = ready h (edges-room (tableOf f) acc q (length edges) (omega (arith, statements-length f)))

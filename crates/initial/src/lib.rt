@@ -1,22 +1,19 @@
-// The sets that a question begins with.
+// The sets that each dataflow equation begins with, in lists that the caller lends.
 ghost use mathlib.Core.Path.{_≡_};
 ghost use Prim.Native.Nat.{_<_, _≤_};
 ghost use lib.ListN.{length};
 ghost use Rattle.table.specs.Header.{handles, routines, statements};
 ghost use Rattle.table.specs.Table.{tableOf, statement};
 ghost use Rattle.table.specs.Tabulate.{tabulate};
-ghost use Rattle.table.specs.LayoutLaws.{Laid};
+ghost use Rattle.table.specs.Layout.{firstStatements};
 ghost use Rattle.table.specs.Accepted.{Accepted};
 ghost use Rattle.report.specs.Flow.{startOf};
-ghost use Rattle.dataflow.specs.Questions.{operationOf, ownSet, inRoutine, effectAt, nextsEffect, futureStart};
-ghost use Rattle.dataflow.specs.LineLaws.{Lined};
-ghost use Rattle.dataflow.specs.RoutineLaws.{Firsts};
-use crate::parts::entry_at;
-use crate::parts::first_line;
-use crate::parts::set_at;
+ghost use Rattle.edges.specs.Equations.{operationOf, ownSet, inRoutine, effectAt, nextsEffect, futureInitial};
+ghost use Rattle.edges.specs.LineLaws.{Lined};
+use edges::first_line;
 
 // What the set of handle `h` begins with: a local's start.
-fn flow_start(numbers: &[i32], h: usize) -> u64
+fn flow_initial(numbers: &[i32], h: usize) -> u64
     requires { ⌜ (h < handles (now numbers)) × (handles (now numbers) ≤ 128) ⌝ }
     ensures { λ r. ⌜ r ≡ startOf (tableOf (now (numbers .entry))) h ⌝ }
 {
@@ -29,12 +26,13 @@ fn flow_start(numbers: &[i32], h: usize) -> u64
 
 // Fills the list with what the flow sets begin with.
 pub fn fill_flow(numbers: &[i32], out: &mut [u64])
-    requires { ⌜ (length (now out) ≡ handles (now numbers)) × (handles (now numbers) ≤ 128) ⌝ }
+    requires { ⌜ Accepted (tableOf (now numbers)) ⌝ }
+    requires { ⌜ length (now out) ≡ handles (now numbers) ⌝ }
     ensures { λ _. ⌜ now (out .exit) ≡ tabulate (length (now (out .entry))) (startOf (tableOf (now (numbers .entry)))) ⌝ }
 {
     let mut h = 0;
     while h < out.len() {
-        out[h] = flow_start(numbers, h);
+        out[h] = flow_initial(numbers, h);
         h += 1;
     }
 }
@@ -56,7 +54,7 @@ fn own_set(numbers: &[i32], base: usize, flow: &[u64], locks: bool, writes: bool
 {
     let line = base + s;
     if table::field_of(numbers, line, 1) == operation_of(locks, writes) {
-        return set_at(flow, table::field_of(numbers, line, 2));
+        return lists::set_at(flow, table::field_of(numbers, line, 2));
     }
     0
 }
@@ -71,13 +69,13 @@ fn in_routine(
     writes: bool,
     r: usize,
 ) -> u64
-    requires { ⌜ Firsts (now numbers) (now first) ⌝ }
+    requires { ⌜ now first ≡ firstStatements (now numbers) ⌝ }
     requires { ⌜ Accepted (tableOf (now numbers)) ⌝ }
     requires { ⌜ Lined (now numbers) base × (r < routines (now numbers)) ⌝ }
     ensures { λ x. ⌜ x ≡ inRoutine locks writes (now (flow .entry)) (tableOf (now (numbers .entry))) r ⌝ }
 {
-    let begin = entry_at(first, r);
-    let mut s = entry_at(first, r + 1);
+    let begin = lists::number_at(first, r);
+    let mut s = lists::number_at(first, r + 1);
     let mut all = 0u64;
     while begin < s {
         s -= 1;
@@ -90,14 +88,12 @@ fn in_routine(
 pub fn fill_own(
     numbers: &[i32],
     first: &[usize],
-    handle: &[usize],
-    counts: &[usize],
     flow: &[u64],
     locks: bool,
     writes: bool,
     out: &mut [u64],
 )
-    requires { ⌜ Laid (now numbers) (now first) (now handle) (now counts) ⌝ }
+    requires { ⌜ now first ≡ firstStatements (now numbers) ⌝ }
     requires { ⌜ Accepted (tableOf (now numbers)) ⌝ }
     requires { ⌜ length (now out) ≡ routines (now numbers) ⌝ }
     ensures { λ _. ⌜ now (out .exit) ≡ tabulate (length (now (out .entry))) (inRoutine locks writes (now (flow .entry)) (tableOf (now (numbers .entry)))) ⌝ }
@@ -129,13 +125,13 @@ fn effect_at(
     let line = base + s;
     let operation = table::field_of(numbers, line, 1);
     if operation == operation_of(false, writes) {
-        return set_at(flow, table::field_of(numbers, line, 2));
+        return lists::set_at(flow, table::field_of(numbers, line, 2));
     }
     if operation < 8 {
         return 0;
     }
     if operation < 10 {
-        return set_at(effect, table::field_of(numbers, line, 2));
+        return lists::set_at(effect, table::field_of(numbers, line, 2));
     }
     0
 }
@@ -176,7 +172,7 @@ fn nexts_effect(
 }
 
 // What the future at place `p` begins with: the effects of what may come next, and nothing behind the last statement.
-fn future_start(
+fn future_initial(
     numbers: &[i32],
     base: usize,
     end: usize,
@@ -186,7 +182,7 @@ fn future_start(
     p: usize,
 ) -> u64
     requires { ⌜ Lined (now numbers) base × (end ≡ statements (now numbers)) ⌝ }
-    ensures { λ r. ⌜ r ≡ futureStart writes (now (flow .entry)) (now (effect .entry)) (tableOf (now (numbers .entry))) p ⌝ }
+    ensures { λ r. ⌜ r ≡ futureInitial writes (now (flow .entry)) (now (effect .entry)) (tableOf (now (numbers .entry))) p ⌝ }
 {
     if p < end {
         return nexts_effect(numbers, base, end, flow, effect, writes, p);
@@ -197,22 +193,19 @@ fn future_start(
 // Fills the list with what futures begin with.
 pub fn fill_future(
     numbers: &[i32],
-    first: &[usize],
-    handle: &[usize],
-    counts: &[usize],
     flow: &[u64],
     effect: &[u64],
     writes: bool,
     out: &mut [u64],
 )
-    requires { ⌜ Laid (now numbers) (now first) (now handle) (now counts) ⌝ }
-    ensures { λ _. ⌜ now (out .exit) ≡ tabulate (length (now (out .entry))) (futureStart writes (now (flow .entry)) (now (effect .entry)) (tableOf (now (numbers .entry)))) ⌝ }
+    requires { ⌜ Accepted (tableOf (now numbers)) ⌝ }
+    ensures { λ _. ⌜ now (out .exit) ≡ tabulate (length (now (out .entry))) (futureInitial writes (now (flow .entry)) (now (effect .entry)) (tableOf (now (numbers .entry)))) ⌝ }
 {
     let base = first_line(numbers);
     let end = table::field_of(numbers, 0, 5);
     let mut p = 0;
     while p < out.len() {
-        out[p] = future_start(numbers, base, end, flow, effect, writes, p);
+        out[p] = future_initial(numbers, base, end, flow, effect, writes, p);
         p += 1;
     }
 }

@@ -1,36 +1,40 @@
--- What the fields of a statement's line say to each question. Assumes nothing.
+-- What the fields of a statement's line say of the edges of each equation. Assumes nothing.
 use Prim.Native.Nat.{ℕ, zero, suc, _+_, _≤_, _<_}
 use mathlib.Core.Path.{_≡_, refl, sym, ap, ap₂, _∙_, subst}
 use mathlib.Core.Bool.{Bool, true, false, cond}
 use mathlib.Core.List.{List, [], _∷_, _++_}
 use native.Mathlib.Omega.{arith}
-use lib.Bits.{or-zero-r}
 use lib.IntN.{ℤ}
-use borrow.Author.Tests.{ne-eqb, lt-ltb, le-ltb}
-use lib.ListN.{length, getD, List·getD-eq-default}
-use Rattle.sets.specs.Set.{one, union}
+use lib.ListN.{length, getD}
+use Rattle.sets.specs.Least.{Edge}
 use Rattle.table.specs.Fields.{number, field}
-use Rattle.table.specs.Header.{handles, routines, statements}
+use Rattle.table.specs.Header.{handles, routines, statements, statementLine}
 use Rattle.table.specs.Table.{Table, tableOf, routine, statement, passed, InRoutine, argumentsIn, statementIn}
 use Rattle.table.specs.Accepted.{Accepted, Operands}
-use Rattle.table.specs.LookupLaws.{routines-length, statements-length, declaration-says}
+use Rattle.table.specs.LookupLaws.{handles-length, routines-length, statements-length}
 use Rattle.table.specs.OperationLaws.{statement-in, by-operation as by-any-operation}
 use Rattle.table.specs.declared.Statement.{Statement}
 use Rattle.table.specs.declared.Statement.the-variants.{Read, Write, Set, Add, Take, Give, Point, Call, Start, Jump, JumpZero, Return}
-use Rattle.report.specs.Over.{joinedFrom, unionAt, Edge}
+use Rattle.report.specs.Over.{joinedFrom}
 use Rattle.report.specs.OverLaws.{within-below}
 use Rattle.report.specs.Layout.{named, ownerOf, oneEach}
-use Rattle.report.specs.Operations.{nexts, byNaming, accessed, given}
-use Rattle.report.specs.Flow.{startOf, passing, flowEdges}
-use Rattle.dataflow.specs.Questions.{Question, Futures, upwards, edge, edgesAt, edgesFor, upEdges, nextEdges, callEdges, operationOf, ownSet, effectAt, nextsEffect, futureStart}
-use Rattle.dataflow.specs.EdgeLaws.{Appended, appended-same, Growing, growing-done}
-use Rattle.dataflow.specs.AnswerLaws.{joined-same}
+use Rattle.report.specs.Operations.{nexts, byNaming}
+use Rattle.report.specs.Flow.{passing, flowEdges}
+use Rattle.edges.specs.Equations.{Equation, Futures, upwards, edge, edgesAt, edgesFor, upEdges, nextEdges, callEdges}
+use Rattle.edges.specs.EdgeLaws.{Appended, appended-same, joined-same, Growing, growing-done}
 
 -- `base` is the line of statement 0, and there are few lines
 pub record Lined (f : List ℤ) (base : ℕ) : Type 0 where
   pub is : base ≡ 1 + handles f + routines f
   pub small : base ≤ 161
   pub few : statements f ≤ 512
+
+pub lined : (f : List ℤ) {base : ℕ} → Accepted (tableOf f) → base ≡ statementLine f 0 → Lined f base
+lined f acc e = record {
+  is = omega arith;
+  small = omega (arith, acc .handles-most, acc .routines-most, handles-length f, routines-length f);
+  few = omega (arith, acc .statements-most, statements-length f);
+}
 
 -- the edges from the arguments in a line to `count` parameters from `begin` on
 unfoldable pub passingFrom : List ℤ → ℕ → ℕ → ℕ → List Edge
@@ -77,24 +81,24 @@ by-operation f line P a b c d e g h i j k l none rest (suc (suc (suc (suc (suc (
     subst (P (suc (suc (suc (suc (suc (suc (suc (suc (suc (suc (suc (suc n))))))))))))) (sym (return-from f line (suc (suc (suc (suc (suc (suc (suc (suc (suc (suc (suc (suc n)))))))))))) big)) (rest (suc (suc (suc (suc (suc (suc (suc (suc (suc (suc (suc (suc n)))))))))))) big)
 
 module _ (f : List ℤ) (base : ℕ) (lined : Lined f base) (s : ℕ) (b : s < statements f) where
-  abbrev t : Table
+  abbrev pub t : Table
   t = tableOf f
 
-  abbrev line : ℕ
+  abbrev pub line : ℕ
   line = base + s
 
-  abbrev op : ℕ
+  abbrev pub op : ℕ
   op = field f line 1
 
   -- statement s is what its line says
   says : statementIn f line op ≡ statement t s
   says = sym (subst (λ (k : ℕ). statement t s ≡ statementIn f (k + s) (field f (k + s) 1)) (sym (lined .is)) (statement-in f s b))
 
-  said : (k : ℕ) → op ≡ k → statementIn f line k ≡ statement t s
+  pub said : (k : ℕ) → op ≡ k → statementIn f line k ≡ statement t s
   said k e = ap (statementIn f line) (sym e) ∙ says
 
   -- what holds of each operation with the statement that it says, holds of statement s
-  here : (P : ℕ → Statement → Type 0)
+  pub here : (P : ℕ → Statement → Type 0)
       → P 1 (Read (record { number = field f line 2 }))
       → P 2 (Write (record { number = field f line 2 }))
       → P 3 (Set (number f line 2))
@@ -199,142 +203,6 @@ module _ (f : List ℤ) (base : ℕ) (lined : Lined f base) (s : ℕ) (b : s < s
       here (λ k σ. (k ≡ 8 → ⊥) → [] ≡ callEdges end s σ) (λ p. refl) (λ p. refl) (λ p. refl) (λ p. refl) (λ p. refl) (λ p. refl) (λ p. refl)
       (λ p. absurd (p refl)) (λ p. refl) (λ p. refl) (λ p. refl) (λ p. refl) (λ k l p. refl)
 
-  -- ---- what a statement itself does
-
-  module _ (flow : List ℕ) where
-    own-gives : (w : Bool) → op ≡ 6 → getD flow (field f line 2) 0 ≡ ownSet true w flow (statement t s)
-    unfolding ownSet given statementIn
-    own-gives w e = ap {B = ℕ} (ownSet true w flow) (said 6 e)
-
-    own-no-gives : (w : Bool) → (op ≡ 6 → ⊥) → 0 ≡ ownSet true w flow (statement t s)
-    unfolding ownSet given
-    own-no-gives w =
-        here (λ k σ. (k ≡ 6 → ⊥) → 0 ≡ ownSet true w flow σ) (λ p. refl) (λ p. refl) (λ p. refl) (λ p. refl) (λ p. refl) (λ p. absurd (p refl))
-        (λ p. refl) (λ p. refl) (λ p. refl) (λ p. refl) (λ p. refl) (λ p. refl) (λ k l p. refl)
-
-    own-writes : op ≡ 2 → getD flow (field f line 2) 0 ≡ ownSet false true flow (statement t s)
-    unfolding ownSet accessed statementIn
-    own-writes e = ap {B = ℕ} (ownSet false true flow) (said 2 e)
-
-    own-no-writes : (op ≡ 2 → ⊥) → 0 ≡ ownSet false true flow (statement t s)
-    unfolding ownSet accessed
-    own-no-writes =
-        here (λ k σ. (k ≡ 2 → ⊥) → 0 ≡ ownSet false true flow σ) (λ p. refl) (λ p. absurd (p refl)) (λ p. refl) (λ p. refl) (λ p. refl) (λ p. refl)
-        (λ p. refl) (λ p. refl) (λ p. refl) (λ p. refl) (λ p. refl) (λ p. refl) (λ k l p. refl)
-
-    own-reads : op ≡ 1 → getD flow (field f line 2) 0 ≡ ownSet false false flow (statement t s)
-    unfolding ownSet accessed statementIn
-    own-reads e = ap {B = ℕ} (ownSet false false flow) (said 1 e)
-
-    own-no-reads : (op ≡ 1 → ⊥) → 0 ≡ ownSet false false flow (statement t s)
-    unfolding ownSet accessed
-    own-no-reads =
-        here (λ k σ. (k ≡ 1 → ⊥) → 0 ≡ ownSet false false flow σ) (λ p. absurd (p refl)) (λ p. refl) (λ p. refl) (λ p. refl) (λ p. refl) (λ p. refl)
-        (λ p. refl) (λ p. refl) (λ p. refl) (λ p. refl) (λ p. refl) (λ p. refl) (λ k l p. refl)
-
-    pub own-is : (locks w : Bool) → op ≡ operationOf locks w → getD flow (field f line 2) 0 ≡ ownSet locks w flow (statement t s)
-    unfolding operationOf
-    own-is true w e = own-gives w e
-    own-is false true e = own-writes e
-    own-is false false e = own-reads e
-
-    pub own-none : (locks w : Bool) → (op ≡ operationOf locks w → ⊥) → 0 ≡ ownSet locks w flow (statement t s)
-    unfolding operationOf
-    own-none true w e = own-no-gives w e
-    own-none false true e = own-no-writes e
-    own-none false false e = own-no-reads e
-
-    module _ (effect : List ℕ) where
-      effect-writes : op ≡ 2 → getD flow (field f line 2) 0 ≡ accessed true (λ (h : ℕ). getD flow h 0) (getD effect (named (statement t s)) 0) (statement t s)
-      unfolding accessed named statementIn
-      effect-writes e = ap {B = ℕ} (λ (σ : Statement). accessed true (λ (h : ℕ). getD flow h 0) (getD effect (named σ) 0) σ) (said 2 e)
-
-      effect-no-writes : (op ≡ 2 → ⊥) → op < 8 → 0 ≡ accessed true (λ (h : ℕ). getD flow h 0) (getD effect (named (statement t s)) 0) (statement t s)
-      unfolding accessed named
-      effect-no-writes =
-          here (λ k σ. (k ≡ 2 → ⊥) → k < 8 → 0 ≡ accessed true (λ (h : ℕ). getD flow h 0) (getD effect (named σ) 0) σ) (λ p q. refl)
-          (λ p q. absurd (p refl)) (λ p q. refl) (λ p q. refl) (λ p q. refl) (λ p q. refl) (λ p q. refl) (λ p q. absurd (omega arith))
-          (λ p q. absurd (omega arith)) (λ p q. absurd (omega arith)) (λ p q. absurd (omega arith)) (λ p q. refl) (λ k l p q. absurd (omega arith))
-
-      effect-reads : op ≡ 1 → getD flow (field f line 2) 0 ≡ accessed false (λ (h : ℕ). getD flow h 0) (getD effect (named (statement t s)) 0) (statement t s)
-      unfolding accessed named statementIn
-      effect-reads e = ap {B = ℕ} (λ (σ : Statement). accessed false (λ (h : ℕ). getD flow h 0) (getD effect (named σ) 0) σ) (said 1 e)
-
-      effect-no-reads : (op ≡ 1 → ⊥) → op < 8 → 0 ≡ accessed false (λ (h : ℕ). getD flow h 0) (getD effect (named (statement t s)) 0) (statement t s)
-      unfolding accessed named
-      effect-no-reads =
-          here (λ k σ. (k ≡ 1 → ⊥) → k < 8 → 0 ≡ accessed false (λ (h : ℕ). getD flow h 0) (getD effect (named σ) 0) σ) (λ p q. absurd (p refl))
-          (λ p q. refl) (λ p q. refl) (λ p q. refl) (λ p q. refl) (λ p q. refl) (λ p q. refl) (λ p q. absurd (omega arith))
-          (λ p q. absurd (omega arith)) (λ p q. absurd (omega arith)) (λ p q. absurd (omega arith)) (λ p q. refl) (λ k l p q. absurd (omega arith))
-
-      pub effect-own : (w : Bool) → op ≡ operationOf false w → getD flow (field f line 2) 0 ≡ effectAt w flow effect t s
-      unfolding operationOf effectAt
-      effect-own true e = effect-writes e
-      effect-own false e = effect-reads e
-
-      pub effect-none : (w : Bool) → (op ≡ operationOf false w → ⊥) → op < 8 → 0 ≡ effectAt w flow effect t s
-      unfolding operationOf effectAt
-      effect-none true e l = effect-no-writes e l
-      effect-none false e l = effect-no-reads e l
-
-      pub effect-named : (w : Bool) → 8 ≤ op → op < 10 → getD effect (field f line 2) 0 ≡ effectAt w flow effect t s
-      unfolding effectAt accessed named
-      effect-named w =
-          here (λ k σ. 8 ≤ k → k < 10 → getD effect (field f line 2) 0 ≡ accessed w (λ (h : ℕ). getD flow h 0) (getD effect (named σ) 0) σ)
-          (λ p q. absurd (omega arith)) (λ p q. absurd (omega arith)) (λ p q. absurd (omega arith)) (λ p q. absurd (omega arith))
-          (λ p q. absurd (omega arith)) (λ p q. absurd (omega arith)) (λ p q. absurd (omega arith)) (λ p q. refl) (λ p q. refl)
-          (λ p q. absurd (omega arith)) (λ p q. absurd (omega arith)) (λ p q. absurd (omega arith)) (λ k l p q. absurd (omega arith))
-
-      pub effect-after : (w : Bool) → 10 ≤ op → 0 ≡ effectAt w flow effect t s
-      unfolding effectAt accessed named
-      effect-after w =
-          here (λ k σ. 10 ≤ k → 0 ≡ accessed w (λ (h : ℕ). getD flow h 0) (getD effect (named σ) 0) σ) (λ p. absurd (omega arith))
-          (λ p. absurd (omega arith)) (λ p. absurd (omega arith)) (λ p. absurd (omega arith)) (λ p. absurd (omega arith)) (λ p. absurd (omega arith))
-          (λ p. absurd (omega arith)) (λ p. absurd (omega arith)) (λ p. absurd (omega arith)) (λ p. refl) (λ p. refl) (λ p. absurd (omega arith))
-          (λ k l p. refl)
-
-  -- ---- the effects of what may come next
-
-  module _ (w : Bool) (flow effect : List ℕ) where
-    abbrev g : ℕ → ℕ
-    g = effectAt w flow effect t
-
-    alone : (x : ℕ) → x ≡ union x 0
-    unfolding union
-    alone x = sym (or-zero-r x)
-
-    pub later-no-operation : op ≡ 0 → 0 ≡ unionAt (nexts s (statement t s)) g
-    unfolding unionAt nexts statementIn
-    later-no-operation e = ap {B = ℕ} (λ (σ : Statement). unionAt (nexts s σ) g) (said 0 e)
-
-    pub later-next : (op ≡ 0 → ⊥) → op < 10 → g (s + 1) ≡ unionAt (nexts s (statement t s)) g
-    unfolding unionAt nexts
-    later-next =
-        here (λ k σ. (k ≡ 0 → ⊥) → k < 10 → g (s + 1) ≡ unionAt (nexts s σ) g) (λ p q. alone (g (s + 1))) (λ p q. alone (g (s + 1)))
-        (λ p q. alone (g (s + 1))) (λ p q. alone (g (s + 1))) (λ p q. alone (g (s + 1))) (λ p q. alone (g (s + 1))) (λ p q. alone (g (s + 1)))
-        (λ p q. alone (g (s + 1))) (λ p q. alone (g (s + 1))) (λ p q. absurd (omega arith)) (λ p q. absurd (omega arith)) (λ p q. absurd (p refl))
-        (λ k l p q. absurd (omega arith))
-
-    pub later-return : 11 < op → 0 ≡ unionAt (nexts s (statement t s)) g
-    unfolding unionAt nexts
-    later-return =
-        here (λ k σ. 11 < k → 0 ≡ unionAt (nexts s σ) g) (λ p. absurd (omega arith)) (λ p. absurd (omega arith)) (λ p. absurd (omega arith))
-        (λ p. absurd (omega arith)) (λ p. absurd (omega arith)) (λ p. absurd (omega arith)) (λ p. absurd (omega arith)) (λ p. absurd (omega arith))
-        (λ p. absurd (omega arith)) (λ p. absurd (omega arith)) (λ p. absurd (omega arith)) (λ p. absurd (omega arith)) (λ k l p. refl)
-
-    pub later-jump : op ≡ 10 → g (field f line 2) ≡ unionAt (nexts s (statement t s)) g
-    unfolding unionAt nexts statementIn
-    later-jump e = alone (g (field f line 2)) ∙ ap {B = ℕ} (λ (σ : Statement). unionAt (nexts s σ) g) (said 10 e)
-
-    pub later-both : 10 ≤ op → op ≤ 11 → (op ≡ 10 → ⊥) → union (g (field f line 2)) (g (s + 1)) ≡ unionAt (nexts s (statement t s)) g
-    unfolding unionAt nexts
-    later-both =
-        here (λ k σ. 10 ≤ k → k ≤ 11 → (k ≡ 10 → ⊥) → union (g (field f line 2)) (g (s + 1)) ≡ unionAt (nexts s σ) g) (λ p q r. absurd (omega arith))
-        (λ p q r. absurd (omega arith)) (λ p q r. absurd (omega arith)) (λ p q r. absurd (omega arith)) (λ p q r. absurd (omega arith))
-        (λ p q r. absurd (omega arith)) (λ p q r. absurd (omega arith)) (λ p q r. absurd (omega arith)) (λ p q r. absurd (omega arith))
-        (λ p q r. absurd (r refl)) (λ p q r. ap (union (g (field f line 2))) (alone (g (s + 1)))) (λ p q r. absurd (omega arith))
-        (λ k l p q r. absurd (omega arith))
-
   -- ---- the routine that is named is there
 
   named-there : (r : ℕ) → 7 ≤ op → (op ≡ 7 → ⊥) → op < 10 → Operands t r (statement t s) → field f line 2 < length (t .routines)
@@ -346,14 +214,6 @@ module _ (f : List ℤ) (base : ℕ) (lined : Lined f base) (s : ℕ) (b : s < s
       let o : (c : ℕ) × (c < length (t .routines)) × InRoutine t c s = acc .owner s (omega (arith, statements-length f)) in
       let l : field f line 2 < length (t .routines) = named-there (o .0) p q r (acc .operands (o .0) s (o .1) (o .2)) in
       omega (arith, routines-length f)
-
--- ---- past the last statement
-
-pub effect-past : (f : List ℤ) (w : Bool) (flow effect : List ℕ) (s : ℕ) → statements f ≤ s → 0 ≡ effectAt w flow effect (tableOf f) s
-unfolding effectAt accessed
-effect-past f w flow effect s l =
-    let e : statement (tableOf f) s ≡ Return = List·getD-eq-default (tableOf f .statements) Return (omega (arith, statements-length f)) in
-    rw e
 
 -- ---- arguments
 
@@ -390,30 +250,8 @@ future-at f s end c p q =
     (λ (x y : ℕ). nextEdges s (statement (tableOf f) s) ++ ((edge (x + y) s ∷ []) ++ callEdges x s (statement (tableOf f) s)))
     (p ∙ sym (statements-length f)) q
 
-pub every-edge : (q : Question) (f : List ℤ) {end : ℕ} {from to from′ to′ : List ℕ} {n i : ℕ} → end ≡ statements f
-    → Growing (edgesAt q (tableOf f)) end from to 0 from′ to′ n i → end ≤ i → Appended from to 0 from′ to′ n (edgesFor q (tableOf f))
+pub every-edge : (q : Equation) (f : List ℤ) {end : ℕ} {edges edges′ : List ℕ} {n i : ℕ} → end ≡ statements f
+    → Growing (edgesAt q (tableOf f)) end edges 0 edges′ n i → end ≤ i → Appended edges 0 edges′ n (edgesFor q (tableOf f))
 unfolding edgesFor
 every-edge q f e g l =
     appended-same _ _ (ap {B = List Edge} (λ (m : ℕ). joinedFrom 0 m (edgesAt q (tableOf f))) (e ∙ sym (statements-length f))) (growing-done g l)
-
--- ---- what a future begins with
-
-module _ (f : List ℤ) (w : Bool) (flow effect : List ℕ) (p : ℕ) where
-  pub future-inside : p < statements f → nextsEffect w flow effect (tableOf f) p ≡ futureStart w flow effect (tableOf f) p
-  unfolding futureStart
-  future-inside l = rw (lt-ltb p (length (tableOf f .statements)) (omega (arith, statements-length f)))
-
-  pub future-behind : statements f ≤ p → 0 ≡ futureStart w flow effect (tableOf f) p
-  unfolding futureStart
-  future-behind l = rw (le-ltb p (length (tableOf f .statements)) (omega (arith, statements-length f)))
-
--- ---- handles
-
-module _ (f : List ℤ) (h : ℕ) (b : h < handles f) where
-  pub start-local : field f (1 + h) 3 ≡ 1 → one (field f (1 + h) 4) ≡ startOf (tableOf f) h
-  unfolding startOf
-  start-local e = let says = declaration-says f h b in rw (says .origin, says .start, e)
-
-  pub start-parameter : (field f (1 + h) 3 ≡ 1 → ⊥) → 0 ≡ startOf (tableOf f) h
-  unfolding startOf
-  start-parameter e = let says = declaration-says f h b in rw (says .origin, ne-eqb (field f (1 + h) 3) 1 e)

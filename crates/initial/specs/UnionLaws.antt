@@ -1,11 +1,9 @@
--- The sets that a question begins with, as loops make them. Assumes nothing.
+-- A union that a loop makes from its last set down. Assumes nothing.
 use Prim.Native.Nat.{ℕ, suc, _+_, _-_, _≤_, _<_}
 use mathlib.Core.Path.{_≡_, ap₂, _∙_}
 use native.Mathlib.Omega.{arith}
 use Rattle.sets.specs.Set.{union}
 use Rattle.report.specs.Over.{unionFrom}
-
--- ---- a union that grows from its last set down
 
 pub record Uniting (f : ℕ → ℕ) (begin end s all : ℕ) : Type 0 where
   pub is : all ≡ unionFrom s (end - s) f

@@ -9,33 +9,23 @@ use lib.IntN.{ℤ}
 use lib.ListN.{length, getD}
 use borrow.Author.Tests.{ltb-true, ltb-false}
 use Rattle.table.specs.Header.{routines, statements}
-use Rattle.table.specs.Handles.{handlesFrom, parameters}
 use Rattle.table.specs.Routines.{firstOf}
 use Rattle.table.specs.Table.{Table, tableOf, routine, argumentsIn, InRoutine}
-use Rattle.table.specs.Layout.{firstStatements}
+use Rattle.table.specs.Layout.{firstStatements, firstHandles, parameterCounts}
 use Rattle.table.specs.LayoutLaws as L
-use Rattle.table.specs.Tabulate.{tabulate}
-use Rattle.table.specs.LayoutLaws.{Laid}
+use Rattle.table.specs.TabulateLaws.{getD-tabulate}
 use Rattle.table.specs.LookupLaws.{routines-length, statements-length, routine-says, in-routine, routine-in}
 use Rattle.table.specs.RoutineLaws.{ends-before}
 use Rattle.table.specs.Accepted.{Accepted, RoutineFacts}
 use Rattle.report.specs.Layout.{ownerOf, oneEach}
 use Rattle.report.specs.Flow.{passing}
 use Rattle.report.specs.OneEach.{copy-is}
-use Rattle.dataflow.specs.AnswerLaws.{copy-of}
-use Rattle.dataflow.specs.LineLaws.{passingFrom, passing-is}
-
--- the list of the first statements
-pub record Firsts (f : List ℤ) (first : List ℕ) : Type 0 where
-  pub is : first ≡ firstStatements f
-  pub few : routines f ≤ 32
-
-pub laid-firsts : {f : List ℤ} {first handle counts : List ℕ} → Laid f first handle counts → Firsts f first
-laid-firsts laid = record { is = laid .first-is; few = laid .routines-most }
+use Rattle.edges.specs.LineLaws.{passingFrom, passing-is}
 
 -- statement s is one of routine r, or the one behind its last
 pub record Near (f : List ℤ) (r s : ℕ) : Type 0 where
   pub there : r < routines f
+  pub small : r < 32
   pub low : firstOf f r ≤ s
   pub high : s ≤ firstOf f (r + 1)
 
@@ -45,21 +35,29 @@ pub record PassingParts (f : List ℤ) (line q begin count : ℕ) : Type 0 where
   pub few : count ≤ 4
   pub is : passingFrom f line begin count ≡ passing (tableOf f) (oneEach (tableOf f)) 0 0 q (argumentsIn f line)
 
+-- the copy of a statement is its routine
+pub copy-of : (t : Table) (s : ℕ) → s < length (t .statements) → ownerOf t s ≡ oneEach t .statementCopy s
+unfolding oneEach
+copy-of t s l = sym (getD-tabulate (length (t .statements)) (ownerOf t) s 0 l)
+
 module _ (f : List ℤ) (acc : Accepted (tableOf f)) where
   abbrev t : Table
   t = tableOf f
+
+  few : routines f ≤ 32
+  few = omega (arith, acc .routines-most, routines-length f)
 
   facts : (r : ℕ) → r < routines f → RoutineFacts t r
   facts r b = acc .routine-facts r (omega (arith, routines-length f))
 
   -- ---- parts
 
-  module _ (first : List ℕ) (firsts : Firsts f first) (r : ℕ) (b : r < routines f) where
+  module _ (first : List ℕ) (firsts : first ≡ firstStatements f) (r : ℕ) (b : r < routines f) where
     pub first-at : getD first r 0 ≡ routine t r .first
-    first-at = L.first-at f (firsts .few) first r (firsts .is) (omega arith) ∙ sym (routine-says f r b .first)
+    first-at = L.first-at f few first r firsts (omega arith) ∙ sym (routine-says f r b .first)
 
     next-at : getD first (r + 1) 0 ≡ firstOf f (r + 1)
-    next-at = L.first-at f (firsts .few) first (r + 1) (firsts .is) (omega arith)
+    next-at = L.first-at f few first (r + 1) firsts (omega arith)
 
     pub end-at : getD first (r + 1) 0 ≡ routine t r .first + routine t r .count
     end-at = let says = routine-says f r b in omega (arith, next-at, says .first, says .count, says .next)
@@ -68,12 +66,12 @@ module _ (f : List ℤ) (acc : Accepted (tableOf f)) where
     pub end-there : getD first (r + 1) 0 ≤ statements f
     end-there = omega (arith, end-at, facts r b .statements-there, statements-length f)
 
-  module _ (first handle counts : List ℕ) (laid : Laid f first handle counts) (q : ℕ) (b : q < routines f) where
+  module _ (handle counts : List ℕ) (is : (handle ≡ firstHandles f) × (counts ≡ parameterCounts f)) (q : ℕ) (b : q < routines f) where
     handle-at : getD handle q 0 ≡ routine t q .handle
-    handle-at = L.laid-handle laid q (omega arith) ∙ sym (routine-says f q b .handle)
+    handle-at = L.handle-at f few handle q (is .0) (omega arith) ∙ sym (routine-says f q b .handle)
 
     parameters-at : getD counts q 0 ≡ routine t q .parameters
-    parameters-at = L.laid-count laid q b ∙ sym (routine-says f q b .parameters)
+    parameters-at = L.count-at f few counts q (is .1) b ∙ sym (routine-says f q b .parameters)
 
     -- the arguments in a line go to the parameters of routine q
     pub passing-parts : (line : ℕ) → PassingParts f line q (getD handle q 0) (getD counts q 0)
@@ -89,17 +87,17 @@ module _ (f : List ℤ) (acc : Accepted (tableOf f)) where
 
   pub near-start : Near f 0 0
   unfolding firstOf
-  near-start = record { there = omega (arith, acc .routines-some, routines-length f); low = omega arith; high = omega arith }
+  near-start = record { there = omega (arith, acc .routines-some, routines-length f); small = omega arith; low = omega arith; high = omega arith }
 
   owner-is : (r s : ℕ) → r < routines f → s < statements f → firstOf f r ≤ s → s < firstOf f (r + 1) → r ≡ ownerOf t s
   owner-is r s b l low high =
       sym (copy-of t s (omega (arith, statements-length f)) ∙ copy-is t acc r s (omega (arith, routines-length f)) (in-routine f r s b low high))
 
-  module _ (first : List ℕ) (firsts : Firsts f first) (r s : ℕ) (l : s < statements f) (near : Near f r s) where
+  module _ (first : List ℕ) (firsts : first ≡ firstStatements f) (r s : ℕ) (l : s < statements f) (near : Near f r s) where
     pub owner-same : s < getD first (r + 1) 0 → (r ≡ ownerOf t s) × Near f r (s + 1)
     owner-same h =
         let high : s < firstOf f (r + 1) = omega (arith, next-at first firsts r (near .there)) in
-        (owner-is r s (near .there) l (near .low) high, record { there = near .there; low = omega (arith, near .low); high = omega arith })
+        (owner-is r s (near .there) l (near .low) high, record { there = near .there; small = near .small; low = omega (arith, near .low); high = omega arith })
 
     -- behind a routine's last statement comes another routine
     another : firstOf f (r + 1) ≤ s → r + 1 < routines f
@@ -120,4 +118,4 @@ module _ (f : List ℤ) (acc : Accepted (tableOf f)) where
         let b : r + 1 < routines f = another low in
         let says = routine-says f (r + 1) b in
         let high : s < firstOf f (r + 1 + 1) = omega (arith, near .high, says .count, says .next, facts (r + 1) b .some-statement) in
-        (owner-is (r + 1) s b l low high, record { there = b; low = omega arith; high = omega arith })
+        (owner-is (r + 1) s b l low high, record { there = b; small = omega (arith, few); low = omega arith; high = omega arith })
