@@ -66,12 +66,7 @@ fn append_passing(
     let mut m = n;
     let mut j = 0;
     while j < count {
-        m = append(
-            edges,
-            m,
-            table::field_of(numbers, line, 3 + j),
-            begin + j,
-        );
+        m = append(edges, m, table::field_of(numbers, line, 3 + j), begin + j);
         j += 1;
     }
     m
@@ -109,12 +104,7 @@ fn append_flow(
 }
 
 // Fills the list with the edges of flow, from the front on, and returns how many there are.
-pub fn fill_flow(
-    numbers: &[i32],
-    handle: &[usize],
-    counts: &[usize],
-    edges: &mut [u32],
-) -> usize
+pub fn fill_flow(numbers: &[i32], handle: &[usize], counts: &[usize], edges: &mut [u32]) -> usize
     requires { ⌜ (now handle ≡ firstHandles (now numbers)) × (now counts ≡ parameterCounts (now numbers)) ⌝ }
     requires { ⌜ Accepted (tableOf (now numbers)) ⌝ }
     ensures { λ r. ⌜ Appended (now (edges .entry)) 0 (now (edges .exit)) r (edgesFor Flow (tableOf (now (numbers .entry)))) ⌝ }

@@ -191,13 +191,7 @@ fn future_initial(
 }
 
 // Fills the list with what futures begin with.
-pub fn fill_future(
-    numbers: &[i32],
-    flow: &[u64],
-    effect: &[u64],
-    writes: bool,
-    out: &mut [u64],
-)
+pub fn fill_future(numbers: &[i32], flow: &[u64], effect: &[u64], writes: bool, out: &mut [u64])
     requires { ⌜ Accepted (tableOf (now numbers)) ⌝ }
     ensures { λ _. ⌜ now (out .exit) ≡ tabulate (length (now (out .entry))) (futureInitial writes (now (flow .entry)) (now (effect .entry)) (tableOf (now (numbers .entry)))) ⌝ }
 {

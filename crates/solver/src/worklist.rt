@@ -81,7 +81,12 @@ fn follow_edges(
 {
     let mut j = begin;
     while j < end {
-        follow_edge(sets, edges, worklist, lists::wide(list[lists::wide(j % 2048)]));
+        follow_edge(
+            sets,
+            edges,
+            worklist,
+            lists::wide(list[lists::wide(j % 2048)]),
+        );
         j += 1;
     }
 }

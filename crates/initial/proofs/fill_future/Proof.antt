@@ -1,60 +1,55 @@
+-- `initial::fill_future` meets its contract. Assumes nothing.
+use Prim.Native.Nat.{_-_}
+use mathlib.Core.Path.{refl}
+use native.Mathlib.Omega.{arith}
+use lib.ListN.{length}
+use Rattle.table.specs.Table.{tableOf}
+use Rattle.table.specs.TabulateLaws.{Filled, filled-none, filled-next, filled-all}
+use Rattle.edges.specs.Equations.{futureInitial}
+use borrow.Author.Needs.{needs}
+use Rattle.edges.specs.LineLaws.{lined}
+use borrow.Author.Needs.{needs}
 use Rattle.initial.proofs.fill_future.Statement.{statement}
 use Rattle.initial.proofs.fill_future.Tie as tie
-use Rattle.initial.proofs.fill_future.Reads as reads
-use Rattle.initial.proofs.fill_future.Lts as lts
-use Rattle.edges.proofs.first_line.Reads as first-line-reads
-use Rattle.initial.proofs.future_initial.Reads as future-initial-reads
-use Rattle.table.proofs.field_of.Reads as field-of-reads
 
 abbrev Inv-loop : tie.InvT-loop
-Inv-loop numbers flow effect writes out₀ base end p₀ out p = ?
+Inv-loop numbers flow effect writes out₀ base end p₀ out p = Filled (futureInitial writes flow effect (tableOf numbers)) out (length out₀) p
 
 abbrev μ-loop : tie.MeasureT-loop
-μ-loop numbers flow effect writes out₀ base end p₀ out p = ?
+μ-loop numbers flow effect writes out₀ base end p₀ out p = length out₀ - p
 
--- src/lib.rt:204:9
 first-line-requires : tie.Need-first-line-requires Inv-loop μ-loop
-first-line-requires c κs = ?
+first-line-requires c κs = search needs
 
--- src/lib.rt:205:9
 field-of-requires : tie.Need-field-of-requires Inv-loop μ-loop
-field-of-requires c κs = ?
+field-of-requires c κs = search needs
 
--- src/lib.rt:207:5
 loop-holds : tie.Need-loop-holds Inv-loop μ-loop
-loop-holds c = ?
+loop-holds c = filled-none _ _ _ refl
 
--- src/lib.rt:208:18
 future-initial-requires : tie.Need-future-initial-requires Inv-loop μ-loop
-future-initial-requires c κs = ?
+future-initial-requires c κs = (lined _ (c .before .before .before .before .before .before .before .pre) (c .before .before .before .first-line .ensures .0), c .before .before .field-of .ensures .0)
 
--- src/lib.rt:208:9
 mul-out : tie.Need-mul-out Inv-loop μ-loop
-mul-out c = ?
+mul-out c = search needs
 
--- src/lib.rt:208:9
 slice-write-out : tie.Need-slice-write-out Inv-loop μ-loop
-slice-write-out c = ?
+slice-write-out c = search needs
 
--- src/lib.rt:209:9
 add-p : tie.Need-add-p Inv-loop μ-loop
-add-p c = ?
+add-p c = search needs
 
--- src/lib.rt:207:5
 loop-less : tie.Need-loop-less Inv-loop μ-loop
-loop-less c = ?
+loop-less c = search needs
 
--- src/lib.rt:207:5
 loop-again : tie.Need-loop-again Inv-loop μ-loop
-loop-again c = ?
+loop-again c = filled-next _ _ _ _ _ (c .before .before .loop .inv) (omega (arith, c .before .before .loop .inv .long, c .before .loop-test .taken)) (c .future-initial .ensures)
 
--- src/lib.rt:194:1
 same-length : tie.Need-same-length Inv-loop μ-loop
-same-length c = ?
+same-length c = search needs
 
--- src/lib.rt:194:1
 returns : tie.Need-returns Inv-loop μ-loop
-returns c = ?
+returns c = filled-all _ _ _ _ (c .before .loop .inv) (omega (arith, c .before .loop .inv .long, c .loop-test .left))
 
 pub fill-future-spec : {M : Type 1} → statement M
 fill-future-spec =

@@ -1,55 +1,52 @@
+-- `initial::fill_own` meets its contract. Assumes nothing.
+use Prim.Native.Nat.{_-_}
+use mathlib.Core.Path.{refl}
+use native.Mathlib.Omega.{arith}
+use lib.ListN.{length}
+use Rattle.table.specs.Table.{tableOf}
+use Rattle.table.specs.TabulateLaws.{Filled, filled-none, filled-next, filled-all}
+use Rattle.edges.specs.Equations.{inRoutine}
+use borrow.Author.Needs.{needs}
+use Rattle.edges.specs.LineLaws.{lined}
+use borrow.Author.Needs.{needs}
 use Rattle.initial.proofs.fill_own.Statement.{statement}
 use Rattle.initial.proofs.fill_own.Tie as tie
-use Rattle.initial.proofs.fill_own.Reads as reads
-use Rattle.initial.proofs.fill_own.Lts as lts
-use Rattle.edges.proofs.first_line.Reads as first-line-reads
-use Rattle.initial.proofs.in_routine.Reads as in-routine-reads
 
 abbrev Inv-loop : tie.InvT-loop
-Inv-loop numbers first flow locks writes out₀ base r₀ out r = ?
+Inv-loop numbers first flow locks writes out₀ base r₀ out r = Filled (inRoutine locks writes flow (tableOf numbers)) out (length out₀) r
 
 abbrev μ-loop : tie.MeasureT-loop
-μ-loop numbers first flow locks writes out₀ base r₀ out r = ?
+μ-loop numbers first flow locks writes out₀ base r₀ out r = length out₀ - r
 
--- src/lib.rt:101:9
 first-line-requires : tie.Need-first-line-requires Inv-loop μ-loop
-first-line-requires c κs = ?
+first-line-requires c κs = search needs
 
--- src/lib.rt:103:5
 loop-holds : tie.Need-loop-holds Inv-loop μ-loop
-loop-holds c = ?
+loop-holds c = filled-none _ _ _ refl
 
--- src/lib.rt:104:18
 in-routine-requires : tie.Need-in-routine-requires Inv-loop μ-loop
-in-routine-requires c κs = ?
+in-routine-requires c κs = (c .before .before .before .before .before .before .pre .0, (c .before .before .before .before .before .before .pre .1 .0, (lined _ (c .before .before .before .before .before .before .pre .1 .0) (c .before .before .first-line .ensures .0), omega (arith, c .before .before .before .before .before .before .pre .1 .1, c .before .loop .inv .long, c .loop-test .taken))))
 
--- src/lib.rt:104:9
 mul-out : tie.Need-mul-out Inv-loop μ-loop
-mul-out c = ?
+mul-out c = search needs
 
--- src/lib.rt:104:9
 slice-write-out : tie.Need-slice-write-out Inv-loop μ-loop
-slice-write-out c = ?
+slice-write-out c = search needs
 
--- src/lib.rt:105:9
 add-r : tie.Need-add-r Inv-loop μ-loop
-add-r c = ?
+add-r c = search needs
 
--- src/lib.rt:103:5
 loop-less : tie.Need-loop-less Inv-loop μ-loop
-loop-less c = ?
+loop-less c = search needs
 
--- src/lib.rt:103:5
 loop-again : tie.Need-loop-again Inv-loop μ-loop
-loop-again c = ?
+loop-again c = filled-next _ _ _ _ _ (c .before .before .loop .inv) (omega (arith, c .before .before .loop .inv .long, c .before .loop-test .taken)) (c .in-routine .ensures)
 
--- src/lib.rt:88:1
 same-length : tie.Need-same-length Inv-loop μ-loop
-same-length c = ?
+same-length c = search needs
 
--- src/lib.rt:88:1
 returns : tie.Need-returns Inv-loop μ-loop
-returns c = ?
+returns c = filled-all _ _ _ _ (c .before .loop .inv) (omega (arith, c .before .loop .inv .long, c .loop-test .left))
 
 pub fill-own-spec : {M : Type 1} → statement M
 fill-own-spec =

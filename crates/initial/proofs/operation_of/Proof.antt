@@ -1,19 +1,19 @@
+-- `initial::operation_of` meets its contract. Assumes nothing.
+use Rattle.edges.specs.Equations.{operationOf}
 use Rattle.initial.proofs.operation_of.Statement.{statement}
 use Rattle.initial.proofs.operation_of.Tie as tie
-use Rattle.initial.proofs.operation_of.Reads as reads
-use Rattle.initial.proofs.operation_of.Lts as lts
 
--- src/lib.rt:45:9
 returns : tie.Need-returns
-returns c = ?
+unfolding operationOf
+returns c = rw (c .if1 .taken)
 
--- src/lib.rt:41:1
 returns-2 : tie.Need-returns-2
-returns-2 c = ?
+unfolding operationOf
+returns-2 c = rw (c .before .if1 .left, c .if2 .taken)
 
--- src/lib.rt:41:1
 returns-3 : tie.Need-returns-3
-returns-3 c = ?
+unfolding operationOf
+returns-3 c = rw (c .before .if1 .left, c .if2 .left)
 
 pub operation-of-spec : {M : Type 1} → statement M
 operation-of-spec = tie.close (tie.spec returns returns-2 returns-3)
