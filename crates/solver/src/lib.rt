@@ -1,13 +1,11 @@
 // The solver: makes a list of sets the least one that holds it and is closed under the edges. An edge is one number: 65,536 times the place that it
 // comes from, and the place that it leads to.
-mod passes;
 mod worklist;
 
 ghost use mathlib.Core.Path.{_≡_};
 ghost use mathlib.Core.List.{map};
 ghost use Rattle.sets.specs.Least.{edgeOf, least};
-ghost use Rattle.solver.specs.Pass.{Solving};
-use crate::passes::pass;
+ghost use Rattle.passes.specs.Pass.{Stepped};
 use crate::worklist::follow;
 
 // Which way a pass goes over the edges.
@@ -16,31 +14,29 @@ pub enum Order {
     LastToFirst,
 }
 
-// The other order.
-fn turned(order: Order) -> Order {
+// The given order where `turn` is even, else the other.
+fn way(order: Order, turn: usize) -> Order {
+    if turn % 2 == 0 {
+        return order;
+    }
     match order {
         Order::FirstToLast => Order::LastToFirst,
         Order::LastToFirst => Order::FirstToLast,
     }
 }
 
-// At most four passes, every other one in the other order, and where the last still changed something, the worklist in the other order. Returns
-// whether anything may be left to put.
-fn few_passes(sets: &mut [u64], edges: &[u32], order: Order) -> bool
-    ensures { λ r. ⌜ Solving (now (edges .entry)) (now (sets .entry)) (now (sets .exit)) r ⌝ }
+// One pass, every other turn in the other order; at turn 4 the worklist instead, in the other order. Returns whether anything may be left to put.
+fn step(sets: &mut [u64], edges: &[u32], order: Order, turn: usize) -> bool
+    ensures { λ r. ⌜ Stepped (now (edges .entry)) (now (sets .entry)) (now (sets .exit)) turn r ⌝ }
 {
-    let mut way = order;
-    let mut left: usize = 4;
-    while 0 < left {
-        if pass(sets, edges, way) {
-            left -= 1;
-            way = turned(way);
-        } else {
-            return false;
-        }
+    if turn == 4 {
+        follow(sets, edges, way(order, 1));
+        return true;
     }
-    follow(sets, edges, turned(order));
-    true
+    match way(order, turn) {
+        Order::FirstToLast => passes::pass_up(sets, edges),
+        Order::LastToFirst => passes::pass_down(sets, edges),
+    }
 }
 
 // Makes the sets the least ones that hold them and in which, for every edge, the set that it comes from is inside the set that it leads to.
@@ -48,8 +44,10 @@ fn few_passes(sets: &mut [u64], edges: &[u32], order: Order) -> bool
 pub fn solve(sets: &mut [u64], edges: &[u32], order: Order)
     ensures { λ _. ⌜ now (sets .exit) ≡ least (map edgeOf (now (edges .entry))) (now (sets .entry)) ⌝ }
 {
-    let mut going = few_passes(sets, edges, order);
+    let mut turn = 0;
+    let mut going = true;
     while going {
-        going = pass(sets, edges, order);
+        going = step(sets, edges, order, turn);
+        turn = (turn + 1) % 8;
     }
 }

@@ -1,57 +1,29 @@
 // The worklist: the places whose sets changed, one bit each in 16 words. Nothing is promised of its contents: it only ever puts along edges that
-// are there, and passes.rt finds out whether anything is left to put.
+// are there, and a pass finds out whether anything is left to put.
 ghost use mathlib.Core.Bool.{true};
 ghost use Prim.Native.Nat.{_<_, _≤_};
-ghost use Rattle.solver.specs.Pass.{Solving};
+ghost use lib.ListN.{length};
+ghost use Rattle.passes.specs.Pass.{Solving};
 use crate::Order;
-use crate::passes::from_of;
-use crate::passes::put_along;
-use crate::passes::to_of;
 
 // Puts place p on the worklist.
 fn mark(worklist: &mut [u64; 16], p: usize) {
-    if p < 1024 {
-        worklist[p / 64] = sets::with_element(worklist[p / 64], p % 64);
-    }
+    let i = p % 1024 / 64;
+    worklist[i] = sets::with_element(worklist[i], p % 64);
 }
 
-// Counts the edges that come from place p in counts[p + 2], and puts p on the worklist.
-fn count_edges(edges: &[u32], counts: &mut [u16; 1026], worklist: &mut [u64; 16]) {
-    let mut k = 0;
-    while k < edges.len() {
-        let f = from_of(edges[k]);
-        if f < 1024 {
-            counts[f + 2] = std::num::wrapping_add_u16(counts[f + 2], 1);
-            mark(worklist, f);
-        }
-        k += 1;
-    }
-}
-
-// Adds up the counts: counts[p + 1] then is how many edges come from places before p.
-fn add_counts(counts: &mut [u16; 1026], places: usize) {
-    let mut p = 0;
-    while p < places {
-        if p < 1024 {
-            counts[p + 2] = std::num::wrapping_add_u16(counts[p + 2], counts[p + 1]);
-        }
-        p += 1;
-    }
-}
-
-// Lists the edges by the place that they come from: those from place p then stand from heads[p] on, before heads[p + 1].
-fn list_edges(edges: &[u32], heads: &mut [u16; 1026], list: &mut [u16; 2048]) {
-    let mut k = 0;
-    while k < edges.len() {
-        let f = from_of(edges[k]);
-        if f < 1024 {
-            let at = heads[f + 1];
-            if at < 2048 {
-                list[lists::wide(at)] = (k % 2048) as u16;
-                heads[f + 1] = at + 1;
-            }
-        }
-        k += 1;
+// Links the edges by the place that they come from, and puts these places on the worklist: links[p] is one more than the first edge from place p,
+// and links[1024 + k] one more than the next after edge k from the same place; 0 where there is none.
+fn link_edges(edges: &[u32], links: &mut [u16; 3072], worklist: &mut [u64; 16])
+    requires { ⌜ length (now edges) ≤ 2048 ⌝ }
+{
+    let mut k = edges.len();
+    while 0 < k {
+        k -= 1;
+        let p = passes::from_of(edges[k]) % 1024;
+        links[1024 + k] = links[p];
+        links[p] = (k + 1) as u16;
+        mark(worklist, p);
     }
 }
 
@@ -60,34 +32,30 @@ fn follow_edge(sets: &mut [u64], edges: &[u32], worklist: &mut [u64; 16], k: usi
     ensures { λ _. ⌜ Solving (now (edges .entry)) (now (sets .entry)) (now (sets .exit)) true ⌝ }
 {
     if k < edges.len() {
-        let f = from_of(edges[k]);
-        let t = to_of(edges[k]);
-        if put_along(sets, f, t, false) {
+        let f = passes::from_of(edges[k]);
+        let t = passes::to_of(edges[k]);
+        if passes::put_along(sets, f, t, false) {
             mark(worklist, t);
         }
     }
 }
 
-// Goes along the listed edges from `begin` on and before `end`.
+// Goes along the linked edges from `first` on, one more than an edge each.
 fn follow_edges(
     sets: &mut [u64],
     edges: &[u32],
-    list: &[u16; 2048],
+    links: &[u16; 3072],
     worklist: &mut [u64; 16],
-    begin: u16,
-    end: u16,
+    first: u16,
 )
     ensures { λ _. ⌜ Solving (now (edges .entry)) (now (sets .entry)) (now (sets .exit)) true ⌝ }
 {
-    let mut j = begin;
-    while j < end {
-        follow_edge(
-            sets,
-            edges,
-            worklist,
-            lists::wide(list[lists::wide(j % 2048)]),
-        );
-        j += 1;
+    let mut last = 0;
+    let mut at = lists::wide(first);
+    while last < at {
+        follow_edge(sets, edges, worklist, at - 1);
+        last = at;
+        at = lists::wide(links[(1023 + at) % 3072]);
     }
 }
 
@@ -121,8 +89,7 @@ fn next_word(i: usize, n: usize, order: Order) -> usize
 fn follow_places(
     sets: &mut [u64],
     edges: &[u32],
-    heads: &[u16; 1026],
-    list: &[u16; 2048],
+    links: &[u16; 3072],
     worklist: &mut [u64; 16],
     words: usize,
     order: Order,
@@ -146,7 +113,7 @@ fn follow_places(
             let b = next_element(worklist[i], order);
             worklist[i] = sets::difference(worklist[i], sets::one(b));
             let p = i * 64 + b;
-            follow_edges(sets, edges, list, worklist, heads[p], heads[p + 1]);
+            follow_edges(sets, edges, links, worklist, links[p]);
         }
     }
 }
@@ -157,14 +124,11 @@ pub fn follow(sets: &mut [u64], edges: &[u32], order: Order)
 {
     if edges.len() <= 2048 {
         if sets.len() <= 1024 {
-            let mut heads = [0u16; 1026];
-            let mut list = [0u16; 2048];
+            let mut links = [0u16; 3072];
             let mut worklist = [0u64; 16];
-            count_edges(edges, &mut heads, &mut worklist);
-            add_counts(&mut heads, sets.len());
-            list_edges(edges, &mut heads, &mut list);
+            link_edges(edges, &mut links, &mut worklist);
             let words = (sets.len() + 63) / 64;
-            follow_places(sets, edges, &heads, &list, &mut worklist, words, order);
+            follow_places(sets, edges, &links, &mut worklist, words, order);
         }
     }
 }

@@ -1,39 +1,38 @@
 -- `solver::solve` meets its contract. Whatever the order, the list stays between the start and the least list, and at the end it is closed. Assumes nothing.
-use Prim.Native.Nat.{_+_}
-use Rattle.solver.proofs.PassLaws.{turn, solving-here, solving-both, solving-less, solving-next, solving-done}
-use Rattle.sets.specs.Least.{room}
-use Rattle.solver.specs.Pass.{Solving}
+use Prim.Native.Nat.{_<_}
 use native.Mathlib.Omega.{arith}
+use Rattle.passes.specs.Pass.{Solving}
+use Rattle.passes.specs.PassLaws.{left, step-less, solving-start, solving-both, solving-done}
 use borrow.Author.Needs.{needs}
 use Rattle.solver.proofs.solve.Statement.{statement}
 use Rattle.solver.proofs.solve.Tie as tie
 
 abbrev Inv-loop : tie.InvT-loop
-Inv-loop sets₀ edges order going₀ sets going = Solving edges sets₀ sets going
+Inv-loop sets₀ edges order turn₀ going₀ sets turn going = (turn < 8) × Solving edges sets₀ sets going
 
 abbrev μ-loop : tie.MeasureT-loop
-μ-loop sets₀ edges order going₀ sets going = room sets + turn going
-
-few-passes-requires : tie.Need-few-passes-requires Inv-loop μ-loop
-few-passes-requires c κs = search needs
+μ-loop sets₀ edges order turn₀ going₀ sets turn going = left sets turn going
 
 loop-holds : tie.Need-loop-holds Inv-loop μ-loop
-loop-holds c = solving-here _ (c .before .before .few-passes .ensures)
+loop-holds c = (omega arith, solving-start _ _)
 
-pass-requires : tie.Need-pass-requires Inv-loop μ-loop
-pass-requires c κs = search needs
+step-requires : tie.Need-step-requires Inv-loop μ-loop
+step-requires c κs = search needs
+
+add-turn : tie.Need-add-turn Inv-loop μ-loop
+add-turn c = search needs
 
 loop-less : tie.Need-loop-less Inv-loop μ-loop
-loop-less c = solving-less _ (c .before .before .before .before .loop-test .taken) (c .before .before .pass .ensures)
+loop-less c = step-less _ _ (c .before .before .before .before .loop-test .taken) (c .before .before .step .ensures)
 
 loop-again : tie.Need-loop-again Inv-loop μ-loop
-loop-again c = solving-next _ (c .before .before .before .before .before .loop .inv) (c .before .before .pass .ensures)
+loop-again c = (omega arith, solving-both _ (c .before .before .before .before .before .loop .inv .1) (c .before .before .step .ensures .solving))
 
 same-length : tie.Need-same-length Inv-loop μ-loop
 same-length c = search needs
 
 returns : tie.Need-returns Inv-loop μ-loop
-returns c = solving-done _ (λ i. omega (arith, c .before .before .before .before .before .before .before .slice-known .given i)) (c .loop-test .left) (solving-both _ (c .before .before .before .before .few-passes .ensures) (c .before .loop .inv))
+returns c = solving-done _ (λ i. omega (arith, c .before .before .before .slice-known .given i)) (c .loop-test .left) (c .before .loop .inv .1)
 
 pub solve-spec : {M : Type 1} → statement M
 solve-spec =
@@ -41,9 +40,9 @@ solve-spec =
     (tie.spec
     Inv-loop
     μ-loop
-    few-passes-requires
     loop-holds
-    pass-requires
+    step-requires
+    add-turn
     loop-less
     loop-again
     same-length

@@ -1,17 +1,11 @@
 -- `solver::worklist::follow` meets its contract. Assumes nothing.
-use Rattle.solver.proofs.PassLaws.{solving-start}
+use Rattle.passes.specs.PassLaws.{solving-start}
 use borrow.Author.Needs.{needs}
 use Rattle.solver.proofs.worklist.follow.Statement.{statement}
 use Rattle.solver.proofs.worklist.follow.Tie as tie
 
-count-edges-requires : tie.Need-count-edges-requires
-count-edges-requires c κs = search needs
-
-add-counts-requires : tie.Need-add-counts-requires
-add-counts-requires c κs = search needs
-
-list-edges-requires : tie.Need-list-edges-requires
-list-edges-requires c κs = search needs
+link-edges-requires : tie.Need-link-edges-requires
+link-edges-requires c κs = search needs
 
 add-words : tie.Need-add-words
 add-words c = search needs
@@ -35,9 +29,7 @@ pub follow-spec : {M : Type 1} → statement M
 follow-spec =
     tie.close
     (tie.spec
-    count-edges-requires
-    add-counts-requires
-    list-edges-requires
+    link-edges-requires
     add-words
     follow-places-requires
     same-length

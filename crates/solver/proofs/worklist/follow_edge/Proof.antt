@@ -1,5 +1,5 @@
 -- `solver::worklist::follow_edge` meets its contract. Assumes nothing.
-use Rattle.solver.proofs.PassLaws.{put-as, solving-start, solving-put}
+use Rattle.passes.specs.PassLaws.{put-as, solving-start, solving-put}
 use borrow.Author.Needs.{needs}
 use Rattle.solver.proofs.worklist.follow_edge.Statement.{statement}
 use Rattle.solver.proofs.worklist.follow_edge.Tie as tie

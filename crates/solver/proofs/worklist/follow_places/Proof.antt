@@ -1,17 +1,17 @@
 -- `solver::worklist::follow_places` meets its contract. Its loop has gone along some edges. Assumes nothing.
 use Prim.Native.Nat.{_<_, _≤_}
 use mathlib.Core.Bool.{true}
-use Rattle.solver.specs.Pass.{Solving}
-use Rattle.solver.proofs.PassLaws.{solving-start, solving-both}
+use Rattle.passes.specs.Pass.{Solving}
+use Rattle.passes.specs.PassLaws.{solving-start, solving-both}
 use borrow.Author.Needs.{needs}
 use Rattle.solver.proofs.worklist.follow_places.Statement.{statement}
 use Rattle.solver.proofs.worklist.follow_places.Tie as tie
 
 abbrev Inv-loop : tie.InvT-loop
-Inv-loop sets₀ edges heads list worklist₀ words order i₀ idle₀ left₀ sets worklist i idle left = (i < 16) × (idle ≤ 16) × Solving edges sets₀ sets true
+Inv-loop sets₀ edges links worklist₀ words order i₀ idle₀ left₀ sets worklist i idle left = (i < 16) × (idle ≤ 16) × Solving edges sets₀ sets true
 
 abbrev μ-loop : tie.MeasureT-loop
-μ-loop sets₀ edges heads list worklist₀ words order i₀ idle₀ left₀ sets worklist i idle left = left
+μ-loop sets₀ edges links worklist₀ words order i₀ idle₀ left₀ sets worklist i idle left = left
 
 loop-holds : tie.Need-loop-holds Inv-loop μ-loop
 loop-holds c = (search needs, search needs, solving-start _ _)
@@ -82,15 +82,6 @@ mul-follow-edges c = search needs
 element-copy-out-follow-edges : tie.Need-element-copy-out-follow-edges Inv-loop μ-loop
 element-copy-out-follow-edges c = search needs
 
-add-follow-edges : tie.Need-add-follow-edges Inv-loop μ-loop
-add-follow-edges c = search needs
-
-mul-follow-edges-2 : tie.Need-mul-follow-edges-2 Inv-loop μ-loop
-mul-follow-edges-2 c = search needs
-
-element-copy-out-follow-edges-2 : tie.Need-element-copy-out-follow-edges-2 Inv-loop μ-loop
-element-copy-out-follow-edges-2 c = search needs
-
 follow-edges-requires : tie.Need-follow-edges-requires Inv-loop μ-loop
 follow-edges-requires c κs = search needs
 
@@ -98,7 +89,7 @@ loop-less-2 : tie.Need-loop-less-2 Inv-loop μ-loop
 loop-less-2 c = search needs
 
 loop-again-2 : tie.Need-loop-again-2 Inv-loop μ-loop
-loop-again-2 c = (search needs, search needs, solving-both _ (c .before .before .before .before .before .before .before .before .before .before .before .before .before .before .before .loop .inv .2) (c .before .before .follow-edges .ensures))
+loop-again-2 c = (search needs, search needs, solving-both _ (c .before .before .before .before .before .before .before .before .before .before .before .before .before .before .loop .inv .2) (c .before .before .follow-edges .ensures))
 
 same-length-2 : tie.Need-same-length-2 Inv-loop μ-loop
 same-length-2 c = search needs
@@ -135,9 +126,6 @@ follow-places-spec =
     add-p
     mul-follow-edges
     element-copy-out-follow-edges
-    add-follow-edges
-    mul-follow-edges-2
-    element-copy-out-follow-edges-2
     follow-edges-requires
     loop-less-2
     loop-again-2
