@@ -1,0 +1,16 @@
+-- `passes::to_of` meets its contract. Assumes nothing.
+use mathlib.Core.Path.{refl}
+use borrow.Author.Needs.{needs}
+use Rattle.sets.specs.Least.{edgeOf}
+use Rattle.passes.proofs.to_of.Statement.{statement}
+use Rattle.passes.proofs.to_of.Tie as tie
+
+cast-result : tie.Need-cast-result
+cast-result c = search needs
+
+returns : tie.Need-returns
+unfolding edgeOf
+returns c = refl
+
+pub to-of-spec : {M : Type 1} → statement M
+to-of-spec = tie.close (tie.spec cast-result returns)
