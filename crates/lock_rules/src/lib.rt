@@ -25,7 +25,10 @@ pub fn fixed_of(numbers: &[i32]) -> Fixed
     let all = sets::firsts(table::field_of(numbers, 0, 2));
     let handles = table::field_of(numbers, 0, 3);
     let routines = table::field_of(numbers, 0, 4);
-    Fixed { all: all, base: 1 + handles + routines }
+    Fixed {
+        all: all,
+        base: 1 + handles + routines,
+    }
 }
 
 // What is held at place `p`: all but what is left out there.
@@ -67,10 +70,7 @@ fn held_after(
         );
     }
     if op == 6 {
-        return sets::difference(
-            held,
-            lists::set_at(flow, table::field_of(numbers, line, 2)),
-        );
+        return sets::difference(held, lists::set_at(flow, table::field_of(numbers, line, 2)));
     }
     if op == 8 {
         let q = table::field_of(numbers, line, 2);

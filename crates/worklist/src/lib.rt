@@ -24,20 +24,31 @@ pub fn unmark(marks: &mut [u64; 8], s: usize) {
 }
 
 // The marks of one word of statements.
-pub fn word_at(marks: &[u64; 8], word: usize) -> u64 {
+fn word_at(marks: &[u64; 8], word: usize) -> u64 {
     if word < 8 { marks[word] } else { 0 }
 }
 
-// Whether any statement is marked.
-pub fn any_marked(marks: &[u64; 8]) -> bool {
-    (marks[0] | marks[1] | marks[2] | marks[3] | marks[4] | marks[5] | marks[6] | marks[7]) != 0
-}
-
 // The lowest element of a set; 64 if it has none.
-pub fn lowest_of(set: u64) -> usize
+fn lowest_of(set: u64) -> usize
     ensures { λ i. ⌜ i ≤ 64 ⌝ }
 {
     u64::trailing_zeros(set) as usize
+}
+
+// The next statement to look at: the lowest marked one of the first word that has any, from the word of `s` on and round; 512 if none is marked.
+pub fn next_marked(marks: &[u64; 8], s: usize) -> usize
+    ensures { λ r. ⌜ r ≤ 512 ⌝ }
+{
+    let mut turn = 0;
+    while turn < 8 {
+        let word = (s / 64 + turn) % 8;
+        let bits = word_at(marks, word);
+        if bits != 0 {
+            return word * 64 + lowest_of(bits);
+        }
+        turn += 1;
+    }
+    512
 }
 
 // Marks the statements of one word that CALL routine `r`.
@@ -165,7 +176,11 @@ pub fn note_all(
 pub fn owner_at(owners: &[u8; 512], s: usize) -> usize
     ensures { λ r. ⌜ r < 256 ⌝ }
 {
-    if s < 512 { lists::wide_byte(owners[s]) } else { 0 }
+    if s < 512 {
+        lists::wide_byte(owners[s])
+    } else {
+        0
+    }
 }
 
 // Marks the statements that the ways of one word's statements in `changed` lead to.

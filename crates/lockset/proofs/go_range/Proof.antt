@@ -1,17 +1,18 @@
 -- `lockset::go_range` meets its contract. Its loop has gone the ways of the statements below s. Assumes nothing.
-use Prim.Native.Nat.{_-_, _≤_}
+use mathlib.Core.Bool.{false}
+use Prim.Native.Nat.{_+_, _-_, _≤_}
 use native.Mathlib.Omega.{arith}
 use borrow.Author.Needs.{needs}
-use Rattle.lockset.specs.Rules.{setting, RulesIn, Moved}
-use Rattle.lockset.proofs.MoveLaws.{moved-or, part-start, part-next, part-as}
+use Rattle.lock_rules.specs.Rules.{setting, RulesIn, Moved}
+use Rattle.lockset.specs.PassLaws.{moved-or, part-start, part-next, part-as}
 use Rattle.lockset.proofs.go_range.Statement.{statement}
 use Rattle.lockset.proofs.go_range.Tie as tie
 
 abbrev Inv-loop : tie.InvT-loop
-Inv-loop out₀ back₀ numbers first flow given all base marks₀ r from end changed s₀ more₀ out back marks s more = (from ≤ s) × Moved (setting numbers first flow given all base) (RulesIn (setting numbers first flow given all base) r from s) out₀ back₀ out back changed more
+Inv-loop out₀ back₀ numbers first flow given fixed marks₀ routine end s₀ changed₀ out back marks s changed = (s₀ ≤ s) × Moved (setting numbers first flow given fixed) (RulesIn (setting numbers first flow given fixed) routine s₀ s) out₀ back₀ out back false changed
 
 abbrev μ-loop : tie.MeasureT-loop
-μ-loop out₀ back₀ numbers first flow given all base marks₀ r from end changed s₀ more₀ out back marks s more = end - s
+μ-loop out₀ back₀ numbers first flow given fixed marks₀ routine end s₀ changed₀ out back marks s changed = end - s
 
 loop-holds : tie.Need-loop-holds Inv-loop μ-loop
 loop-holds c = (omega arith, part-start)
@@ -26,7 +27,7 @@ either-requires : tie.Need-either-requires Inv-loop μ-loop
 either-requires c κs = search needs
 
 add-s : tie.Need-add-s Inv-loop μ-loop
-add-s c = search needs
+add-s c = omega (arith, c .before .before .before .before .before .before .before .before .before .before .loop-test .taken, c .before .before .before .before .before .before .before .before .before .before .before .before .before .before .before .before .before .pre .1 .high, c .before .before .before .before .before .before .before .before .before .before .before .before .before .before .before .before .before .pre .0 .first-small (c .before .before .before .before .before .before .before .before .before .before .before .before .before .before .before .before .before .args .part .routine + 1))
 
 loop-less : tie.Need-loop-less Inv-loop μ-loop
 loop-less c = search needs
