@@ -54,7 +54,7 @@ fn held_after(
     flow: &[u64],
     given: &[u64],
     out: &[u64],
-    back: &[u64],
+    back: &[u64; 32],
     all: u64,
     line: usize,
     s: usize,
@@ -75,7 +75,7 @@ fn held_after(
     if op == 8 {
         let q = table::field_of(numbers, line, 2);
         let kept = sets::difference(held, lists::set_at(given, q));
-        return sets::union(held_at(back, all, q), kept);
+        return sets::union(held_at(&back[..], all, q), kept);
     }
     held
 }
@@ -96,10 +96,17 @@ pub fn narrow_to(out: &mut [u64], all: u64, to: usize, brought: u64, changed: bo
     changed
 }
 
+// Leaves out in what routine `r` hands back what is not in `held`, and returns whether that changed anything.
+fn hand_back(back: &mut [u64; 32], all: u64, r: usize, held: u64) -> bool
+    ensures { λ c. ⌜ Became (putInto r (minus all held) (now (back .entry))) (now (back .entry)) (now (back .exit)) false c ⌝ }
+{
+    narrow_to(&mut back[..], all, r, held, false)
+}
+
 // Goes the ways of statement `s`, whose operation `op` is one of READ to START, and returns whether that changed anything.
 fn go_on(
     out: &mut [u64],
-    back: &[u64],
+    back: &[u64; 32],
     numbers: &[i32],
     first: &[usize],
     flow: &[u64],
@@ -131,7 +138,7 @@ fn go_on(
 // Goes the ways of statement `s` of routine `r`; a RETURN leaves out in `back` what is left out before it. Returns whether that changed anything.
 pub fn step(
     out: &mut [u64],
-    back: &mut [u64],
+    back: &mut [u64; 32],
     numbers: &[i32],
     first: &[usize],
     flow: &[u64],
@@ -149,10 +156,10 @@ pub fn step(
     let op = table::field_of(numbers, line, 1);
     let held = held_at(out, all, s);
     if 11 < op {
-        return narrow_to(back, all, r, held, false);
+        return hand_back(back, all, r, held);
     }
     if op == 0 {
-        return narrow_to(back, all, r, held, false);
+        return hand_back(back, all, r, held);
     }
     if op < 10 {
         return go_on(out, back, numbers, first, flow, given, fixed, s, op);

@@ -35,7 +35,7 @@ fn either(a: bool, b: bool) -> bool
 // Goes the ways of a part of a routine's statements, marks those that change something, and returns whether any did.
 fn go_range(
     out: &mut [u64],
-    back: &mut [u64],
+    back: &mut [u64; 32],
     numbers: &[i32],
     first: &[usize],
     flow: &[u64],
@@ -64,7 +64,7 @@ fn go_range(
 // Goes every way of the table once, the entry of routine 0 first, and marks the statements that change something. Returns whether any did.
 fn pass(
     out: &mut [u64],
-    back: &mut [u64],
+    back: &mut [u64; 32],
     numbers: &[i32],
     first: &[usize],
     flow: &[u64],
@@ -112,7 +112,7 @@ fn is_among(numbers: &[i32], first: &[usize], part: Part) -> bool
 // tested.
 fn look(
     out: &mut [u64],
-    back: &mut [u64],
+    back: &mut [u64; 32],
     numbers: &[i32],
     first: &[usize],
     flow: &[u64],
@@ -146,7 +146,7 @@ fn look(
 // were many.
 fn work_through(
     out: &mut [u64],
-    back: &mut [u64],
+    back: &mut [u64; 32],
     numbers: &[i32],
     first: &[usize],
     flow: &[u64],
@@ -203,7 +203,7 @@ fn work_through(
 // Two passes, and if the second one changed anything, the statements that it leads to. Returns whether more passes are needed.
 fn first_passes(
     out: &mut [u64],
-    back: &mut [u64],
+    back: &mut [u64; 32],
     numbers: &[i32],
     first: &[usize],
     flow: &[u64],
@@ -228,7 +228,7 @@ fn first_passes(
 // Passes until one changes nothing.
 fn settle(
     out: &mut [u64],
-    back: &mut [u64],
+    back: &mut [u64; 32],
     numbers: &[i32],
     first: &[usize],
     flow: &[u64],
@@ -266,6 +266,6 @@ pub fn held_sets(numbers: &[i32], first: &[usize], flow: &[u64], given: &[u64], 
 {
     let fixed = lock_rules::fixed_of(numbers);
     let mut back = [0u64; 32];
-    settle(held, &mut back[..], numbers, first, flow, given, fixed);
+    settle(held, &mut back, numbers, first, flow, given, fixed);
     turn_round(held, fixed.all);
 }

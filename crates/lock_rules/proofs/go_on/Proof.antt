@@ -37,7 +37,7 @@ same-length : tie.Need-same-length
 same-length c = search needs
 
 returns : tie.Need-returns
-returns c = λ r own. call-moves _ r _ own (sym (c .before .before .before .before .before .before .before .before .before .before .before .before .before .before .before .before .before .before .before .before .before .pre .1 .0) ∙ c .before .before .before .before .before .before .before .before .if1 .taken) (became-sent _ refl (c .before .before .before .before .before .before .before .before .before .before .before .before .before .held-after .ensures ∙ behind-as _ _ _ _ _ _ _ _ (c .before .before .before .before .before .before .before .before .before .before .before .before .before .before .before .before .before .before .before .before .before .pre .1 .0)) (c .before .before .before .before .before .before .before .before .before .before .before .narrow-to .ensures)) (became-sent _ (c .before .before .before .before .before .before .number-at .ensures ∙ ap (λ (q : ℕ). getD (c .before .before .before .before .before .before .before .before .before .before .before .before .before .before .before .before .before .before .before .before .before .args .first .now) q 0) (c .before .before .before .before .before .before .before .field-of .ensures .0)) (c .before .before .before .before .held-at .ensures) (c .before .before .narrow-to2 .ensures))
+returns c = λ r own. call-moves _ r _ own (sym (c .before .before .before .before .before .before .before .before .before .before .before .before .before .before .before .before .before .before .before .before .pre .1 .0) ∙ c .before .before .before .before .before .before .before .before .if1 .taken) (became-sent _ refl (c .before .before .before .before .before .before .before .before .before .before .before .before .before .held-after .ensures ∙ behind-as _ _ _ _ _ _ _ _ (c .before .before .before .before .before .before .before .before .before .before .before .before .before .before .before .before .before .before .before .before .pre .1 .0)) (c .before .before .before .before .before .before .before .before .before .before .before .narrow-to .ensures)) (became-sent _ (c .before .before .before .before .before .before .number-at .ensures ∙ ap (λ (q : ℕ). getD (c .before .before .before .before .before .before .before .before .before .before .before .before .before .before .before .before .before .before .before .before .args .first .now) q 0) (c .before .before .before .before .before .before .before .field-of .ensures .0)) (c .before .before .before .before .held-at .ensures) (c .before .before .narrow-to2 .ensures))
 
 field-of-requires-2 : tie.Need-field-of-requires-2
 field-of-requires-2 c κs = search needs
@@ -52,13 +52,13 @@ same-length-2 : tie.Need-same-length-2
 same-length-2 c = search needs
 
 returns-2 : tie.Need-returns-2
-returns-2 c = λ r own. start-moves _ r _ own (sym (c .before .before .before .before .before .before .before .before .before .before .before .before .before .before .before .before .before .before .before .before .pre .1 .0) ∙ c .before .before .before .before .before .before .if2 .taken) (became-sent _ refl (c .before .before .before .before .before .before .before .before .before .before .before .before .held-after .ensures ∙ behind-as _ _ _ _ _ _ _ _ (c .before .before .before .before .before .before .before .before .before .before .before .before .before .before .before .before .before .before .before .before .pre .1 .0)) (c .before .before .before .before .before .before .before .before .before .before .narrow-to .ensures)) (became-sent _ (c .before .before .before .before .number-at2 .ensures ∙ ap (λ (q : ℕ). getD (c .before .before .before .before .before .before .before .before .before .before .before .before .before .before .before .before .before .before .before .before .args .first .now) q 0) (c .before .before .before .before .before .field-of2 .ensures .0)) refl (c .before .before .narrow-to3 .ensures))
+returns-2 c = λ r own. start-moves _ r _ own (sym (c .before .before .before .before .before .before .before .before .before .before .before .before .before .before .before .before .before .before .before .pre .1 .0) ∙ c .before .before .before .before .before .before .if2 .taken) (became-sent _ refl (c .before .before .before .before .before .before .before .before .before .before .before .before .held-after .ensures ∙ behind-as _ _ _ _ _ _ _ _ (c .before .before .before .before .before .before .before .before .before .before .before .before .before .before .before .before .before .before .before .pre .1 .0)) (c .before .before .before .before .before .before .before .before .before .before .narrow-to .ensures)) (became-sent _ (c .before .before .before .before .number-at2 .ensures ∙ ap (λ (q : ℕ). getD (c .before .before .before .before .before .before .before .before .before .before .before .before .before .before .before .before .before .before .before .args .first .now) q 0) (c .before .before .before .before .before .field-of2 .ensures .0)) refl (c .before .before .narrow-to3 .ensures))
 
 same-length-3 : tie.Need-same-length-3
 same-length-3 c = search needs
 
 returns-3 : tie.Need-returns-3
-returns-3 c = λ r own. other-moves _ r _ own (omega (arith, c .before .before .before .before .before .before .before .before .before .before .before .before .before .before .pre .1 .0, c .before .before .before .before .before .before .before .before .before .before .before .before .before .before .pre .1 .1)) (omega (arith, c .before .before .before .before .before .before .before .before .before .before .before .before .before .before .pre .1 .0, c .before .before .before .before .before .before .before .before .before .before .before .before .before .before .pre .1 .2)) (λ q. c .before .if1 .left (c .before .before .before .before .before .before .before .before .before .before .before .before .before .before .pre .1 .0 ∙ q)) (λ q. c .if2 .left (c .before .before .before .before .before .before .before .before .before .before .before .before .before .before .pre .1 .0 ∙ q)) (became-sent _ refl (c .before .before .before .before .before .before .held-after .ensures ∙ behind-as _ _ _ _ _ _ _ _ (c .before .before .before .before .before .before .before .before .before .before .before .before .before .before .pre .1 .0)) (c .before .before .before .before .narrow-to .ensures))
+returns-3 c = λ r own. other-moves _ r _ own (omega (arith, c .before .before .before .before .before .before .before .before .before .before .before .before .before .pre .1 .0, c .before .before .before .before .before .before .before .before .before .before .before .before .before .pre .1 .1)) (omega (arith, c .before .before .before .before .before .before .before .before .before .before .before .before .before .pre .1 .0, c .before .before .before .before .before .before .before .before .before .before .before .before .before .pre .1 .2)) (λ q. c .before .if1 .left (c .before .before .before .before .before .before .before .before .before .before .before .before .before .pre .1 .0 ∙ q)) (λ q. c .if2 .left (c .before .before .before .before .before .before .before .before .before .before .before .before .before .pre .1 .0 ∙ q)) (became-sent _ refl (c .before .before .before .before .before .before .held-after .ensures ∙ behind-as _ _ _ _ _ _ _ _ (c .before .before .before .before .before .before .before .before .before .before .before .before .before .pre .1 .0)) (c .before .before .before .before .narrow-to .ensures))
 
 pub go-on-spec : {M : Type 1} → statement M
 go-on-spec =

@@ -51,7 +51,7 @@ union-requires-2 : tie.Need-union-requires-2
 union-requires-2 c κs = search needs
 
 returns-3 : tie.Need-returns-3
-returns-3 c = (cc) ∙ behind-call _ _ _ _ _ _ _ _ (c .before .before .before .before .before .if3 .taken)
+returns-3 c = (cc) ∙ behind-call _ _ _ _ _ _ _ _ (c .before .before .before .before .before .before .if3 .taken)
 
 returns-4 : tie.Need-returns-4
 returns-4 c = c .before .before .before .held-at .ensures ∙ behind-other _ _ _ _ _ _ _ _ (c .before .before .if1 .left) (c .before .if2 .left) (c .if3 .left)

@@ -9,7 +9,7 @@ use Rattle.lock_rules.proofs.step.Statement.{statement}
 use Rattle.lock_rules.proofs.step.Tie as tie
 
 add-line : tie.Need-add-line
-add-line c = omega (arith, c .before .before .before .before .before .before .pre .0 .base-small, c .before .before .before .before .before .before .pre .1 .high, c .before .before .before .before .before .before .pre .0 .first-small (c .before .before .before .before .before .before .args .r + 1))
+add-line c = omega (arith, c .before .before .before .before .before .pre .0 .base-small, c .before .before .before .before .before .pre .1 .high, c .before .before .before .before .before .pre .0 .first-small (c .before .before .before .before .before .args .r + 1))
 
 field-of-requires : tie.Need-field-of-requires
 field-of-requires c κs = search needs
@@ -17,68 +17,59 @@ field-of-requires c κs = search needs
 held-at-requires : tie.Need-held-at-requires
 held-at-requires c κs = search needs
 
-narrow-to-requires : tie.Need-narrow-to-requires
-narrow-to-requires c κs = search needs
+hand-back-requires : tie.Need-hand-back-requires
+hand-back-requires c κs = search needs
 
 same-length : tie.Need-same-length
 same-length c = search needs
 
+returns : tie.Need-returns
+returns c = return-moves _ _ _ (c .before .before .before .before .before .before .before .before .before .before .before .pre .1) (λ l. omega (arith, c .before .before .before .before .before .field-of .ensures .0, c .before .before .if1 .taken)) (became-sent _ refl (c .before .before .before .held-at .ensures) (c .hand-back .ensures))
+
+hand-back-requires-2 : tie.Need-hand-back-requires-2
+hand-back-requires-2 c κs = search needs
+
 same-length-2 : tie.Need-same-length-2
 same-length-2 c = search needs
 
-returns : tie.Need-returns
-returns c = return-moves _ _ _ (c .before .before .before .before .before .before .before .before .before .before .before .before .before .before .pre .1) (λ l. omega (arith, c .before .before .before .before .before .before .before .field-of .ensures .0, c .before .before .before .before .if1 .taken)) (became-sent _ refl (c .before .before .before .before .before .held-at .ensures) (c .before .before .narrow-to .ensures))
+returns-2 : tie.Need-returns-2
+returns-2 c = return-moves _ _ _ (c .before .before .before .before .before .before .before .before .before .before .before .before .pre .1) (λ l. absurd (omega (arith, l, c .before .before .before .before .before .before .field-of .ensures .0, c .before .before .if2 .taken))) (became-sent _ refl (c .before .before .before .before .held-at .ensures) (c .hand-back2 .ensures))
 
-narrow-to-requires-2 : tie.Need-narrow-to-requires-2
-narrow-to-requires-2 c κs = search needs
+go-on-requires : tie.Need-go-on-requires
+go-on-requires c κs = ((c .before .before .before .before .before .before .before .before .before .before .before .before .before .pre .0 .base-small, omega (arith, c .before .before .before .before .before .before .before .before .before .before .before .before .before .pre .0 .base-small, c .before .before .before .before .before .before .before .before .before .before .before .before .before .pre .1 .high, c .before .before .before .before .before .before .before .before .before .before .before .before .before .pre .0 .first-small (c .before .before .before .before .before .before .before .before .before .before .before .before .before .args .r + 1))), (c .before .before .before .before .before .before .before .field-of .ensures .0, not-none _ (c .before .before .before .if2 .left), c .before .before .if3 .taken))
 
 same-length-3 : tie.Need-same-length-3
 same-length-3 c = search needs
 
-same-length-4 : tie.Need-same-length-4
-same-length-4 c = search needs
-
-returns-2 : tie.Need-returns-2
-returns-2 c = return-moves _ _ _ (c .before .before .before .before .before .before .before .before .before .before .before .before .before .before .before .pre .1) (λ l. absurd (omega (arith, l, c .before .before .before .before .before .before .before .before .field-of .ensures .0, c .before .before .before .before .if2 .taken))) (became-sent _ refl (c .before .before .before .before .before .before .held-at .ensures) (c .before .before .narrow-to2 .ensures))
-
-go-on-requires : tie.Need-go-on-requires
-go-on-requires c κs = ((c .before .before .before .before .before .before .before .before .before .before .before .before .before .before .pre .0 .base-small, omega (arith, c .before .before .before .before .before .before .before .before .before .before .before .before .before .before .pre .0 .base-small, c .before .before .before .before .before .before .before .before .before .before .before .before .before .before .pre .1 .high, c .before .before .before .before .before .before .before .before .before .before .before .before .before .before .pre .0 .first-small (c .before .before .before .before .before .before .before .before .before .before .before .before .before .before .args .r + 1))), (c .before .before .before .before .before .before .before .field-of .ensures .0, not-none _ (c .before .before .before .if2 .left), c .before .before .if3 .taken))
-
-same-length-5 : tie.Need-same-length-5
-same-length-5 c = search needs
-
-same-length-6 : tie.Need-same-length-6
-same-length-6 c = search needs
-
 returns-3 : tie.Need-returns-3
-returns-3 c = c .before .before .go-on .ensures _ (c .before .before .before .before .before .before .before .before .before .before .before .before .before .before .before .before .before .pre .1)
+returns-3 c = c .before .before .go-on .ensures _ (c .before .before .before .before .before .before .before .before .before .before .before .before .before .before .before .before .pre .1)
 
 field-of-requires-2 : tie.Need-field-of-requires-2
 field-of-requires-2 c κs = search needs
 
-narrow-to-requires-3 : tie.Need-narrow-to-requires-3
-narrow-to-requires-3 c κs = search needs
+narrow-to-requires : tie.Need-narrow-to-requires
+narrow-to-requires c κs = search needs
 
-same-length-7 : tie.Need-same-length-7
-same-length-7 c = search needs
+same-length-4 : tie.Need-same-length-4
+same-length-4 c = search needs
 
 returns-4 : tie.Need-returns-4
-returns-4 c = jump-moves _ _ _ (c .before .before .before .before .before .before .before .before .before .before .before .before .before .before .before .before .before .before .pre .1) (sym (c .before .before .before .before .before .before .before .before .before .before .before .field-of .ensures .0) ∙ c .if4 .taken) (became-sent _ (c .before .before .before .before .before .field-of2 .ensures .0) (c .before .before .before .before .before .before .before .before .before .held-at .ensures) (c .before .before .before .narrow-to3 .ensures))
+returns-4 c = jump-moves _ _ _ (c .before .before .before .before .before .before .before .before .before .before .before .before .before .before .before .before .before .pre .1) (sym (c .before .before .before .before .before .before .before .before .before .before .before .field-of .ensures .0) ∙ c .if4 .taken) (became-sent _ (c .before .before .before .before .before .field-of2 .ensures .0) (c .before .before .before .before .before .before .before .before .before .held-at .ensures) (c .before .before .before .narrow-to .ensures))
 
 held-at-requires-2 : tie.Need-held-at-requires-2
 held-at-requires-2 c κs = search needs
 
 add-narrow-to : tie.Need-add-narrow-to
-add-narrow-to c = omega (arith, c .before .before .before .before .before .before .before .before .before .before .before .before .before .before .before .before .before .before .before .before .before .pre .0 .base-small, c .before .before .before .before .before .before .before .before .before .before .before .before .before .before .before .before .before .before .before .before .before .pre .1 .high, c .before .before .before .before .before .before .before .before .before .before .before .before .before .before .before .before .before .before .before .before .before .pre .0 .first-small (c .before .before .before .before .before .before .before .before .before .before .before .before .before .before .before .before .before .before .before .before .before .args .r + 1))
+add-narrow-to c = omega (arith, c .before .before .before .before .before .before .before .before .before .before .before .before .before .before .before .before .before .before .before .before .pre .0 .base-small, c .before .before .before .before .before .before .before .before .before .before .before .before .before .before .before .before .before .before .before .before .pre .1 .high, c .before .before .before .before .before .before .before .before .before .before .before .before .before .before .before .before .before .before .before .before .pre .0 .first-small (c .before .before .before .before .before .before .before .before .before .before .before .before .before .before .before .before .before .before .before .before .args .r + 1))
 
-narrow-to-requires-4 : tie.Need-narrow-to-requires-4
-narrow-to-requires-4 c κs = search needs
+narrow-to-requires-2 : tie.Need-narrow-to-requires-2
+narrow-to-requires-2 c κs = search needs
 
-same-length-8 : tie.Need-same-length-8
-same-length-8 c = search needs
+same-length-5 : tie.Need-same-length-5
+same-length-5 c = search needs
 
 returns-5 : tie.Need-returns-5
-returns-5 c = jump-zero-moves _ _ _ (c .before .before .before .before .before .before .before .before .before .before .before .before .before .before .before .before .before .before .before .before .before .before .before .before .pre .1) (sym (c .before .before .before .before .before .before .before .before .before .before .before .before .before .before .before .before .before .field-of .ensures .0) ∙ eleven _ (c .before .before .before .before .before .before .before .before .before .before .before .before .before .before .if1 .left) (c .before .before .before .before .before .before .before .before .before .before .before .before .if3 .left) (c .before .before .before .before .before .before .if4 .left)) (became-sent _ (c .before .before .before .before .before .before .before .before .before .before .before .field-of2 .ensures .0) (c .before .before .before .before .before .before .before .before .before .before .before .before .before .before .before .held-at .ensures) (c .before .before .before .before .before .before .before .before .before .narrow-to3 .ensures)) (became-sent _ refl (c .before .before .before .before .held-at2 .ensures) (c .before .before .narrow-to4 .ensures))
+returns-5 c = jump-zero-moves _ _ _ (c .before .before .before .before .before .before .before .before .before .before .before .before .before .before .before .before .before .before .before .before .before .before .before .pre .1) (sym (c .before .before .before .before .before .before .before .before .before .before .before .before .before .before .before .before .before .field-of .ensures .0) ∙ eleven _ (c .before .before .before .before .before .before .before .before .before .before .before .before .before .before .if1 .left) (c .before .before .before .before .before .before .before .before .before .before .before .before .if3 .left) (c .before .before .before .before .before .before .if4 .left)) (became-sent _ (c .before .before .before .before .before .before .before .before .before .before .before .field-of2 .ensures .0) (c .before .before .before .before .before .before .before .before .before .before .before .before .before .before .before .held-at .ensures) (c .before .before .before .before .before .before .before .before .before .narrow-to .ensures)) (became-sent _ refl (c .before .before .before .before .held-at2 .ensures) (c .before .before .narrow-to2 .ensures))
 
 pub step-spec : {M : Type 1} → statement M
 step-spec =
@@ -87,24 +78,21 @@ step-spec =
     add-line
     field-of-requires
     held-at-requires
-    narrow-to-requires
+    hand-back-requires
     same-length
-    same-length-2
     returns
-    narrow-to-requires-2
-    same-length-3
-    same-length-4
+    hand-back-requires-2
+    same-length-2
     returns-2
     go-on-requires
-    same-length-5
-    same-length-6
+    same-length-3
     returns-3
     field-of-requires-2
-    narrow-to-requires-3
-    same-length-7
+    narrow-to-requires
+    same-length-4
     returns-4
     held-at-requires-2
     add-narrow-to
-    narrow-to-requires-4
-    same-length-8
+    narrow-to-requires-2
+    same-length-5
     returns-5)

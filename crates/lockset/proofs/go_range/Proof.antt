@@ -18,7 +18,7 @@ loop-holds : tie.Need-loop-holds Inv-loop μ-loop
 loop-holds c = (omega arith, part-start)
 
 step-requires : tie.Need-step-requires Inv-loop μ-loop
-step-requires c κs = (c .before .before .before .before .before .before .before .before .before .pre .0, record { there = c .before .before .before .before .before .before .before .before .before .pre .1 .there; low = omega (arith, c .before .before .before .loop .inv .0, c .before .before .before .before .before .before .before .before .before .pre .1 .low); high = omega (arith, c .before .before .loop-test .taken, c .before .before .before .before .before .before .before .before .before .pre .1 .high) })
+step-requires c κs = (c .before .before .before .before .before .before .before .before .pre .0, record { there = c .before .before .before .before .before .before .before .before .pre .1 .there; low = omega (arith, c .before .before .before .loop .inv .0, c .before .before .before .before .before .before .before .before .pre .1 .low); high = omega (arith, c .before .before .loop-test .taken, c .before .before .before .before .before .before .before .before .pre .1 .high) })
 
 mark-if-requires : tie.Need-mark-if-requires Inv-loop μ-loop
 mark-if-requires c κs = search needs
@@ -27,19 +27,16 @@ either-requires : tie.Need-either-requires Inv-loop μ-loop
 either-requires c κs = search needs
 
 add-s : tie.Need-add-s Inv-loop μ-loop
-add-s c = omega (arith, c .before .before .before .before .before .before .before .before .before .before .loop-test .taken, c .before .before .before .before .before .before .before .before .before .before .before .before .before .before .before .before .before .pre .1 .high, c .before .before .before .before .before .before .before .before .before .before .before .before .before .before .before .before .before .pre .0 .first-small (c .before .before .before .before .before .before .before .before .before .before .before .before .before .before .before .before .before .args .part .routine + 1))
+add-s c = omega (arith, c .before .before .before .before .before .before .before .before .loop-test .taken, c .before .before .before .before .before .before .before .before .before .before .before .before .before .before .pre .1 .high, c .before .before .before .before .before .before .before .before .before .before .before .before .before .before .pre .0 .first-small (c .before .before .before .before .before .before .before .before .before .before .before .before .before .before .args .part .routine + 1))
 
 loop-less : tie.Need-loop-less Inv-loop μ-loop
 loop-less c = search needs
 
 loop-again : tie.Need-loop-again Inv-loop μ-loop
-loop-again c = (omega (arith, c .before .before .before .before .before .before .before .before .before .before .before .loop .inv .0), part-next (c .before .before .before .before .before .before .before .before .before .before .before .loop .inv .1) (moved-or (c .either .ensures) (c .before .before .before .before .before .before .before .step .ensures)))
+loop-again c = (omega (arith, c .before .before .before .before .before .before .before .before .before .loop .inv .0), part-next (c .before .before .before .before .before .before .before .before .before .loop .inv .1) (moved-or (c .either .ensures) (c .before .before .before .before .before .step .ensures)))
 
 same-length : tie.Need-same-length Inv-loop μ-loop
 same-length c = c .before .loop .inv .1 .kept .long
-
-same-length-2 : tie.Need-same-length-2 Inv-loop μ-loop
-same-length-2 c = c .before .loop .inv .1 .kept .back-long
 
 returns : tie.Need-returns Inv-loop μ-loop
 returns c = part-as (omega arith) (omega (arith, c .loop-test .left)) (c .before .loop .inv .1)
@@ -58,5 +55,4 @@ go-range-spec =
     loop-less
     loop-again
     same-length
-    same-length-2
     returns)

@@ -8,9 +8,6 @@ use Rattle.lockset.proofs.held_sets.Tie as tie
 fixed-of-requires : tie.Need-fixed-of-requires
 fixed-of-requires c κs = search needs
 
-slice-aggregate-settle : tie.Need-slice-aggregate-settle
-slice-aggregate-settle c = search needs
-
 settle-requires : tie.Need-settle-requires
 settle-requires c κs = accepted-small _ (c .before .before .before .before .before .before .before .pre .0) (c .before .before .before .before .before .before .before .pre .1 .0) (c .before .before .fixed-of .ensures)
 
@@ -21,14 +18,13 @@ same-length : tie.Need-same-length
 same-length c = search needs
 
 returns : tie.Need-returns
-returns c = held-is _ (c .before .before .before .before .before .before .before .before .before .before .before .before .before .before .before .pre .0) (c .before .before .before .before .before .before .before .before .before .before .before .before .before .before .before .pre .1 .0) (c .before .before .before .before .before .before .before .before .before .before .fixed-of .ensures) (λ i. omega (arith, c .before .before .before .before .before .before .before .before .before .before .before .before .before .shared-slice-known2 .given i)) (c .before .before .before .before .before .before .before .before .before .before .before .before .before .before .before .pre .1 .1) (c .before .before .before .before .before .before .before .settle .ensures) (c .before .before .turn-round .ensures)
+returns c = held-is _ (c .before .before .before .before .before .before .before .before .before .before .before .before .before .before .pre .0) (c .before .before .before .before .before .before .before .before .before .before .before .before .before .before .pre .1 .0) (c .before .before .before .before .before .before .before .before .before .fixed-of .ensures) (λ i. omega (arith, c .before .before .before .before .before .before .before .before .before .before .before .before .shared-slice-known2 .given i)) (c .before .before .before .before .before .before .before .before .before .before .before .before .before .before .pre .1 .1) (c .before .before .before .before .before .before .settle .ensures) (c .before .before .turn-round .ensures)
 
 pub held-sets-spec : {M : Type 1} → statement M
 held-sets-spec =
     tie.close
     (tie.spec
     fixed-of-requires
-    slice-aggregate-settle
     settle-requires
     turn-round-requires
     same-length

@@ -11,7 +11,7 @@ returns : tie.Need-returns
 returns c = search needs
 
 go-range-requires : tie.Need-go-range-requires
-go-range-requires c κs = (c .before .before .before .before .before .before .before .before .before .before .pre .0, c .before .before .before .before .is-among .ensures (not-false _ (c .before .before .before .if1 .left)))
+go-range-requires c κs = (c .before .before .before .before .before .before .before .before .before .pre .0, c .before .before .before .before .is-among .ensures (not-false _ (c .before .before .before .if1 .left)))
 
 mark-after-requires : tie.Need-mark-after-requires
 mark-after-requires c κs = search needs
@@ -19,17 +19,11 @@ mark-after-requires c κs = search needs
 same-length : tie.Need-same-length
 same-length c = search needs
 
-same-length-2 : tie.Need-same-length-2
-same-length-2 c = search needs
-
 returns-2 : tie.Need-returns-2
 returns-2 c = search needs
 
-same-length-3 : tie.Need-same-length-3
-same-length-3 c = search needs
-
-same-length-4 : tie.Need-same-length-4
-same-length-4 c = search needs
+same-length-2 : tie.Need-same-length-2
+same-length-2 c = search needs
 
 returns-3 : tie.Need-returns-3
 returns-3 c = search needs
@@ -43,8 +37,6 @@ look-spec =
     go-range-requires
     mark-after-requires
     same-length
-    same-length-2
     returns-2
-    same-length-3
-    same-length-4
+    same-length-2
     returns-3)

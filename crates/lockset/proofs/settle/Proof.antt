@@ -15,28 +15,25 @@ abbrev μ-loop : tie.MeasureT-loop
 μ-loop out₀ back₀ numbers first flow given fixed marks₀ going₀ out back marks going = room out + room back + turn going
 
 first-passes-requires : tie.Need-first-passes-requires Inv-loop μ-loop
-first-passes-requires c κs = c .before .before .before .before .before .before .before .pre
+first-passes-requires c κs = c .before .before .before .before .before .before .pre
 
 loop-holds : tie.Need-loop-holds Inv-loop μ-loop
-loop-holds c = settling-on (c .before .before .before .before .first-passes .ensures)
+loop-holds c = settling-on (c .before .before .first-passes .ensures)
 
 pass-requires : tie.Need-pass-requires Inv-loop μ-loop
-pass-requires c κs = c .before .before .before .before .before .before .before .before .before .before .before .before .before .before .before .before .before .pre
+pass-requires c κs = c .before .before .before .before .before .before .before .before .before .before .before .before .before .before .pre
 
 loop-less : tie.Need-loop-less Inv-loop μ-loop
-loop-less c = settling-less (c .before .before .before .before .before .before .before .before .loop-test .taken) (c .before .before .before .before .pass .ensures)
+loop-less c = settling-less (c .before .before .before .before .before .before .loop-test .taken) (c .before .before .pass .ensures)
 
 loop-again : tie.Need-loop-again Inv-loop μ-loop
-loop-again c = settling-next (c .before .before .before .before .before .before .before .before .before .loop .inv) (c .before .before .before .before .pass .ensures)
+loop-again c = settling-next (c .before .before .before .before .before .before .before .loop .inv) (c .before .before .pass .ensures)
 
 same-length : tie.Need-same-length Inv-loop μ-loop
-same-length c = c .before .loop .inv .kept .long ∙ c .before .before .before .before .before .before .first-passes .ensures .kept .long
-
-same-length-2 : tie.Need-same-length-2 Inv-loop μ-loop
-same-length-2 c = c .before .loop .inv .kept .back-long ∙ c .before .before .before .before .before .before .first-passes .ensures .kept .back-long
+same-length c = c .before .loop .inv .kept .long ∙ c .before .before .before .before .first-passes .ensures .kept .long
 
 returns : tie.Need-returns Inv-loop μ-loop
-returns c = solved-then (c .before .before .before .before .before .before .first-passes .ensures .kept) (settling-done (c .loop-test .left) (c .before .loop .inv))
+returns c = solved-then (c .before .before .before .before .first-passes .ensures .kept) (settling-done (c .loop-test .left) (c .before .loop .inv))
 
 pub settle-spec : {M : Type 1} → statement M
 settle-spec =
@@ -50,5 +47,4 @@ settle-spec =
     loop-less
     loop-again
     same-length
-    same-length-2
     returns)

@@ -27,9 +27,6 @@ next-marked-requires c κs = search needs
 same-length : tie.Need-same-length Inv-loop μ-loop
 same-length c = c .before .before .before .before .loop .inv .long
 
-same-length-2 : tie.Need-same-length-2 Inv-loop μ-loop
-same-length-2 c = c .before .before .before .before .loop .inv .back-long
-
 returns : tie.Need-returns Inv-loop μ-loop
 returns c = c .before .before .before .before .loop .inv
 
@@ -40,7 +37,7 @@ add-t25 : tie.Need-add-t25 Inv-loop μ-loop
 add-t25 c = search needs
 
 look-requires : tie.Need-look-requires Inv-loop μ-loop
-look-requires c κs = (c .before .before .before .before .before .before .before .before .before .before .before .before .before .before .before .before .before .before .before .before .before .before .before .pre, (c .before .before .before .before .owner-at .ensures, omega (arith, c .before .before .before .before .before .before .if1 .left)))
+look-requires c κs = (c .before .before .before .before .before .before .before .before .before .before .before .before .before .before .before .before .before .before .before .before .before .before .pre, (c .before .before .before .before .owner-at .ensures, omega (arith, c .before .before .before .before .before .before .if1 .left)))
 
 unmark-requires : tie.Need-unmark-requires Inv-loop μ-loop
 unmark-requires c κs = search needs
@@ -52,13 +49,10 @@ loop-less : tie.Need-loop-less Inv-loop μ-loop
 loop-less c = search needs
 
 loop-again : tie.Need-loop-again Inv-loop μ-loop
-loop-again c = kept-then (c .before .before .before .before .before .before .before .before .before .before .before .before .before .before .before .before .before .loop .inv) (c .before .before .before .before .before .before .look .ensures)
+loop-again c = kept-then (c .before .before .before .before .before .before .before .before .before .before .before .before .before .before .before .loop .inv) (c .before .before .before .before .look .ensures)
 
-same-length-3 : tie.Need-same-length-3 Inv-loop μ-loop
-same-length-3 c = c .before .loop .inv .long
-
-same-length-4 : tie.Need-same-length-4 Inv-loop μ-loop
-same-length-4 c = c .before .loop .inv .back-long
+same-length-2 : tie.Need-same-length-2 Inv-loop μ-loop
+same-length-2 c = c .before .loop .inv .long
 
 returns-2 : tie.Need-returns-2 Inv-loop μ-loop
 returns-2 c = c .before .loop .inv
@@ -74,7 +68,6 @@ work-through-spec =
     loop-holds
     next-marked-requires
     same-length
-    same-length-2
     returns
     owner-at-requires
     add-t25
@@ -83,6 +76,5 @@ work-through-spec =
     sub-left
     loop-less
     loop-again
-    same-length-3
-    same-length-4
+    same-length-2
     returns-2)
