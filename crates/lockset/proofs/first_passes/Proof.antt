@@ -2,7 +2,7 @@
 use borrow.Author.Tests.{not-true}
 use borrow.Author.Needs.{needs}
 use Rattle.lock_rules.specs.MoveLaws.{kept-then}
-use Rattle.lockset.specs.PassLaws.{solved-then, pass-closes, settling-going, settling-closed}
+use Rattle.lockset.specs.SettleLaws.{solved-then, pass-closes, settling-going, settling-closed}
 use Rattle.lockset.proofs.first_passes.Statement.{statement}
 use Rattle.lockset.proofs.first_passes.Tie as tie
 

@@ -3,8 +3,8 @@ use mathlib.Core.Path.{_∙_}
 use Prim.Native.Nat.{_+_}
 use Rattle.sets.specs.Least.{room}
 use Rattle.lock_rules.specs.Rules.{setting}
-use Rattle.lockset.specs.Passes.{Settling}
-use Rattle.lockset.specs.PassLaws.{turn, settling-on, settling-next, settling-less, settling-done, solved-then}
+use Rattle.lockset.specs.Settle.{Settling}
+use Rattle.lockset.specs.SettleLaws.{turn, settling-on, settling-next, settling-less, settling-done, solved-then}
 use Rattle.lockset.proofs.settle.Statement.{statement}
 use Rattle.lockset.proofs.settle.Tie as tie
 

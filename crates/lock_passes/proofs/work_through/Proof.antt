@@ -1,10 +1,10 @@
--- `lockset::work_through` meets its contract. Every statement that is looked at keeps what those before it kept. Assumes nothing.
+-- `lock_passes::work_through` meets its contract. Every statement that is looked at keeps what those before it kept. Assumes nothing.
 use native.Mathlib.Omega.{arith}
 use borrow.Author.Needs.{needs}
 use Rattle.lock_rules.specs.Rules.{setting, Kept}
 use Rattle.lock_rules.specs.MoveLaws.{kept-none, kept-then}
-use Rattle.lockset.proofs.work_through.Statement.{statement}
-use Rattle.lockset.proofs.work_through.Tie as tie
+use Rattle.lock_passes.proofs.work_through.Statement.{statement}
+use Rattle.lock_passes.proofs.work_through.Tie as tie
 
 abbrev Inv-loop : tie.InvT-loop
 Inv-loop out₀ back₀ numbers first flow given fixed changed marks₀ calls owners s₀ left₀ out back marks s left = Kept (setting numbers first flow given fixed) out₀ back₀ out back

@@ -1,11 +1,11 @@
--- `lockset::is_among` meets its contract. Assumes nothing.
+-- `lock_passes::is_among` meets its contract. Assumes nothing.
 use mathlib.Core.Path.{_≡_}
 use Prim.Native.Nat.{ℕ}
 use native.Mathlib.Omega.{arith}
 use borrow.Author.Tests.{leb-true}
 use borrow.Author.Needs.{needs}
-use Rattle.lockset.proofs.is_among.Statement.{statement}
-use Rattle.lockset.proofs.is_among.Tie as tie
+use Rattle.lock_passes.proofs.is_among.Statement.{statement}
+use Rattle.lock_passes.proofs.is_among.Tie as tie
 
 field-of-requires : tie.Need-field-of-requires
 field-of-requires c κs = search needs

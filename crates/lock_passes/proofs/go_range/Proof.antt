@@ -1,12 +1,12 @@
--- `lockset::go_range` meets its contract. Its loop has gone the ways of the statements below s. Assumes nothing.
+-- `lock_passes::go_range` meets its contract. Its loop has gone the ways of the statements below s. Assumes nothing.
 use mathlib.Core.Bool.{false}
 use Prim.Native.Nat.{_+_, _-_, _≤_}
 use native.Mathlib.Omega.{arith}
 use borrow.Author.Needs.{needs}
 use Rattle.lock_rules.specs.Rules.{setting, RulesIn, Moved}
-use Rattle.lockset.specs.PassLaws.{moved-or, part-start, part-next, part-as}
-use Rattle.lockset.proofs.go_range.Statement.{statement}
-use Rattle.lockset.proofs.go_range.Tie as tie
+use Rattle.lock_passes.specs.PassLaws.{moved-or, part-start, part-next, part-as}
+use Rattle.lock_passes.proofs.go_range.Statement.{statement}
+use Rattle.lock_passes.proofs.go_range.Tie as tie
 
 abbrev Inv-loop : tie.InvT-loop
 Inv-loop out₀ back₀ numbers first flow given fixed marks₀ routine end s₀ changed₀ out back marks s changed = (s₀ ≤ s) × Moved (setting numbers first flow given fixed) (RulesIn (setting numbers first flow given fixed) routine s₀ s) out₀ back₀ out back false changed

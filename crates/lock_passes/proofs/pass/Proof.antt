@@ -1,13 +1,13 @@
--- `lockset::pass` meets its contract. Its loop has gone the ways of the routines below r. Assumes nothing.
+-- `lock_passes::pass` meets its contract. Its loop has gone the ways of the routines below r. Assumes nothing.
 use mathlib.Core.Path.{_∙_}
 use Prim.Native.Nat.{_-_, _≤_}
 use native.Mathlib.Omega.{arith}
 use borrow.Author.Needs.{needs}
 use Rattle.lock_rules.specs.Rules.{setting, Moved}
-use Rattle.lockset.specs.Passes.{RoutinesBelow}
-use Rattle.lockset.specs.PassLaws.{moved-or, routines-start, routines-next, routines-done, part-as}
-use Rattle.lockset.proofs.pass.Statement.{statement}
-use Rattle.lockset.proofs.pass.Tie as tie
+use Rattle.lock_passes.specs.Passes.{RoutinesBelow}
+use Rattle.lock_passes.specs.PassLaws.{moved-or, routines-start, routines-next, routines-done, part-as}
+use Rattle.lock_passes.proofs.pass.Statement.{statement}
+use Rattle.lock_passes.proofs.pass.Tie as tie
 
 abbrev Inv-loop : tie.InvT-loop
 Inv-loop out₀ back₀ numbers first flow given fixed marks₀ count changed₀ r₀ out back marks changed r = (r ≤ count) × Moved (setting numbers first flow given fixed) (RoutinesBelow (setting numbers first flow given fixed) r) out₀ back₀ out back changed₀ changed

@@ -1,8 +1,8 @@
--- `lockset::look` meets its contract. What the worklist says of the routine is tested before the ways are gone. Assumes nothing.
+-- `lock_passes::look` meets its contract. What the worklist says of the routine is tested before the ways are gone. Assumes nothing.
 use borrow.Author.Tests.{not-false}
 use borrow.Author.Needs.{needs}
-use Rattle.lockset.proofs.look.Statement.{statement}
-use Rattle.lockset.proofs.look.Tie as tie
+use Rattle.lock_passes.proofs.look.Statement.{statement}
+use Rattle.lock_passes.proofs.look.Tie as tie
 
 is-among-requires : tie.Need-is-among-requires
 is-among-requires c κs = search needs
