@@ -1,81 +1,61 @@
+-- `operations::call` meets its contract. Assumes nothing.
+use mathlib.Core.Path.{refl, sym, ap, _∙_}
+use mathlib.Core.Logic.{inl, inr}
+use native.Mathlib.Omega.{arith}
 use borrow.Author.Needs.{needs}
 use Rattle.operations.proofs.call.Statement.{statement}
 use Rattle.operations.proofs.call.Tie as tie
-use Rattle.operations.proofs.call.Reads as reads
-use Rattle.operations.proofs.call.Lts as lts
-use Rattle.operations.proofs.going_on.Reads as going-on-reads
-use Rattle.run_state.proofs.frames.enter.Reads as enter-reads
-use Rattle.run_state.proofs.places.count_of.Reads as count-of-reads
-use Rattle.run_state.proofs.places.go_to.Reads as go-to-reads
-use Rattle.run_state.proofs.places.put_count.Reads as put-count-reads
 
--- src/lib.rt:198:9
 count-of-requires : tie.Need-count-of-requires
 count-of-requires c κs = search needs
 
--- src/lib.rt:200:9
 returns : tie.Need-returns
-returns c = ?
+returns c = inl (record { full = rw (c .before .count-of .ensures) at (c .if1 .taken); answer-is = refl; words-are = refl; values-are = refl })
 
--- src/lib.rt:207:9
 mul-enter : tie.Need-mul-enter
 mul-enter c = search needs
 
--- src/lib.rt:207:9
 element-copy-out-enter : tie.Need-element-copy-out-enter
 element-copy-out-enter c = search needs
 
--- src/lib.rt:208:16
 add-enter : tie.Need-add-enter
 add-enter c = search needs
 
--- src/lib.rt:208:9
 mul-enter-2 : tie.Need-mul-enter-2
 mul-enter-2 c = search needs
 
--- src/lib.rt:208:9
 element-copy-out-enter-2 : tie.Need-element-copy-out-enter-2
 element-copy-out-enter-2 c = search needs
 
--- src/lib.rt:211:9
 add-enter-2 : tie.Need-add-enter-2
 add-enter-2 c = search needs
 
--- src/lib.rt:205:5
 enter-requires : tie.Need-enter-requires
-enter-requires c κs = ?
+enter-requires c κs = let p = c .before .before .before .before .before .before .pre in (record { accepted = p .0 .accepted; few = p .0 .few; there = p .0 .there; slot-low = omega arith; caller-low = p .1 .slot-low; apart = λ e. omega arith }, p .3, p .4)
 
--- src/lib.rt:214:18
 add-go-to : tie.Need-add-go-to
 add-go-to c = search needs
 
--- src/lib.rt:214:28
 mul-go-to : tie.Need-mul-go-to
 mul-go-to c = search needs
 
--- src/lib.rt:214:28
 element-copy-out-go-to : tie.Need-element-copy-out-go-to
 element-copy-out-go-to c = search needs
 
--- src/lib.rt:214:5
 go-to-requires : tie.Need-go-to-requires
 go-to-requires c κs = search needs
 
--- src/lib.rt:215:33
 add-put-count : tie.Need-add-put-count
 add-put-count c = search needs
 
--- src/lib.rt:215:5
 put-count-requires : tie.Need-put-count-requires
 put-count-requires c κs = search needs
 
--- src/lib.rt:216:5
 going-on-requires : tie.Need-going-on-requires
 going-on-requires c κs = search needs
 
--- src/lib.rt:184:1
 returns-2 : tie.Need-returns-2
-returns-2 c = ?
+returns-2 c = inr (record { free = rw (c .before .before .before .before .before .before .before .before .before .before .before .count-of .ensures) at (c .before .before .before .before .before .before .before .before .before .before .if1 .left); answer-is = c .going-on .ensures; words-are = rw (c .before .put-count .ensures, c .before .before .before .go-to .ensures, c .before .before .before .before .before .before .before .before .before .before .before .count-of .ensures); entered = c .before .before .before .before .before .before .enter .ensures })
 
 pub call-spec : {M : Type 1} → statement M
 call-spec =

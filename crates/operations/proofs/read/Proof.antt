@@ -1,32 +1,25 @@
+-- `operations::read` meets its contract. Assumes nothing.
+use mir.Val.{SFits}
+use mir.Syntax.{w32}
+use mir.Facts.{toZ-ofZ}
 use borrow.Author.Needs.{needs}
 use Rattle.operations.proofs.read.Statement.{statement}
 use Rattle.operations.proofs.read.Tie as tie
-use Rattle.operations.proofs.read.Reads as reads
-use Rattle.operations.proofs.read.Lts as lts
-use Rattle.operations.proofs.going_on.Reads as going-on-reads
-use Rattle.run_state.proofs.frames.value_of.Reads as value-of-reads
-use Rattle.run_state.proofs.places.cell_at.Reads as cell-at-reads
-use Rattle.run_state.proofs.places.put_accumulator.Reads as put-accumulator-reads
 
--- src/lib.rt:78:43
 value-of-requires : tie.Need-value-of-requires
 value-of-requires c κs = search needs
 
--- src/lib.rt:78:9
 cell-at-requires : tie.Need-cell-at-requires
 cell-at-requires c κs = search needs
 
--- src/lib.rt:79:5
 put-accumulator-requires : tie.Need-put-accumulator-requires
 put-accumulator-requires c κs = search needs
 
--- src/lib.rt:80:5
 going-on-requires : tie.Need-going-on-requires
 going-on-requires c κs = search needs
 
--- src/lib.rt:68:1
 returns : tie.Need-returns
-returns c = ?
+returns c = let f : SFits w32 (c .before .before .before .cell-at .result) = record { sfits = c .before .before .before .cell-at .ok } in (c .going-on .ensures, rw (c .before .put-accumulator .ensures, toZ-ofZ f, c .before .before .before .cell-at .ensures, c .before .before .before .before .value-of .ensures .0))
 
 pub read-spec : {M : Type 1} → statement M
 read-spec =
