@@ -81,6 +81,15 @@ started-kept : (words : List ℕ) (j x : ℕ) → (startedPlace ≡ j → ⊥) �
 unfolding startedIn
 started-kept words j x apart = getD-set-other words j startedPlace x 0 apart
 
+-- where a thread is started, the place that says so is there
+pub started-there : (words : List ℕ) → 0 < startedIn words → startedPlace < length words
+unfolding startedIn
+started-there words some = go (ltb startedPlace (length words)) refl
+  where
+    go : (b : Bool) → ltb startedPlace (length words) ≡ b → startedPlace < length words
+    go true e = ltb-true startedPlace (length words) e
+    go false e = let none = List·getD-eq-default words 0 {n = startedPlace} (ltb-false startedPlace (length words) e) in absurd (omega arith)
+
 -- ---- the lists after a store
 
 module _ (t : Table) (words values : List ℕ) (registers : List ℤ) where
