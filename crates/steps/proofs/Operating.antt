@@ -34,30 +34,45 @@ use Rattle.operations.specs.Operation.{Placed, on, to, stopped, Locked, Called,
 use Rattle.steps.specs.Stepped.{Stepped, Here, Operated}
 use Rattle.steps.specs.StepLaws.{Top, top, placed, read-step, write-step, set-step, add-step, jump-step, jump-zero-step, return-step, take-refused, take-step, give-refused, give-step, point-step, call-refused, call-step, start-refused, start-step}
 
+-- the statement of a line is the table's
+line-said : (numbers : List ℤ) (base next : ℕ) (σ : Statement) → base ≡ statementLine numbers 0
+    → σ ≡ statementIn numbers (base + next) (field numbers (base + next) 1) → σ ≡ statementOf numbers next
+unfolding statementOf
+line-said numbers base next σ b q =
+    let e : base + next ≡ statementLine numbers next = omega arith in
+    subst (λ (line : ℕ). σ ≡ statementIn numbers line (field numbers line 1)) e q
+
 -- ---- before the statement is read
 
-module _ (numbers : List ℤ) (first handle : List ℕ) (sizes : Sizes) (words values : List ℕ) (registers : List ℤ) (n : ℕ)
-    (s : Standing numbers first handle sizes words values registers) (low : n < startedIn words) where
-  -- a thread that is started is one of 16, and its newest slot one of 512
-  pub thread-low : n < 16
-  thread-low = omega (arith, s .shows .most)
+-- the line of a statement is there
+pub record Lined (numbers : List ℤ) (line : ℕ) : Type 0 where
+  pub small : line < 65536
+  pub there : line * 8 + 8 ≤ length numbers
 
-  pub frames-few : getD (countsIn words) n 0 ≤ 32
-  frames-few = s .shows .thread-is n low .few
+-- a thread that is started and has a frame open
+module _ (numbers : List ℤ) (first handle : List ℕ) (sizes : Sizes) (words values : List ℕ) (registers : List ℤ) (n started count : ℕ)
+    (s : Standing numbers first handle sizes words values registers) (started-is : started ≡ startedIn words) (low : n < started)
+    (count-is : count ≡ getD (countsIn words) n 0) (some : count ≡ 0 → ⊥) where
+  inside : n < startedIn words
+  inside = omega (arith, started-is)
 
-  -- the line of its next statement is there
-  pub record Lined (line : ℕ) : Type 0 where
-    pub small : line < 65536
-    pub there : line * 8 + 8 ≤ length numbers
+  -- its newest frame's slot
+  pub newest-low : n * 32 + count - 1 < 512
+  newest-low = omega (arith, s .shows .most, inside, count-is, s .shows .thread-is n inside .few)
 
-  pub lined : (slot next : ℕ) → 0 < getD (countsIn words) n 0 → slot + 1 ≡ n * 32 + getD (countsIn words) n 0 → next ≡ getD (nextsIn words) slot 0
-      → Lined (sizes .base + next)
+  newest-is : n * 32 + count - 1 + 1 ≡ n * 32 + getD (countsIn words) n 0
+  newest-is = omega (arith, count-is, some)
+
+  some-open : 0 < getD (countsIn words) n 0
+  some-open = omega (arith, count-is, some)
+
+  pub lined : (next : ℕ) → next ≡ getD (nextsIn words) (n * 32 + count - 1) 0 → Lined numbers (sizes .base + next)
   unfolding tableOf
-  lined slot next m e q =
-      let p = top (tableOf numbers) (view (tableOf numbers) words values registers) (s .state) n slot (s .shows) low m e in
+  lined next q =
+      let p = top (tableOf numbers) (view (tableOf numbers) words values registers) (s .state) n (n * 32 + count - 1) (s .shows) inside some-open newest-is in
       let accepted = s .fixed .accepted in
       let facts = accepted .routine-facts (p .f .routine) (p .shown .there) in
-      let inside : next < statements numbers = omega (arith, q ∙ p .shown .next-is, p .shown .inside .high, rw length-tabulate at (facts .statements-there)) in
+      let within : next < statements numbers = omega (arith, q ∙ p .shown .next-is, p .shown .inside .high, rw length-tabulate at (facts .statements-there)) in
       let base : sizes .base ≡ statementLine numbers 0 = s .fixed .sized .base-is in
       record {
         small =
@@ -70,13 +85,18 @@ module _ (numbers : List ℤ) (first handle : List ℕ) (sizes : Sizes) (words v
         there = omega (arith, s .fixed .long);
       }
 
--- the statement of that line is the table's
-pub line-said : (numbers : List ℤ) (base next : ℕ) (σ : Statement) → base ≡ statementLine numbers 0
-    → σ ≡ statementIn numbers (base + next) (field numbers (base + next) 1) → σ ≡ statementOf numbers next
-unfolding statementOf
-line-said numbers base next σ b q =
-    let e : base + next ≡ statementLine numbers next = omega arith in
-    subst (λ (line : ℕ). σ ≡ statementIn numbers line (field numbers line 1)) e q
+  pub here-at : (next : ℕ) (σ : Statement) → next ≡ getD (nextsIn words) (n * 32 + count - 1) 0
+      → σ ≡ statementIn numbers (sizes .base + next) (field numbers (sizes .base + next) 1)
+      → Here numbers first handle sizes words values registers (record { thread = n; slot = n * 32 + count - 1; next = next }) σ
+  here-at next σ q e =
+      record {
+        standing = s;
+        low = inside;
+        some = some-open;
+        slot-is = newest-is;
+        next-is = q;
+        statement-is = line-said numbers (sizes .base) next σ (s .fixed .sized .base-is) e;
+      }
 
 -- ---- at the statement
 

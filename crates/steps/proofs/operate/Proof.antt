@@ -1,159 +1,119 @@
+-- `steps::operate` meets its contract. Assumes nothing.
+use mir.Val.{SFits}
+use mir.Syntax.{w32}
+use mir.Facts.{toZ-ofZ}
+use native.Mathlib.Omega.{arith}
+use mathlib.Core.Path.{refl}
+use mathlib.Core.Logic.{inl, inr}
+use Rattle.steps.proofs.Operating.{placed-here, cells-few, locks-few, count-few, values-long, slot-below, lines-there, named, did-read, did-write, did-set, did-add, did-take, did-give, did-point, did-call, did-start, did-jump, did-jump-zero, did-return}
 use borrow.Author.Needs.{needs}
 use Rattle.steps.proofs.operate.Statement.{statement}
 use Rattle.steps.proofs.operate.Tie as tie
-use Rattle.steps.proofs.operate.Reads as reads
-use Rattle.steps.proofs.operate.Lts as lts
-use Rattle.operations.proofs.add.Reads as add-reads
-use Rattle.operations.proofs.call.Reads as call-reads
-use Rattle.operations.proofs.close.Reads as close-reads
-use Rattle.operations.proofs.give.Reads as give-reads
-use Rattle.operations.proofs.jump_zero.Reads as jump-zero-reads
-use Rattle.operations.proofs.point.Reads as point-reads
-use Rattle.operations.proofs.read.Reads as read-reads
-use Rattle.operations.proofs.set.Reads as set-reads
-use Rattle.operations.proofs.start.Reads as start-reads
-use Rattle.operations.proofs.take.Reads as take-reads
-use Rattle.operations.proofs.write.Reads as write-reads
 
--- src/lib.rt:58:25
 enum-known-statement : tie.Need-enum-known-statement
 enum-known-statement c = search needs
 
--- src/lib.rt:58:31
 read-requires : tie.Need-read-requires
-read-requires c κs = ?
+read-requires c κs = (placed-here _ _ _ _ _ _ _ _ _ (c .before .before .before .before .before .pre), cells-few _ _ _ _ _ _ _ _ _ (c .before .before .before .before .before .pre))
 
--- src/lib.rt:59:26
 enum-known-statement-2 : tie.Need-enum-known-statement-2
 enum-known-statement-2 c = search needs
 
--- src/lib.rt:59:32
 write-requires : tie.Need-write-requires
-write-requires c κs = ?
+write-requires c κs = (placed-here _ _ _ _ _ _ _ _ _ (c .before .before .before .before .before .pre), cells-few _ _ _ _ _ _ _ _ _ (c .before .before .before .before .before .pre))
 
--- src/lib.rt:60:24
 enum-known-statement-3 : tie.Need-enum-known-statement-3
 enum-known-statement-3 c = search needs
 
--- src/lib.rt:60:35
 set-requires : tie.Need-set-requires
-set-requires c κs = ?
+set-requires c κs = placed-here _ _ _ _ _ _ _ _ _ (c .before .before .before .before .pre)
 
--- src/lib.rt:61:24
 enum-known-statement-4 : tie.Need-enum-known-statement-4
 enum-known-statement-4 c = search needs
 
--- src/lib.rt:61:35
 add-requires : tie.Need-add-requires
-add-requires c κs = ?
+add-requires c κs = placed-here _ _ _ _ _ _ _ _ _ (c .before .before .before .before .pre)
 
--- src/lib.rt:62:25
 enum-known-statement-5 : tie.Need-enum-known-statement-5
 enum-known-statement-5 c = search needs
 
--- src/lib.rt:62:31
 take-requires : tie.Need-take-requires
-take-requires c κs = ?
+take-requires c κs = (placed-here _ _ _ _ _ _ _ _ _ (c .before .before .before .before .before .pre), locks-few _ _ _ _ _ _ _ _ _ (c .before .before .before .before .before .pre))
 
--- src/lib.rt:63:25
 enum-known-statement-6 : tie.Need-enum-known-statement-6
 enum-known-statement-6 c = search needs
 
--- src/lib.rt:63:31
 give-requires : tie.Need-give-requires
-give-requires c κs = ?
+give-requires c κs = (placed-here _ _ _ _ _ _ _ _ _ (c .before .before .before .before .before .pre), locks-few _ _ _ _ _ _ _ _ _ (c .before .before .before .before .before .pre))
 
--- src/lib.rt:64:36
 enum-known-statement-7 : tie.Need-enum-known-statement-7
 enum-known-statement-7 c = search needs
 
--- src/lib.rt:64:52
 point-requires : tie.Need-point-requires
-point-requires c κs = ?
+point-requires c κs = placed-here _ _ _ _ _ _ _ _ _ (c .before .before .before .before .pre)
 
--- src/lib.rt:65:27
 enum-known-statement-8 : tie.Need-enum-known-statement-8
 enum-known-statement-8 c = search needs
 
--- src/lib.rt:65:51
 call-requires : tie.Need-call-requires
-call-requires c κs = ?
+call-requires c κs = (named _ _ _ _ _ _ _ _ _ (c .before .before .before .before .before .pre) _ _ (inl (c .before .before .before .statement8 .given .1)), placed-here _ _ _ _ _ _ _ _ _ (c .before .before .before .before .before .pre), c .before .before .before .before .before .pre .slot-is, values-long _ _ _ _ _ _ _ _ _ (c .before .before .before .before .before .pre), lines-there _ _ _ _ _ _ _ _ _ (c .before .before .before .before .before .pre))
 
--- src/lib.rt:68:28
 enum-known-statement-9 : tie.Need-enum-known-statement-9
 enum-known-statement-9 c = search needs
 
--- src/lib.rt:68:52
 start-requires : tie.Need-start-requires
-start-requires c κs = ?
+start-requires c κs = (named _ _ _ _ _ _ _ _ _ (c .before .before .before .before .before .before .pre) _ _ (inr (c .before .before .before .before .statement9 .given .1)), placed-here _ _ _ _ _ _ _ _ _ (c .before .before .before .before .before .before .pre), slot-below _ _ _ _ _ _ _ _ _ (c .before .before .before .before .before .before .pre), values-long _ _ _ _ _ _ _ _ _ (c .before .before .before .before .before .before .pre), lines-there _ _ _ _ _ _ _ _ _ (c .before .before .before .before .before .before .pre))
 
--- src/lib.rt:71:25
 enum-known-statement-10 : tie.Need-enum-known-statement-10
 enum-known-statement-10 c = search needs
 
--- src/lib.rt:75:29
 enum-known-statement-11 : tie.Need-enum-known-statement-11
 enum-known-statement-11 c = search needs
 
--- src/lib.rt:75:40
 jump-zero-requires : tie.Need-jump-zero-requires
-jump-zero-requires c κs = ?
+jump-zero-requires c κs = placed-here _ _ _ _ _ _ _ _ _ (c .before .before .before .before .pre)
 
--- src/lib.rt:76:52
 enum-told : tie.Need-enum-told
 enum-told c = search needs
 
--- src/lib.rt:76:30
 close-requires : tie.Need-close-requires
-close-requires c κs = ?
+close-requires c κs = (placed-here _ _ _ _ _ _ _ _ _ (c .before .before .before .pre), c .before .before .before .pre .some, count-few _ _ _ _ _ _ _ _ _ (c .before .before .before .pre))
 
--- src/lib.rt:43:1
 returns : tie.Need-returns
-returns c = ?
+returns c = did-read _ _ _ _ _ _ _ _ _ (c .before .before .before .before .before .before .pre) _ _ _ (c .before .before .before .before .statement .given .1) (c .read .ensures .0) (c .read .ensures .1)
 
--- src/lib.rt:43:1
 returns-2 : tie.Need-returns-2
-returns-2 c = ?
+returns-2 c = did-write _ _ _ _ _ _ _ _ _ (c .before .before .before .before .before .before .pre) _ _ _ (c .before .before .before .before .statement2 .given .1) (c .write .ensures .0) (c .write .ensures .1)
 
--- src/lib.rt:43:1
 returns-3 : tie.Need-returns-3
-returns-3 c = ?
+returns-3 c = let k : SFits w32 (c .before .before .before .statement3 .given .0 .0) = record { sfits = omega (arith, c .before .before .known-told3 .given) } in did-set _ _ _ _ _ _ _ _ _ (c .before .before .before .before .before .pre) _ _ _ (c .before .before .before .statement3 .given .1) (c .set .ensures .0) (rw (toZ-ofZ k) at (c .set .ensures .1))
 
--- src/lib.rt:43:1
 returns-4 : tie.Need-returns-4
-returns-4 c = ?
+returns-4 c = let k : SFits w32 (c .before .before .before .statement4 .given .0 .0) = record { sfits = omega (arith, c .before .before .known-told4 .given) } in did-add _ _ _ _ _ _ _ _ _ (c .before .before .before .before .before .pre) _ _ _ (c .before .before .before .statement4 .given .1) (c .add .ensures .0) (rw (toZ-ofZ k) at (c .add .ensures .1))
 
--- src/lib.rt:43:1
 returns-5 : tie.Need-returns-5
-returns-5 c = ?
+returns-5 c = did-take _ _ _ _ _ _ _ _ _ (c .before .before .before .before .before .before .pre) _ _ _ (c .before .before .before .before .statement5 .given .1) (c .take .ensures)
 
--- src/lib.rt:43:1
 returns-6 : tie.Need-returns-6
-returns-6 c = ?
+returns-6 c = did-give _ _ _ _ _ _ _ _ _ (c .before .before .before .before .before .before .pre) _ _ _ (c .before .before .before .before .statement6 .given .1) (c .give .ensures)
 
--- src/lib.rt:43:1
 returns-7 : tie.Need-returns-7
-returns-7 c = ?
+returns-7 c = did-point _ _ _ _ _ _ _ _ _ (c .before .before .before .before .before .pre) _ _ _ _ (c .before .before .before .statement7 .given .1) (c .point .ensures .0) (c .point .ensures .1)
 
--- src/lib.rt:43:1
 returns-8 : tie.Need-returns-8
-returns-8 c = ?
+returns-8 c = did-call _ _ _ _ _ _ _ _ _ (c .before .before .before .before .before .before .pre) _ _ _ _ _ (c .before .before .before .before .statement8 .given .1) (c .call .ensures)
 
--- src/lib.rt:43:1
 returns-9 : tie.Need-returns-9
-returns-9 c = ?
+returns-9 c = did-start _ _ _ _ _ _ _ _ _ (c .before .before .before .before .before .before .before .pre) _ _ _ _ _ _ (c .before .before .before .before .before .statement9 .given .1) (c .start .ensures)
 
--- src/lib.rt:43:1
 returns-10 : tie.Need-returns-10
-returns-10 c = ?
+returns-10 c = did-jump _ _ _ _ _ _ _ _ _ (c .before .before .before .pre) _ _ (c .before .statement10 .given .1) refl
 
--- src/lib.rt:43:1
 returns-11 : tie.Need-returns-11
-returns-11 c = ?
+returns-11 c = did-jump-zero _ _ _ _ _ _ _ _ _ (c .before .before .before .before .before .pre) _ _ (c .before .before .before .statement11 .given .1) (c .jump-zero .ensures)
 
--- src/lib.rt:43:1
 returns-12 : tie.Need-returns-12
-returns-12 c = ?
+returns-12 c = did-return _ _ _ _ _ _ _ _ _ (c .before .before .before .before .pre) _ _ (c .before .before .enum-told .given .1) (c .close .ensures .0) (c .close .ensures .1)
 
 pub operate-spec : {M : Type 1} → statement M
 operate-spec =

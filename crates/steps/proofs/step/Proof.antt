@@ -1,71 +1,53 @@
+-- `steps::step` meets its contract. Assumes nothing.
+use mathlib.Core.Path.{sym, _∙_}
+use native.Mathlib.Omega.{arith}
+use Rattle.steps.specs.StepLaws.{not-started, has-ended}
+use Rattle.steps.proofs.Operating.{newest-low, lined, here-at}
 use borrow.Author.Needs.{needs}
 use Rattle.steps.proofs.step.Statement.{statement}
 use Rattle.steps.proofs.step.Tie as tie
-use Rattle.steps.proofs.step.Reads as reads
-use Rattle.steps.proofs.step.Lts as lts
-use Rattle.run_state.proofs.places.count_of.Reads as count-of-reads
-use Rattle.run_state.proofs.places.go_to.Reads as go-to-reads
-use Rattle.run_state.proofs.places.next_of.Reads as next-of-reads
-use Rattle.run_state.proofs.places.started_of.Reads as started-of-reads
-use Rattle.steps.proofs.answered.Reads as answered-reads
-use Rattle.steps.proofs.operate.Reads as operate-reads
-use Rattle.table.proofs.statement_at.Reads as statement-at-reads
 
--- src/lib.rt:95:8
 started-of-requires : tie.Need-started-of-requires
 started-of-requires c κs = search needs
 
--- src/lib.rt:96:9
 returns : tie.Need-returns
-returns c = ?
+returns c = λ state shown. not-started _ _ state _ shown (rw (c .before .started-of .ensures) at (c .if1 .taken))
 
--- src/lib.rt:98:9
 count-of-requires : tie.Need-count-of-requires
 count-of-requires c κs = search needs
 
--- src/lib.rt:100:9
 returns-2 : tie.Need-returns-2
-returns-2 c = ?
+returns-2 c = λ state shown. has-ended _ _ state _ shown (rw (c .before .before .before .before .started-of .ensures) at (c .before .before .before .if1 .left)) (sym (c .before .count-of .ensures) ∙ c .if2 .taken)
 
--- src/lib.rt:102:16
 mul-slot : tie.Need-mul-slot
 mul-slot c = search needs
 
--- src/lib.rt:102:16
 add-slot : tie.Need-add-slot
-add-slot c = ?
+add-slot c = record { fits = omega (arith, newest-low _ _ _ _ _ _ _ _ _ _ (c .before .before .before .before .before .before .pre) (c .before .before .before .before .started-of .ensures) (c .before .before .before .if1 .left) (c .before .count-of .ensures) (c .if2 .left)) }
 
--- src/lib.rt:102:16
 sub-slot : tie.Need-sub-slot
 sub-slot c = search needs
 
--- src/lib.rt:103:9
 next-of-requires : tie.Need-next-of-requires
-next-of-requires c κs = ?
+next-of-requires c κs = newest-low _ _ _ _ _ _ _ _ _ _ (c .before .before .before .before .before .before .before .pre) (c .before .before .before .before .before .started-of .ensures) (c .before .before .before .before .if1 .left) (c .before .before .count-of .ensures) (c .before .if2 .left)
 
--- src/lib.rt:104:50
 add-statement-at : tie.Need-add-statement-at
-add-statement-at c = ?
+add-statement-at c = record { fits = omega (arith, lined _ _ _ _ _ _ _ _ _ _ (c .before .before .before .before .before .before .before .before .before .pre) (c .before .before .before .before .before .before .before .started-of .ensures) (c .before .before .before .before .before .before .if1 .left) (c .before .before .before .before .count-of .ensures) (c .before .before .before .if2 .left) _ (c .before .next-of .ensures) .small) }
 
--- src/lib.rt:104:9
 statement-at-requires : tie.Need-statement-at-requires
-statement-at-requires c κs = ?
+statement-at-requires c κs = lined _ _ _ _ _ _ _ _ _ _ (c .before .before .before .before .before .before .before .before .before .pre) (c .before .before .before .before .before .before .before .started-of .ensures) (c .before .before .before .before .before .before .if1 .left) (c .before .before .before .before .count-of .ensures) (c .before .before .before .if2 .left) _ (c .before .next-of .ensures) .there
 
--- src/lib.rt:110:9
 operate-requires : tie.Need-operate-requires
-operate-requires c κs = ?
+operate-requires c κs = here-at _ _ _ _ _ _ _ _ _ _ (c .before .before .before .before .before .before .before .before .before .before .before .before .before .pre) (c .before .before .before .before .before .before .before .before .before .before .before .started-of .ensures) (c .before .before .before .before .before .before .before .before .before .before .if1 .left) (c .before .before .before .before .before .before .before .before .count-of .ensures) (c .before .before .before .before .before .before .before .if2 .left) _ _ (c .before .before .before .before .before .next-of .ensures) (c .before .before .before .statement-at .ensures)
 
--- src/lib.rt:113:5
 go-to-requires : tie.Need-go-to-requires
-go-to-requires c κs = ?
+go-to-requires c κs = (newest-low _ _ _ _ _ _ _ _ _ _ (c .before .before .before .before .before .before .before .before .before .before .before .before .before .before .before .pre) (c .before .before .before .before .before .before .before .before .before .before .before .before .before .started-of .ensures) (c .before .before .before .before .before .before .before .before .before .before .before .before .if1 .left) (c .before .before .before .before .before .before .before .before .before .before .count-of .ensures) (c .before .before .before .before .before .before .before .before .before .if2 .left), c .before .operate .ensures .small)
 
--- src/lib.rt:114:5
 answered-requires : tie.Need-answered-requires
 answered-requires c κs = search needs
 
--- src/lib.rt:82:1
 returns-3 : tie.Need-returns-3
-returns-3 c = ?
+returns-3 c = λ state shown. rw (c .answered .ensures, c .before .go-to .ensures) (c .before .before .before .operate .ensures .steps state shown)
 
 pub step-spec : {M : Type 1} → statement M
 step-spec =
