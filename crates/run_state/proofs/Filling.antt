@@ -14,7 +14,7 @@ use lib.Seq.{getD-set-same, getD-set-other, ext-getD}
 use Rattle.table.specs.Table.{Table, passed}
 use Rattle.table.specs.declared.Arguments.{Arguments}
 use Rattle.run_state.specs.Lists.{cellsIn}
-use Rattle.run_state.specs.ListLaws.{part-long, part-at}
+use Rattle.run_state.specs.ListLaws.{part-at}
 use Rattle.run_state.specs.Shown.{valuePlace, startValue, Entered}
 
 -- ---- the handles from `from` to h are set
@@ -103,8 +103,8 @@ leaving-next registers cells₀ cells i s l =
         ∙ ap (λ (j : ℕ). getD registers (16 + j) (pos 0)) (sym p)
     at k b (no q) = getD-set-other cells i k (getD registers (16 + i) (pos 0)) (pos 0) q ∙ s .copied k (omega (arith, q))
 
-pub leaving-all : (registers cells₀ cells : List ℤ) (i : ℕ) → length registers ≡ 80 → Leaving registers cells₀ cells i → length cells ≤ i
+pub leaving-all : (registers cells₀ cells : List ℤ) (i : ℕ) → length (cellsIn (length cells₀) registers) ≡ length cells₀ → Leaving registers cells₀ cells i → length cells ≤ i
     → cells ≡ cellsIn (length cells₀) registers
 leaving-all registers cells₀ cells i e s l =
-    ext-getD (pos 0) cells (cellsIn (length cells₀) registers) (s .long ∙ sym (part-long 16 (length cells₀) registers (omega (arith, s .few))))
+    ext-getD (pos 0) cells (cellsIn (length cells₀) registers) (s .long ∙ sym e)
     (λ k b. s .copied k (omega arith) ∙ part-at 16 (length cells₀) registers k (16 + k) (pos 0) (omega (arith, s .long)) refl)

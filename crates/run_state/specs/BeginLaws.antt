@@ -45,7 +45,7 @@ module _ (numbers : List ℤ) (handle : List ℕ) (accepted : Accepted (tableOf 
     unfolding start
     shown =
         record {
-          lengths = record { nexts = length-replicate {A = ℕ} 512 0; values = e .long ∙ long; counts = refl; accumulators = refl };
+          lengths = record { nexts = length-replicate {A = ℕ} 512 0; values = e .long ∙ long; counts = refl; accumulators = refl; cells = length-replicate (tableOf numbers .cells) (pos 0) };
           started-is = refl;
           most = omega arith;
           cells-are = refl;

@@ -68,14 +68,15 @@ pub record ShowsThread (t : Table) (nexts values : List ℕ) (base count : ℕ) 
   pub frames : ShowsFrames t nexts values base (shown .frames)
 
 -- the parts have their lengths
-pub record Lengths (a : Arrays) : Type 0 where
+pub record Lengths (t : Table) (a : Arrays) : Type 0 where
   pub nexts : length (a .nexts) ≡ 512
   pub values : length (a .values) ≡ 4096
   pub counts : length (a .counts) ≡ 16
   pub accumulators : length (a .accumulators) ≡ 16
+  pub cells : length (a .cells) ≡ t .cells
 
 pub record Shows (t : Table) (a : Arrays) (state : State) : Type 0 where
-  pub lengths : Lengths a
+  pub lengths : Lengths t a
   pub started-is : a .started ≡ length (state .threads)
   pub most : a .started ≤ 16
   pub cells-are : state .cells ≡ a .cells

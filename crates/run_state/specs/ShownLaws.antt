@@ -91,8 +91,8 @@ module _ (t : Table) where
 -- ---- one thread changes, or is added
 
 -- the arrays change in thread n alone
-pub record Changed (a new : Arrays) (n : ℕ) : Type 0 where
-  pub lengths : Lengths new
+pub record Changed (t : Table) (a new : Arrays) (n : ℕ) : Type 0 where
+  pub lengths : Lengths t new
   pub slots : (m : ℕ) → (m ≡ n → ⊥) → Kept (a .nexts) (new .nexts) (a .values) (new .values) (m * 32) (m * 32 + 32)
   pub counts : (m : ℕ) → (m ≡ n → ⊥) → getD (new .counts) m 0 ≡ getD (a .counts) m 0
   pub accumulators : (m : ℕ) → (m ≡ n → ⊥) → getD (new .accumulators) m (pos 0) ≡ getD (a .accumulators) m (pos 0)
@@ -101,7 +101,7 @@ pub record Changed (a new : Arrays) (n : ℕ) : Type 0 where
 abbrev pub ThreadIn : Table → Arrays → ℕ → Thread → Type 0
 ThreadIn t a m th = ShowsThread t (a .nexts) (a .values) (m * 32) (getD (a .counts) m 0) (getD (a .accumulators) m (pos 0)) th
 
-module _ (t : Table) (a new : Arrays) (n : ℕ) (changed : Changed a new n) where
+module _ (t : Table) (a new : Arrays) (n : ℕ) (changed : Changed t a new n) where
   other-thread : (m : ℕ) (th : Thread) → (m ≡ n → ⊥) → ThreadIn t a m th → ThreadIn t new m th
   other-thread m th apart s =
       rw (changed .counts m apart, changed .accumulators m apart) (thread-kept t _ _ _ _ _ _ _ _ s (changed .slots m apart))

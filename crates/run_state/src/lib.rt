@@ -68,7 +68,7 @@ pub fn begin(
 
 // Copies the cells' values out.
 pub fn leave(registers: &[i32; 80], cells: &mut [i32])
-    requires { ⌜ (length (now registers) ≡ 80) × (length (now cells) ≤ 64) ⌝ }
+    requires { ⌜ (length (cellsIn (length (now cells)) (now registers)) ≡ length (now cells)) × (length (now cells) ≤ 64) ⌝ }
     ensures { λ _. ⌜ now (cells .exit) ≡ cellsIn (length (now (cells .entry))) (now (registers .entry)) ⌝ }
 {
     let mut i = 0;

@@ -144,14 +144,15 @@ module _ (t : Table) (accepted : Accepted t) (a : Arrays) (state : State) (n slo
   own-slot m i apart l u e = omega (arith, p .slot-is, p .few, apart)
 
   lengths-next : (x : ℕ) (values : List ℕ) (counts : List ℕ) (accumulators : List ℤ) (owners : List ℕ) (cells : List ℤ) → length values ≡ length (a .values)
-      → length counts ≡ length (a .counts) → length accumulators ≡ length (a .accumulators)
-      → Lengths (arrays (a .started) (set (a .nexts) slot x) values counts accumulators owners cells)
-  lengths-next x values counts accumulators owners cells v c k =
+      → length counts ≡ length (a .counts) → length accumulators ≡ length (a .accumulators) → length cells ≡ length (a .cells)
+      → Lengths t (arrays (a .started) (set (a .nexts) slot x) values counts accumulators owners cells)
+  lengths-next x values counts accumulators owners cells v c k z =
       record {
         nexts = length-set (a .nexts) slot x ∙ s .lengths .nexts;
         values = v ∙ s .lengths .values;
         counts = c ∙ s .lengths .counts;
         accumulators = k ∙ s .lengths .accumulators;
+        cells = z ∙ s .lengths .cells;
       }
 
   going-shown : (x : ℕ) → InRoutine t (p .f .routine) x → ShowsFrame t (set (a .nexts) slot x) (a .values) slot (going (p .f) x)
@@ -168,13 +169,13 @@ module _ (t : Table) (accepted : Accepted t) (a : Arrays) (state : State) (n slo
   rest-kept nexts values k = frames-kept t (a .nexts) nexts (a .values) values (n * 32) slot (p .older) (p .rest) k (omega (arith, p .slot-is))
 
   pub goes : (x : ℕ) (b : ℤ) (accumulators : List ℤ) (owners : List ℕ) (cells new-cells : List ℤ) (locks : List Holder) → InRoutine t (p .f .routine) x
-      → Accumulated (a .accumulators) accumulators n b → new-cells ≡ cells → locks ≡ map holderOf owners
+      → Accumulated (a .accumulators) accumulators n b → length cells ≡ length (a .cells) → new-cells ≡ cells → locks ≡ map holderOf owners
       → Shows t (arrays (a .started) (set (a .nexts) slot x) (a .values) (a .counts) accumulators owners cells)
       (with-thread state n b (going (p .f) x ∷ p .older) new-cells locks)
-  goes x b accumulators owners cells new-cells locks inside k c l =
+  goes x b accumulators owners cells new-cells locks inside k z c l =
       one-thread t a (arrays (a .started) (set (a .nexts) slot x) (a .values) (a .counts) accumulators owners cells) n
       (record {
-        lengths = lengths-next x (a .values) (a .counts) accumulators owners cells refl refl (k .long);
+        lengths = lengths-next x (a .values) (a .counts) accumulators owners cells refl refl (k .long) z;
         slots = λ m apart. kept-next (a .nexts) (a .values) slot x (m * 32) (m * 32 + 32) (λ i v w. own-slot m i apart v w);
         counts = λ m apart. refl;
         accumulators = k .other;
@@ -235,7 +236,7 @@ module _ (t : Table) (accepted : Accepted t) (a : Arrays) (state : State) (n slo
         (ran _ (Read h) _ e refl refl
         (goes (p .f .next + 1) _ _ (a .owners) (a .cells) (state .cells) (state .locks) (after-it (Read h) e)
         (accumulated-set _ _ (ap₂ (λ (l : List ℤ) (i : ℕ). getD l i (pos 0)) (sym (s .cells-are)) (own-value (h .number) (operands-of (Read h) e .own))))
-        (s .cells-are) (s .locks-are)))
+        refl (s .cells-are) (s .locks-are)))
 
     pub write-step : (h : Handle) → statement t (p .f .next) ≡ Write h
         → Stepped t
@@ -247,6 +248,7 @@ module _ (t : Table) (accepted : Accepted t) (a : Arrays) (state : State) (n slo
         rw on
         (ran _ (Write h) _ e refl refl
         (goes (p .f .next + 1) _ (a .accumulators) (a .owners) _ _ (state .locks) (after-it (Write h) e) accumulated-same
+        (length-set (a .cells) (getD (a .values) (valuePlace slot (h .number)) 0) (getD (a .accumulators) n (pos 0)))
         (rw (s .cells-are, own-value (h .number) (operands-of (Write h) e .own), p .accumulator-is))
         (s .locks-are)))
 
@@ -256,7 +258,7 @@ module _ (t : Table) (accepted : Accepted t) (a : Arrays) (state : State) (n slo
     set-step number e =
         rw on
         (ran _ (Set number) _ e refl refl
-        (goes (p .f .next + 1) _ _ (a .owners) (a .cells) (state .cells) (state .locks) (after-it (Set number) e) (accumulated-set _ _ refl) (s .cells-are) (s .locks-are)))
+        (goes (p .f .next + 1) _ _ (a .owners) (a .cells) (state .cells) (state .locks) (after-it (Set number) e) (accumulated-set _ _ refl) refl (s .cells-are) (s .locks-are)))
 
     pub add-step : (number : ℤ) → statement t (p .f .next) ≡ Add number
         → Stepped t
@@ -268,14 +270,14 @@ module _ (t : Table) (accepted : Accepted t) (a : Arrays) (state : State) (n slo
         rw on
         (ran _ (Add number) _ e refl refl
         (goes (p .f .next + 1) _ _ (a .owners) (a .cells) (state .cells) (state .locks) (after-it (Add number) e)
-        (accumulated-set _ _ (ap (λ (z : ℤ). wrap (z +ℤ number)) (p .accumulator-is))) (s .cells-are) (s .locks-are)))
+        (accumulated-set _ _ (ap (λ (z : ℤ). wrap (z +ℤ number)) (p .accumulator-is))) refl (s .cells-are) (s .locks-are)))
 
     pub jump-step : (target : Target) → statement t (p .f .next) ≡ Jump target
         → Stepped t (arrays (a .started) (set (a .nexts) slot (target .statement)) (a .values) (a .counts) (a .accumulators) (a .owners) (a .cells)) state n (Ran (Jump target))
     unfolding operate
     jump-step target e =
         ran _ (Jump target) _ e refl refl
-        (goes (target .statement) _ (a .accumulators) (a .owners) (a .cells) (state .cells) (state .locks) (operands-of (Jump target) e) accumulated-same (s .cells-are) (s .locks-are))
+        (goes (target .statement) _ (a .accumulators) (a .owners) (a .cells) (state .cells) (state .locks) (operands-of (Jump target) e) accumulated-same refl (s .cells-are) (s .locks-are))
 
     pub jump-zero-step : (target : Target) → statement t (p .f .next) ≡ JumpZero target
         → Stepped t
@@ -286,7 +288,7 @@ module _ (t : Table) (accepted : Accepted t) (a : Arrays) (state : State) (n slo
         rw there
         (ran _ (JumpZero target) _ e refl refl
         (goes (where-to (isZero (thread state n .accumulator))) _ (a .accumulators) (a .owners) (a .cells) (state .cells) (state .locks)
-        (inside (isZero (thread state n .accumulator))) accumulated-same (s .cells-are) (s .locks-are)))
+        (inside (isZero (thread state n .accumulator))) accumulated-same refl (s .cells-are) (s .locks-are)))
       where
         where-to : Bool → ℕ
         where-to b = cond b (target .statement) (p .f .next + 1)
@@ -313,6 +315,7 @@ module _ (t : Table) (accepted : Accepted t) (a : Arrays) (state : State) (n slo
                 values = s .lengths .values;
                 counts = length-set (a .counts) n (getD (a .counts) n 0 - 1) ∙ s .lengths .counts;
                 accumulators = s .lengths .accumulators;
+                cells = s .lengths .cells;
               };
           slots = λ m apart. record { nexts-kept = λ i v w. refl; values-kept = λ i j v w k. refl };
           counts = λ m apart. getD-set-other (a .counts) n m (getD (a .counts) n 0 - 1) 0 apart;
@@ -337,7 +340,7 @@ module _ (t : Table) (accepted : Accepted t) (a : Arrays) (state : State) (n slo
         → Shows t (arrays (a .started) (set (a .nexts) slot (p .f .next + 1)) (a .values) (a .counts) (a .accumulators) (set (a .owners) (getD (a .values) (valuePlace slot h) 0) x) (a .cells))
         (with-thread state n (thread state n .accumulator) (going (p .f) (p .f .next + 1) ∷ p .older) (state .cells) (set (state .locks) (refers (p .f) h) new))
     handed σ h x new own inside q =
-        goes (p .f .next + 1) _ (a .accumulators) _ (a .cells) (state .cells) _ inside accumulated-same (s .cells-are)
+        goes (p .f .next + 1) _ (a .accumulators) _ (a .cells) (state .cells) _ inside accumulated-same refl (s .cells-are)
         (ap (λ (i : ℕ). set (state .locks) i new) (sym (own-value h own)) ∙ locks-set t a state (getD (a .values) (valuePlace slot h) 0) x new s q)
 
     module _ (h : Handle) (e : statement t (p .f .next) ≡ Take h) where
@@ -393,7 +396,7 @@ module _ (t : Table) (accepted : Accepted t) (a : Arrays) (state : State) (n slo
         (ran _ (Point h g) _ e refl refl
         (one-thread t a (arrays (a .started) nexts′ values′ (a .counts) (a .accumulators) (a .owners) (a .cells)) n
         (record {
-          lengths = lengths-next (p .f .next + 1) values′ (a .counts) (a .accumulators) (a .owners) (a .cells) (length-set (a .values) (valuePlace slot (h .number)) to) refl refl;
+          lengths = lengths-next (p .f .next + 1) values′ (a .counts) (a .accumulators) (a .owners) (a .cells) (length-set (a .values) (valuePlace slot (h .number)) to) refl refl refl;
           slots = λ m apart. kept (m * 32) (m * 32 + 32) (λ i v w. own-slot m i apart v w);
           counts = λ m apart. refl;
           accumulators = λ m apart. refl;
@@ -481,6 +484,7 @@ module _ (t : Table) (accepted : Accepted t) (a : Arrays) (state : State) (n slo
                   values = entered .long ∙ s .lengths .values;
                   counts = length-set (a .counts) n (getD (a .counts) n 0 + 1) ∙ s .lengths .counts;
                   accumulators = s .lengths .accumulators;
+                cells = s .lengths .cells;
                 };
             slots = λ m apart. kept (m * 32) (m * 32 + 32) (λ i v u. own-slot m i apart v u) (λ i v u z. omega (arith, p .slot-is, p .count-is, w, apart));
             counts = λ m apart. getD-set-other (a .counts) n m (getD (a .counts) n 0 + 1) 0 apart;
@@ -557,6 +561,7 @@ module _ (t : Table) (accepted : Accepted t) (a : Arrays) (state : State) (n slo
                   values = entered .long ∙ s .lengths .values;
                   counts = length-set (a .counts) (a .started) 1 ∙ s .lengths .counts;
                   accumulators = length-set (a .accumulators) (a .started) (pos 0) ∙ s .lengths .accumulators;
+                  cells = s .lengths .cells;
                 };
             slots = λ m apart. opening (m * 32) (m * 32 + 32) (λ i v u z. omega (arith, apart));
             counts = λ m apart. getD-set-other (a .counts) (a .started) m 1 0 apart;
@@ -564,7 +569,7 @@ module _ (t : Table) (accepted : Accepted t) (a : Arrays) (state : State) (n slo
           })
           (with-thread state n (thread state n .accumulator) (going (p .f) (p .f .next + 1) ∷ p .older) (state .cells) (state .locks))
           (record { accumulator = pos 0; frames = opened t q (p .f .values) arguments ∷ [] })
-          (goes (p .f .next + 1) _ (a .accumulators) (a .owners) (a .cells) (state .cells) (state .locks) (after-it (Start q arguments) e) accumulated-same (s .cells-are) (s .locks-are))
+          (goes (p .f .next + 1) _ (a .accumulators) (a .owners) (a .cells) (state .cells) (state .locks) (after-it (Start q arguments) e) accumulated-same refl (s .cells-are) (s .locks-are))
           refl (w) refl
           (record {
             count-is = getD-set-same (a .counts) (a .started) 1 0 (omega (arith, s .lengths .counts, w));
