@@ -12,6 +12,8 @@ ghost use Rattle.machine.specs.Step.{wrap, isZero};
 ghost use Rattle.run_state.specs.Lists.{countsIn, startedIn, accumulatorsIn, cellsIn, countPlace, putCell};
 ghost use Rattle.run_state.specs.Shown.{valuePlace, HandlesThere, Naming};
 ghost use Rattle.operations.specs.Operation.{Placed, on, to, Locked, Called, Started};
+use numbers::is_zero;
+use numbers::wrapped_sum;
 use run_state::frames::enter;
 use run_state::frames::put_value;
 use run_state::frames::value_of;
@@ -26,8 +28,6 @@ use run_state::places::put_count;
 use run_state::places::put_owner;
 use run_state::places::put_started;
 use run_state::places::started_of;
-use numbers::is_zero;
-use numbers::wrapped_sum;
 use table::Arguments;
 use table::Statement;
 
@@ -141,13 +141,7 @@ fn hand_over(
 }
 
 // TAKE: "the free lock becomes this thread's"; 16 where it is held.
-pub fn take(
-    h: usize,
-    at: Place,
-    locks: usize,
-    words: &mut [u16; 545],
-    values: &[u8; 4096],
-) -> Move
+pub fn take(h: usize, at: Place, locks: usize, words: &mut [u16; 545], values: &[u8; 4096]) -> Move
     requires { ⌜ Placed at × (locks ≤ 16) ⌝ }
     ensures { λ r. ⌜ Locked 16 0 (at .thread + 1) (getD (now (values .entry)) (valuePlace (at .slot) h) 0) at locks r (now (words .entry)) (now (words .exit)) ⌝ }
 {
@@ -156,13 +150,7 @@ pub fn take(
 }
 
 // GIVE: "this thread's lock becomes free"; 17 where it is not this thread's.
-pub fn give(
-    h: usize,
-    at: Place,
-    locks: usize,
-    words: &mut [u16; 545],
-    values: &[u8; 4096],
-) -> Move
+pub fn give(h: usize, at: Place, locks: usize, words: &mut [u16; 545], values: &[u8; 4096]) -> Move
     requires { ⌜ Placed at × (locks ≤ 16) ⌝ }
     ensures { λ r. ⌜ Locked 17 (at .thread + 1) 0 (getD (now (values .entry)) (valuePlace (at .slot) h) 0) at locks r (now (words .entry)) (now (words .exit)) ⌝ }
 {

@@ -202,7 +202,7 @@ module _ (numbers : List ℤ) (first handle : List ℕ) (sizes : Sizes) (words v
   went-on : (words′ values′ : List ℕ) (registers′ : List ℤ) (r : Move) (new : Arrays) (τ : Statement) → σ ≡ τ → r ≡ on at
       → view (tableOf numbers) words′ values′ registers′ ≡ new
       → ((state : State) (s : Shows (tableOf numbers) (view (tableOf numbers) words values registers) state)
-        → Stepped (tableOf numbers) (stored new (at .slot) (at .next + 1)) state (at .thread) (Ran τ))
+      → Stepped (tableOf numbers) (stored new (at .slot) (at .next + 1)) state (at .thread) (Ran τ))
       → Operated (tableOf numbers) words values registers words′ values′ registers′ at σ r
   went-on words′ values′ registers′ r new τ e q v did = left words′ values′ registers′ r (on at) new (Ran τ) q next-small v (ap Ran e) did
 
@@ -215,7 +215,7 @@ module _ (numbers : List ℤ) (first handle : List ℕ) (sizes : Sizes) (words v
   was-refused : (number : ℕ) (words′ values′ : List ℕ) (registers′ : List ℤ) (r : Move) (τ : Statement) → σ ≡ τ → answeredAt number σ ≡ Refused number σ → r ≡ stopped number at
       → words′ ≡ words → values′ ≡ values → registers′ ≡ registers
       → ((state : State) (s : Shows (tableOf numbers) (view (tableOf numbers) words values registers) state)
-        → Stepped (tableOf numbers) (view (tableOf numbers) words values registers) state (at .thread) (Refused number τ))
+      → Stepped (tableOf numbers) (view (tableOf numbers) words values registers) state (at .thread) (Refused number τ))
       → Operated (tableOf numbers) words values registers words′ values′ registers′ at σ r
   was-refused number words′ values′ registers′ r τ e k q x y z did =
       left words′ values′ registers′ r (stopped number at) a (Refused number τ) q (omega (arith, placed-here .next-low)) (rw (x, y, z)) (k ∙ ap (Refused number) e)
@@ -306,7 +306,7 @@ module _ (numbers : List ℤ) (first handle : List ℕ) (sizes : Sizes) (words v
       let u = looked q (routine-there q arguments (inl e)) in
       was-refused 19 words′ values′ registers r (Call q arguments) e refl (w .answer-is) (w .words-are) (w .values-are) refl
       (λ state s. call-refused t accepted a state (at .thread) (at .slot) s (here .low) (p state s) (at .next) (stands-at state s) q arguments
-          (getD first q 0) (getD handle q 0) (getD handle (q + 1) 0) (u .first-is) (u .from-is) (u .end-is) (is state s (Call q arguments) e) (w .full))
+      (getD first q 0) (getD handle q 0) (getD handle (q + 1) 0) (u .first-is) (u .from-is) (u .end-is) (is state s (Call q arguments) e) (w .full))
   did-call q arguments words′ values′ r e (inr w) =
       let u = looked q (routine-there q arguments (inl e)) in
       let count = getD (countsIn words) (at .thread) 0 + 1 in
@@ -317,7 +317,7 @@ module _ (numbers : List ℤ) (first handle : List ℕ) (sizes : Sizes) (words v
       ∙ ap (λ (b : Arrays). arrays (b .started) (b .nexts) (b .values) (set (b .counts) (at .thread) count) (b .accumulators) (b .owners) (b .cells))
       (view-next t words values′ registers (at .slot + 1) (getD first q 0) (omega (arith, here .slot-is, w .free, placed-here .thread-low))))
       (λ state s. call-step t accepted a state (at .thread) (at .slot) s (here .low) (p state s) (at .next) (stands-at state s) q arguments
-          (getD first q 0) (getD handle q 0) (getD handle (q + 1) 0) (u .first-is) (u .from-is) (u .end-is) values′ (is state s (Call q arguments) e) (w .free) (w .entered))
+      (getD first q 0) (getD handle q 0) (getD handle (q + 1) 0) (u .first-is) (u .from-is) (u .end-is) values′ (is state s (Call q arguments) e) (w .free) (w .entered))
 
   pub did-start : (q : ℕ) (arguments : Arguments) (words′ values′ : List ℕ) (registers′ : List ℤ) (r : Move) → σ ≡ Start q arguments
       → Started (tableOf numbers) (getD first q 0) (getD handle q 0) (getD handle (q + 1) 0) arguments at r words words′ values values′ registers registers′
@@ -326,12 +326,12 @@ module _ (numbers : List ℤ) (first handle : List ℕ) (sizes : Sizes) (words v
       let u = looked q (routine-there q arguments (inr e)) in
       was-refused 18 words′ values′ registers′ r (Start q arguments) e refl (w .answer-is) (w .words-are) (w .values-are) (w .registers-are)
       (λ state s. start-refused t accepted a state (at .thread) (at .slot) s (here .low) (p state s) (at .next) (stands-at state s) q arguments
-          (getD first q 0) (getD handle q 0) (getD handle (q + 1) 0) (u .first-is) (u .from-is) (u .end-is) (is state s (Start q arguments) e) (w .full))
+      (getD first q 0) (getD handle q 0) (getD handle (q + 1) 0) (u .first-is) (u .from-is) (u .end-is) (is state s (Start q arguments) e) (w .full))
   did-start q arguments words′ values′ registers′ r e (inr w) =
       let u = looked q (routine-there q arguments (inr e)) in
       went-on words′ values′ registers′ r _ (Start q arguments) e (w .answer-is) (begun (startedIn words) refl (w .free) (w .words-are) (w .registers-are))
       (λ state s. start-step t accepted a state (at .thread) (at .slot) s (here .low) (p state s) (at .next) (stands-at state s) q arguments
-          (getD first q 0) (getD handle q 0) (getD handle (q + 1) 0) (u .first-is) (u .from-is) (u .end-is) values′ (is state s (Start q arguments) e) (w .free) (w .entered))
+      (getD first q 0) (getD handle q 0) (getD handle (q + 1) 0) (u .first-is) (u .from-is) (u .end-is) values′ (is state s (Start q arguments) e) (w .free) (w .entered))
     where
       begun : (n : ℕ) → n ≡ startedIn words → n < 16 → words′ ≡ set (set (set words (n * 32) (getD first q 0)) (countPlace n) 1) startedPlace (n + 1) → registers′ ≡ set registers n (pos 0)
           → view (tableOf numbers) words′ values′ registers′
@@ -376,5 +376,5 @@ module _ (numbers : List ℤ) (first handle : List ℕ) (sizes : Sizes) (words v
       left words′ values registers r (to (at .next)) _ (Ran Return) q (omega (arith, placed-here .next-low))
       (ap (λ (l : List ℕ). view t l values registers) x ∙ view-count t words values registers (at .thread) (countPlace (at .thread)) count (placed-here .thread-low) refl) (ap Ran e)
       (λ state s. subst (λ (b : Arrays). Stepped t b state (at .thread) (Ran Return))
-          (sym (same (arrays (startedIn words) (nextsIn words) values (set (countsIn words) (at .thread) count) (accumulatorsIn registers) (ownersIn (t .locks) words) (cellsIn (t .cells) registers)) refl))
-          (return-step t accepted a state (at .thread) (at .slot) s (here .low) (p state s) (at .next) (stands-at state s) (is state s Return e)))
+      (sym (same (arrays (startedIn words) (nextsIn words) values (set (countsIn words) (at .thread) count) (accumulatorsIn registers) (ownersIn (t .locks) words) (cellsIn (t .cells) registers)) refl))
+      (return-step t accepted a state (at .thread) (at .slot) s (here .low) (p state s) (at .next) (stands-at state s) (is state s Return e)))

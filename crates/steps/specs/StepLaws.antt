@@ -484,7 +484,7 @@ module _ (t : Table) (accepted : Accepted t) (a : Arrays) (state : State) (n slo
                   values = entered .long ∙ s .lengths .values;
                   counts = length-set (a .counts) n (getD (a .counts) n 0 + 1) ∙ s .lengths .counts;
                   accumulators = s .lengths .accumulators;
-                cells = s .lengths .cells;
+                  cells = s .lengths .cells;
                 };
             slots = λ m apart. kept (m * 32) (m * 32 + 32) (λ i v u. own-slot m i apart v u) (λ i v u z. omega (arith, p .slot-is, p .count-is, w, apart));
             counts = λ m apart. getD-set-other (a .counts) n m (getD (a .counts) n 0 + 1) 0 apart;

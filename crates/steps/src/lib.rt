@@ -61,12 +61,32 @@ fn operate(
         Statement::Add(number) => operations::add(number, at, registers),
         Statement::Take(h) => operations::take(h.number, at, sizes.locks, words, values),
         Statement::Give(h) => operations::give(h.number, at, sizes.locks, words, values),
-        Statement::Point { handle: h, from: g } => operations::point(h.number, g.number, at, values),
+        Statement::Point { handle: h, from: g } => operations::point(
+            h.number,
+            g.number,
+            at,
+            values,
+        ),
         Statement::Call { routine, arguments } => operations::call(
-            numbers, first, handle, routine, arguments, at, words, values,
+            numbers,
+            first,
+            handle,
+            routine,
+            arguments,
+            at,
+            words,
+            values,
         ),
         Statement::Start { routine, arguments } => operations::start(
-            numbers, first, handle, routine, arguments, at, words, values, registers,
+            numbers,
+            first,
+            handle,
+            routine,
+            arguments,
+            at,
+            words,
+            values,
+            registers,
         ),
         Statement::Jump(target) => Move {
             number: 0,
@@ -108,7 +128,15 @@ pub fn step(
         next,
     };
     let done = operate(
-        numbers, first, handle, sizes, statement, at, words, values, registers,
+        numbers,
+        first,
+        handle,
+        sizes,
+        statement,
+        at,
+        words,
+        values,
+        registers,
     );
     places::go_to(words, slot, done.next);
     answered(done.number, statement)
@@ -132,9 +160,7 @@ pub fn follow(
     let mut i = 0;
     while i < schedule.len() {
         let n = lists::wide_byte(schedule[i]);
-        let answer = step(
-            numbers, first, handle, sizes, n, words, values, registers,
-        );
+        let answer = step(numbers, first, handle, sizes, n, words, values, registers);
         answers[i] = answer_byte(answer);
         i += 1;
     }
