@@ -1,79 +1,75 @@
+-- `engine::run_in` meets its contract. Assumes nothing.
+use denote.Ref.{now}
+use mathlib.Core.Path.{sym, _∙_}
+use lib.Seq.{length-take-le}
+use Rattle.engine.specs.OutcomeLaws.{read-facts, left-refused, short-answers, short-cells, left-run}
 use borrow.Author.Needs.{needs}
 use Rattle.engine.proofs.run_in.Statement.{statement}
 use Rattle.engine.proofs.run_in.Tie as tie
-use Rattle.engine.proofs.run_in.Reads as reads
-use Rattle.engine.proofs.run_in.Lts as lts
-use Rattle.engine.proofs.run_accepted.Reads as run-accepted-reads
-use Rattle.table.proofs.counts_of.Reads as counts-of-reads
-use Rattle.table.proofs.read_into.Reads as read-into-reads
 
--- src/lib.rt:61:9
 read-into-requires : tie.Need-read-into-requires
 read-into-requires c κs = search needs
 
--- src/lib.rt:63:28
 enum-known-verdict : tie.Need-enum-known-verdict
 enum-known-verdict c = search needs
 
--- src/lib.rt:65:43
 enum-told : tie.Need-enum-told
 enum-told c = search needs
 
--- src/lib.rt:65:17
 counts-of-requires : tie.Need-counts-of-requires
 counts-of-requires c κs = search needs
 
--- src/lib.rt:68:17
 same-length : tie.Need-same-length
 same-length c = search needs
 
--- src/lib.rt:68:17
 returns : tie.Need-returns
-returns c = ?
+returns c = let a = c .before .before .before .before .before .before .before .before .before .before .before .args in
+    let r = c .before .before .before .before .before .before .read-into in
+    let q = read-facts (now (a .text)) (r .result) (r .last .1 .0) (c .before .counts-of .result) (r .ensures .0) (r .ensures .1) (c .before .before .before .enum-told .given .1) (c .before .counts-of .ensures) in
+    short-answers (now (a .text)) (now (a .schedule)) (now (a .answers)) (now (a .cells)) _ _ q (c .if1 .taken)
 
--- src/lib.rt:74:17
 same-length-2 : tie.Need-same-length-2
 same-length-2 c = search needs
 
--- src/lib.rt:74:17
 returns-2 : tie.Need-returns-2
-returns-2 c = ?
+returns-2 c = let a = c .before .before .before .before .before .before .before .before .before .before .before .before .args in
+    let r = c .before .before .before .before .before .before .before .read-into in
+    let q = read-facts (now (a .text)) (r .result) (r .last .1 .0) (c .before .before .counts-of .result) (r .ensures .0) (r .ensures .1) (c .before .before .before .before .enum-told .given .1) (c .before .before .counts-of .ensures) in
+    short-cells (now (a .text)) (now (a .schedule)) (now (a .answers)) (now (a .cells)) _ _ q (c .before .if1 .left) (c .if2 .taken)
 
--- src/lib.rt:79:54
 slice-relend-prefix-run-accepted : tie.Need-slice-relend-prefix-run-accepted
 slice-relend-prefix-run-accepted c = search needs
 
--- src/lib.rt:79:54
 slice-aggregate-run-accepted : tie.Need-slice-aggregate-run-accepted
-slice-aggregate-run-accepted c = ?
+slice-aggregate-run-accepted c = sym (length-take-le _ _ (c .before .before .before .if2 .left))
 
--- src/lib.rt:79:13
 run-accepted-requires : tie.Need-run-accepted-requires
-run-accepted-requires c κs = ?
+run-accepted-requires c κs = let a = c .before .before .before .before .before .before .before .before .before .before .before .before .before .before .before .args in
+    let r = c .before .before .before .before .before .before .before .before .before .before .read-into in
+    let q = read-facts (now (a .text)) (r .result) (r .last .1 .0) (c .before .before .before .before .before .counts-of .result) (r .ensures .0) (r .ensures .1) (c .before .before .before .before .before .before .before .enum-told .given .1) (c .before .before .before .before .before .counts-of .ensures) in
+    (q .facts, q .long, c .before .before .before .before .if1 .left, length-take-le _ _ (c .before .before .before .if2 .left) ∙ q .cells-are)
 
--- src/lib.rt:49:1
 same-length-3 : tie.Need-same-length-3
 same-length-3 c = search needs
 
--- src/lib.rt:49:1
 returns-3 : tie.Need-returns-3
-returns-3 c = ?
+returns-3 c = let a = c .before .before .before .before .before .before .before .before .before .args in
+    left-refused (now (a .text)) (now (a .schedule)) (now (a .answers)) (now (a .cells)) _ _ (sym (c .before .before .before .before .read-into .ensures .0) ∙ c .before .verdict .given .1)
 
--- src/lib.rt:49:1
 same-length-4 : tie.Need-same-length-4
 same-length-4 c = search needs
 
--- src/lib.rt:49:1
 same-length-5 : tie.Need-same-length-5
 same-length-5 c = search needs
 
--- src/lib.rt:49:1
 same-length-6 : tie.Need-same-length-6
 same-length-6 c = search needs
 
--- src/lib.rt:49:1
 returns-4 : tie.Need-returns-4
-returns-4 c = ?
+returns-4 c = let a = c .before .before .before .before .before .before .before .before .before .before .before .before .before .before .before .before .before .before .before .args in
+    let r = c .before .before .before .before .before .before .before .before .before .before .before .before .before .before .read-into in
+    let q = read-facts (now (a .text)) (r .result) (r .last .1 .0) (c .before .before .before .before .before .before .before .before .before .counts-of .result) (r .ensures .0) (r .ensures .1) (c .before .before .before .before .before .before .before .before .before .before .before .enum-told .given .1) (c .before .before .before .before .before .before .before .before .before .counts-of .ensures) in
+    left-run (now (a .text)) (now (a .schedule)) (now (a .answers)) (now (a .cells)) _ _ q _ _ (c .before .before .before .before .before .before .before .before .if1 .left) (c .before .before .before .before .before .before .before .if2 .left) (c .before .before .before .run-accepted .ensures .0) (c .before .before .before .run-accepted .ensures .1)
 
 pub run-in-spec : {M : Type 1} → statement M
 run-in-spec =
