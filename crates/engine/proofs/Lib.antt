@@ -1,3 +1,1 @@
-pub mod Sums
-pub mod Filling
-pub mod Operating
+pub mod Rooms

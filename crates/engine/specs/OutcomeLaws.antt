@@ -31,7 +31,6 @@ pub record ReadFacts (text : List ℕ) (numbers : List ℤ) (k : Counts) : Type 
   pub facts : Accepted (tableOf numbers)
   pub long : length numbers ≡ 8 * statementLine numbers (statements numbers)
   pub cells-are : k .cells ≡ tableOf numbers .cells
-  pub locks-are : k .locks ≡ tableOf numbers .locks
 
 pub read-facts : (text : List ℕ) (v : Verdict) (numbers : List ℤ) (k : Counts) → v ≡ verdict text → (v ≡ Declared.Verdict.Accepted → numbers ≡ numbersOf text)
     → v ≡ Declared.Verdict.Accepted → k ≡ countsOf numbers → ReadFacts text numbers k
@@ -45,7 +44,6 @@ read-facts text v numbers k said filled q c =
       facts = subst (λ (f : List ℤ). Accepted (tableOf f)) (sym n) (accepted text e);
       long = subst (λ (f : List ℤ). length f ≡ 8 * statementLine f (statements f)) (sym n) (text-long text e);
       cells-are = ap (λ (x : Counts). x .cells) c;
-      locks-are = ap (λ (x : Counts). x .locks) c;
     }
 
 -- ---- what is left

@@ -1,13 +1,8 @@
 // The stepping engine: runs a schedule over a table text and leaves the answers and the cells.
-mod frames;
-mod operations;
-mod places;
-mod steps;
-
 ghost use mathlib.Core.Path.{_≡_};
 ghost use mathlib.Core.List.{_++_};
 ghost use Prim.Native.Nat.{_*_, _≤_};
-ghost use lib.ListN.{length, drop, replicate};
+ghost use lib.ListN.{length, drop};
 ghost use Rattle.lines.specs.Line.{lineCount};
 ghost use Rattle.table.specs.Header.{statements, statementLine};
 ghost use Rattle.table.specs.Table.{tableOf};
@@ -15,7 +10,6 @@ ghost use Rattle.table.specs.Accepted.{Accepted};
 ghost use Rattle.machine.specs.State.{start};
 ghost use Rattle.machine.specs.Engine.{engineRun, answers as answersOf};
 ghost use Rattle.engine.specs.Run.{outcomeOf, answersLeft, cellsLeft};
-use table::Statement;
 use table::Verdict;
 
 // What a call is answered with: 0 and line 0, or the number of a refusal 1 to 13 and its line.
@@ -24,60 +18,31 @@ pub struct Outcome {
     pub line: usize,
 }
 
-// What a step is answered with: the statement that ran, the statement that was refused and the number 16 to 19 of its refusal, or that the thread
-// has no next statement: 14, it is not started, or 15, it has ended.
-pub enum Step {
-    Ran(Statement),
-    Refused { number: u32, statement: Statement },
-    Nothing { number: u32 },
-}
-
-// The line of statement 0.
-fn first_line(numbers: &[i32]) -> usize
-    ensures { λ r. ⌜ r ≡ statementLine (now (numbers .entry)) 0 ⌝ }
-{
-    1 + table::field_of(numbers, 0, 3) + table::field_of(numbers, 0, 4)
-}
-
-// The steps of a schedule from the start of an accepted table's run, with as many locks as `owners` is long.
-fn play(
-    numbers: &[i32],
-    schedule: &[u8],
-    answers: &mut [u8],
-    cells: &mut [i32],
-    owners: &mut [usize],
-)
-    requires { ⌜ Accepted (tableOf (now numbers)) × (length (now cells) ≡ tableOf (now numbers) .cells) × (now owners ≡ replicate (tableOf (now numbers) .locks) 0) × (length (now schedule) ≤ length (now answers)) × (length (now numbers) ≡ 8 * statementLine (now numbers) (statements (now numbers))) ⌝ }
+// The run of an accepted table by a schedule, with a list that is as long as the table has cells.
+fn run_accepted(numbers: &[i32], schedule: &[u8], answers: &mut [u8], cells: &mut [i32])
+    requires { ⌜ Accepted (tableOf (now numbers)) × (length (now numbers) ≡ 8 * statementLine (now numbers) (statements (now numbers))) × (length (now schedule) ≤ length (now answers)) × (length (now cells) ≡ tableOf (now numbers) .cells) ⌝ }
     ensures { λ _. ⌜ now (answers .exit) ≡ answersOf (tableOf (now (numbers .entry))) (start (tableOf (now (numbers .entry)))) (now (schedule .entry)) ++ drop (length (now (schedule .entry))) (now (answers .entry)) ⌝ }
     ensures { λ _. ⌜ now (cells .exit) ≡ engineRun (tableOf (now (numbers .entry))) (start (tableOf (now (numbers .entry)))) (now (schedule .entry)) .cells ⌝ }
 {
     let first = table::first_statements(numbers);
     let handle = table::first_handles(numbers);
-    let base = first_line(numbers);
-    let mut nexts = [0u16; 512];
+    let sizes = run_state::sizes_of(numbers);
+    let mut words = [0u16; 545];
     let mut values = [0u8; 4096];
-    let mut counts = [0usize; 16];
-    let mut accumulators = [0i32; 16];
-    let mut started = 1;
-    places::clear(cells);
-    counts[0] = 1;
-    // routine 0 has no parameter, so any line will do for the arguments
-    frames::enter(numbers, handle[0], handle[1], 0, &mut values, 0, 1);
+    let mut registers = [0i32; 80];
+    run_state::begin(numbers, &handle, &mut words, &mut values, &mut registers);
     steps::follow(
         numbers,
         &first,
         &handle,
-        base,
+        sizes,
         schedule,
         answers,
-        &mut started,
-        &mut nexts,
+        &mut words,
         &mut values,
-        &mut counts,
-        &mut accumulators,
-        owners,
-        cells,
+        &mut registers,
     );
+    run_state::leave(&registers, cells);
 }
 
 // `run`, with a list that has room for the text's numbers.
@@ -99,7 +64,6 @@ fn run_in(
         Verdict::Accepted => {
             let counts = table::counts_of(numbers);
             let count = counts.cells;
-            let locks = counts.locks;
             if answers.len() < schedule.len() {
                 return Outcome {
                     number: 13,
@@ -112,14 +76,7 @@ fn run_in(
                     line: 0,
                 };
             }
-            let mut owners = [0usize; 16];
-            play(
-                numbers,
-                schedule,
-                answers,
-                &mut cells[..count],
-                &mut owners[..locks],
-            );
+            run_accepted(numbers, schedule, answers, &mut cells[..count]);
             Outcome { number: 0, line: 0 }
         }
     }

@@ -1,46 +1,31 @@
 -- `engine::run_large` meets its contract. Assumes nothing.
-use Rattle.table.specs.CutLaws.{cut-long}
-use lib.IntN.{pos}
-use Prim.Native.Nat.{ℕ, _*_, min}
-use mathlib.Core.Path.{sym, ap, _∙_}
 use native.Mathlib.Omega.{arith}
 use borrow.Author.Needs.{needs}
+use Rattle.engine.proofs.Rooms.{room, room-lines}
 use Rattle.engine.proofs.run_large.Statement.{statement}
 use Rattle.engine.proofs.run_large.Tie as tie
-use Rattle.engine.proofs.run_large.Reads as reads
-use Rattle.engine.proofs.run_large.Lts as lts
-use Rattle.engine.proofs.run_in.Reads as run-in-reads
-use Rattle.lines.proofs.line_count.Reads as line-count-reads
 
--- src/lib.rt:149:21
 line-count-requires : tie.Need-line-count-requires
 line-count-requires c κs = search needs
 
--- src/lib.rt:149:17
 mul-count : tie.Need-mul-count
 mul-count c = search needs
 
--- src/lib.rt:150:18
 array-borrow-prefix-numbers : tie.Need-array-borrow-prefix-numbers
 array-borrow-prefix-numbers c = search needs
 
--- src/lib.rt:150:18
 slice-aggregate-run-in : tie.Need-slice-aggregate-run-in
-slice-aggregate-run-in c = cut-long _ 5384 (pos 0) (omega (arith, c .before .line-count .ensures))
+slice-aggregate-run-in c = room 5384 _ (omega (arith, c .before .line-count .ensures))
 
--- src/lib.rt:150:5
 run-in-requires : tie.Need-run-in-requires
-run-in-requires c κs = sym (cut-long _ 5384 (pos 0) (omega (arith, c .before .before .before .line-count .ensures))) ∙ ap (λ (n : ℕ). 8 * n) (c .before .before .before .line-count .ensures)
+run-in-requires c κs = room-lines 5384 _ _ (omega (arith, c .before .before .before .line-count .ensures)) (c .before .before .before .line-count .ensures)
 
--- src/lib.rt:143:1
 same-length : tie.Need-same-length
 same-length c = search needs
 
--- src/lib.rt:143:1
 same-length-2 : tie.Need-same-length-2
 same-length-2 c = search needs
 
--- src/lib.rt:143:1
 returns : tie.Need-returns
 returns c = search needs
 

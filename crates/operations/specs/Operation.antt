@@ -1,0 +1,72 @@
+-- What the operations ask and leave. Assumes nothing.
+use Prim.Native.Nat.{ℕ, _+_, _*_, _<_, _≤_}
+use mathlib.Core.Path.{_≡_}
+use mathlib.Core.List.{List}
+use mathlib.Core.Logic.{_⊎_}
+use lib.IntN.{ℤ, pos}
+use lib.ListN.{getD, set}
+use Rattle.table.specs.Table.{Table}
+use Rattle.table.specs.declared.Arguments.{Arguments}
+use Rattle.run_state.specs.Lists.{countsIn, startedIn, ownersIn, countPlace, startedPlace, putOwner}
+use Rattle.run_state.specs.Shown.{Entered}
+use Rattle.operations.specs.declared.Place.{Place}
+use Rattle.operations.specs.declared.Move.{Move}
+
+-- a place within the limits of a run
+pub record Placed (at : Place) : Type 0 where
+  pub thread-low : at .thread < 16
+  pub slot-low : at .slot < 512
+  pub next-low : at .next < 512
+
+-- the step ran, and its frame is at statement s afterwards
+abbrev pub to : ℕ → Move
+to s = record { number = 0; next = s }
+
+-- the step ran, and its frame goes on
+abbrev pub on : Place → Move
+on at = to (at .next + 1)
+
+-- the step was refused, and its frame stays
+abbrev pub stopped : ℕ → Place → Move
+stopped number at = record { number = number; next = at .next }
+
+-- TAKE and GIVE of lock k: refused with `number` unless its owner is `needed`, and then nothing changes; else its owner becomes `owner`, and the
+-- thread goes on
+abbrev pub Locked : ℕ → ℕ → ℕ → ℕ → Place → ℕ → Move → List ℕ → List ℕ → Type 0
+Locked number needed owner k at locks r words words′ =
+    record { blocked : getD (ownersIn locks words) k 0 ≡ needed → ⊥; answer-is : r ≡ stopped number at; words-are : words′ ≡ words }
+    ⊎ record { free : getD (ownersIn locks words) k 0 ≡ needed; answer-is : r ≡ on at; words-are : words′ ≡ putOwner locks words k owner }
+
+-- CALL: refused with 19 where 32 frames are open, and then nothing changes; else the frame goes on and a new one stands in the next slot
+abbrev pub Called : Table → ℕ → ℕ → ℕ → Arguments → Place → Move → List ℕ → List ℕ → List ℕ → List ℕ → Type 0
+Called t first from end arguments at r words words′ values values′ =
+    record {
+      full : 32 ≤ getD (countsIn words) (at .thread) 0;
+      answer-is : r ≡ stopped 19 at;
+      words-are : words′ ≡ words;
+      values-are : values′ ≡ values;
+    }
+    ⊎ record {
+      free : getD (countsIn words) (at .thread) 0 < 32;
+      answer-is : r ≡ on at;
+      words-are : words′ ≡ set (set words (at .slot + 1) first) (countPlace (at .thread)) (getD (countsIn words) (at .thread) 0 + 1);
+      entered : Entered t values values′ (at .slot + 1) (at .slot) from end arguments;
+    }
+
+-- START: refused with 18 where 16 threads are started, and then nothing changes; else the frame goes on and the next thread has one frame
+abbrev pub Started : Table → ℕ → ℕ → ℕ → Arguments → Place → Move → List ℕ → List ℕ → List ℕ → List ℕ → List ℤ → List ℤ → Type 0
+Started t first from end arguments at r words words′ values values′ registers registers′ =
+    record {
+      full : 16 ≤ startedIn words;
+      answer-is : r ≡ stopped 18 at;
+      words-are : words′ ≡ words;
+      values-are : values′ ≡ values;
+      registers-are : registers′ ≡ registers;
+    }
+    ⊎ record {
+      free : startedIn words < 16;
+      answer-is : r ≡ on at;
+      words-are : words′ ≡ set (set (set words (startedIn words * 32) first) (countPlace (startedIn words)) 1) startedPlace (startedIn words + 1);
+      entered : Entered t values values′ (startedIn words * 32) (at .slot) from end arguments;
+      registers-are : registers′ ≡ set registers (startedIn words) (pos 0);
+    }

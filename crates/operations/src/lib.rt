@@ -1,0 +1,269 @@
+// The operations of document 01 on the lists of a run, one function each, and what a step is answered with.
+mod numbers;
+
+ghost use mathlib.Core.Path.{_≡_};
+ghost use mathlib.Core.Bool.{cond};
+ghost use mathlib.Core.Logic.{_⊎_};
+ghost use Prim.Native.Nat.{_+_, _*_, _-_, _<_, _≤_};
+ghost use lib.IntN.{pos, _+ℤ_};
+ghost use lib.ListN.{getD, set, length};
+ghost use Rattle.table.specs.Table.{tableOf};
+ghost use Rattle.machine.specs.Step.{wrap, isZero};
+ghost use Rattle.run_state.specs.Lists.{countsIn, startedIn, accumulatorsIn, cellsIn, countPlace, putCell};
+ghost use Rattle.run_state.specs.Shown.{valuePlace, HandlesThere, Naming};
+ghost use Rattle.operations.specs.Operation.{Placed, on, to, Locked, Called, Started};
+use numbers::is_zero;
+use numbers::wrapped_sum;
+use run_state::frames::enter;
+use run_state::frames::put_value;
+use run_state::frames::value_of;
+use run_state::places::accumulator_of;
+use run_state::places::cell_at;
+use run_state::places::count_of;
+use run_state::places::go_to;
+use run_state::places::owner_at;
+use run_state::places::put_accumulator;
+use run_state::places::put_cell;
+use run_state::places::put_count;
+use run_state::places::put_owner;
+use run_state::places::put_started;
+use run_state::places::started_of;
+use table::Arguments;
+use table::Statement;
+
+// What a step is answered with: the statement that ran, the statement that was refused and the number 16 to 19 of its refusal, or that the thread
+// has no next statement: 14, it is not started, or 15, it has ended.
+pub enum Step {
+    Ran(Statement),
+    Refused { number: u32, statement: Statement },
+    Nothing { number: u32 },
+}
+
+// Where a thread stands: its number, the slot of its newest frame, and that frame's next statement.
+pub struct Place {
+    pub thread: usize,
+    pub slot: usize,
+    pub next: usize,
+}
+
+// What an operation is answered with: 0 or the number of its refusal, and the statement that its frame is at afterwards. The caller stores the latter;
+// a refused operation changes nothing.
+pub struct Move {
+    pub number: u32,
+    pub next: usize,
+}
+
+// The frame goes on to the next statement.
+fn going_on(at: Place) -> Move
+    requires { ⌜ Placed at ⌝ }
+    ensures { λ r. ⌜ r ≡ on at ⌝ }
+{
+    Move {
+        number: 0,
+        next: at.next + 1,
+    }
+}
+
+// READ: "accumulator becomes the cell's value".
+pub fn read(
+    h: usize,
+    at: Place,
+    cells: usize,
+    values: &[u8; 4096],
+    registers: &mut [i32; 80],
+) -> Move
+    requires { ⌜ Placed at × (cells ≤ 64) ⌝ }
+    ensures { λ r. ⌜ (r ≡ on at) × (now (registers .exit) ≡ set (now (registers .entry)) (at .thread) (getD (cellsIn cells (now (registers .entry))) (getD (now (values .entry)) (valuePlace (at .slot) h) 0) (pos 0))) ⌝ }
+{
+    let value = cell_at(registers, cells, value_of(values, at.slot, h));
+    put_accumulator(registers, at.thread, value);
+    going_on(at)
+}
+
+// WRITE: "cell becomes the accumulator".
+pub fn write(
+    h: usize,
+    at: Place,
+    cells: usize,
+    values: &[u8; 4096],
+    registers: &mut [i32; 80],
+) -> Move
+    requires { ⌜ Placed at × (cells ≤ 64) ⌝ }
+    ensures { λ r. ⌜ (r ≡ on at) × (now (registers .exit) ≡ putCell cells (now (registers .entry)) (getD (now (values .entry)) (valuePlace (at .slot) h) 0) (getD (accumulatorsIn (now (registers .entry))) (at .thread) (pos 0))) ⌝ }
+{
+    let value = accumulator_of(registers, at.thread);
+    put_cell(registers, cells, value_of(values, at.slot, h), value);
+    going_on(at)
+}
+
+// SET: "accumulator becomes it".
+pub fn set(number: i32, at: Place, registers: &mut [i32; 80]) -> Move
+    requires { ⌜ Placed at ⌝ }
+    ensures { λ r. ⌜ (r ≡ on at) × (now (registers .exit) ≡ set (now (registers .entry)) (at .thread) number) ⌝ }
+{
+    put_accumulator(registers, at.thread, number);
+    going_on(at)
+}
+
+// ADD: "added, wrapping as 32-bit two's complement".
+pub fn add(number: i32, at: Place, registers: &mut [i32; 80]) -> Move
+    requires { ⌜ Placed at ⌝ }
+    ensures { λ r. ⌜ (r ≡ on at) × (now (registers .exit) ≡ set (now (registers .entry)) (at .thread) (wrap (getD (accumulatorsIn (now (registers .entry))) (at .thread) (pos 0) +ℤ number))) ⌝ }
+{
+    let sum = wrapped_sum(accumulator_of(registers, at.thread), number);
+    put_accumulator(registers, at.thread, sum);
+    going_on(at)
+}
+
+// Makes `owner` the owner of lock `k` where that is `needed`; else refused with `number`.
+fn hand_over(
+    k: usize,
+    needed: usize,
+    owner: usize,
+    number: u32,
+    at: Place,
+    locks: usize,
+    words: &mut [u16; 545],
+) -> Move
+    requires { ⌜ Placed at × (locks ≤ 16) × (owner < 65536) ⌝ }
+    ensures { λ r. ⌜ Locked number needed owner k at locks r (now (words .entry)) (now (words .exit)) ⌝ }
+{
+    let next = at.next;
+    let after = next + 1;
+    if owner_at(words, locks, k) != needed {
+        return Move { number, next };
+    }
+    put_owner(words, locks, k, owner);
+    Move {
+        number: 0,
+        next: after,
+    }
+}
+
+// TAKE: "the free lock becomes this thread's"; 16 where it is held.
+pub fn take(h: usize, at: Place, locks: usize, words: &mut [u16; 545], values: &[u8; 4096]) -> Move
+    requires { ⌜ Placed at × (locks ≤ 16) ⌝ }
+    ensures { λ r. ⌜ Locked 16 0 (at .thread + 1) (getD (now (values .entry)) (valuePlace (at .slot) h) 0) at locks r (now (words .entry)) (now (words .exit)) ⌝ }
+{
+    let k = value_of(values, at.slot, h);
+    hand_over(k, 0, at.thread + 1, 16, at, locks, words)
+}
+
+// GIVE: "this thread's lock becomes free"; 17 where it is not this thread's.
+pub fn give(h: usize, at: Place, locks: usize, words: &mut [u16; 545], values: &[u8; 4096]) -> Move
+    requires { ⌜ Placed at × (locks ≤ 16) ⌝ }
+    ensures { λ r. ⌜ Locked 17 (at .thread + 1) 0 (getD (now (values .entry)) (valuePlace (at .slot) h) 0) at locks r (now (words .entry)) (now (words .exit)) ⌝ }
+{
+    let k = value_of(values, at.slot, h);
+    hand_over(k, at.thread + 1, 0, 17, at, locks, words)
+}
+
+// POINT: "h refers to what g refers to".
+pub fn point(h: usize, g: usize, at: Place, values: &mut [u8; 4096]) -> Move
+    requires { ⌜ Placed at ⌝ }
+    ensures { λ r. ⌜ (r ≡ on at) × (now (values .exit) ≡ set (now (values .entry)) (valuePlace (at .slot) h) (getD (now (values .entry)) (valuePlace (at .slot) g) 0)) ⌝ }
+{
+    let v = value_of(values, at.slot, g);
+    put_value(values, at.slot, h, v);
+    going_on(at)
+}
+
+// CALL: "opens a frame"; 19 where 32 are open.
+pub fn call(
+    numbers: &[i32],
+    first: &[usize; 33],
+    handle: &[usize; 33],
+    routine: usize,
+    arguments: Arguments,
+    at: Place,
+    words: &mut [u16; 545],
+    values: &mut [u8; 4096],
+) -> Move
+    requires { ⌜ Naming (now numbers) (now first) (now handle) routine × Placed at × (at .slot + 1 ≡ at .thread * 32 + getD (countsIn (now words)) (at .thread) 0) × (length (now values) ≡ 4096) × HandlesThere (now numbers) ⌝ }
+    ensures { λ r. ⌜ Called (tableOf (now (numbers .entry))) (getD (now (first .entry)) routine 0) (getD (now (handle .entry)) routine 0) (getD (now (handle .entry)) (routine + 1) 0) arguments at r (now (words .entry)) (now (words .exit)) (now (values .entry)) (now (values .exit)) ⌝ }
+{
+    let slot = at.slot;
+    let count = count_of(words, at.thread);
+    if 32 <= count {
+        return Move {
+            number: 19,
+            next: at.next,
+        };
+    }
+    enter(
+        numbers,
+        handle[routine],
+        handle[routine + 1],
+        arguments,
+        values,
+        slot + 1,
+        slot,
+    );
+    go_to(words, slot + 1, first[routine]);
+    put_count(words, at.thread, count + 1);
+    going_on(at)
+}
+
+// START: "adds a thread"; 18 where 16 are started.
+pub fn start(
+    numbers: &[i32],
+    first: &[usize; 33],
+    handle: &[usize; 33],
+    routine: usize,
+    arguments: Arguments,
+    at: Place,
+    words: &mut [u16; 545],
+    values: &mut [u8; 4096],
+    registers: &mut [i32; 80],
+) -> Move
+    requires { ⌜ Naming (now numbers) (now first) (now handle) routine × Placed at × (at .slot < startedIn (now words) * 32) × (length (now values) ≡ 4096) × HandlesThere (now numbers) ⌝ }
+    ensures { λ r. ⌜ Started (tableOf (now (numbers .entry))) (getD (now (first .entry)) routine 0) (getD (now (handle .entry)) routine 0) (getD (now (handle .entry)) (routine + 1) 0) arguments at r (now (words .entry)) (now (words .exit)) (now (values .entry)) (now (values .exit)) (now (registers .entry)) (now (registers .exit)) ⌝ }
+{
+    let slot = at.slot;
+    let n = started_of(words);
+    if 16 <= n {
+        return Move {
+            number: 18,
+            next: at.next,
+        };
+    }
+    enter(
+        numbers,
+        handle[routine],
+        handle[routine + 1],
+        arguments,
+        values,
+        n * 32,
+        slot,
+    );
+    go_to(words, n * 32, first[routine]);
+    put_count(words, n, 1);
+    put_started(words, n + 1);
+    put_accumulator(registers, n, 0);
+    going_on(at)
+}
+
+// JUMPZ: "goes there if the accumulator is zero, else on".
+pub fn jump_zero(s: usize, at: Place, registers: &[i32; 80]) -> Move
+    requires { ⌜ Placed at ⌝ }
+    ensures { λ r. ⌜ r ≡ to (cond (isZero (getD (accumulatorsIn (now (registers .entry))) (at .thread) (pos 0))) s (at .next + 1)) ⌝ }
+{
+    if is_zero(accumulator_of(registers, at.thread)) {
+        Move { number: 0, next: s }
+    } else {
+        going_on(at)
+    }
+}
+
+// RETURN: "closes the frame". Its next statement stays, and is never read again.
+pub fn close(at: Place, words: &mut [u16; 545]) -> Move
+    requires { ⌜ Placed at × (0 < getD (countsIn (now words)) (at .thread) 0) × (getD (countsIn (now words)) (at .thread) 0 ≤ 32) ⌝ }
+    ensures { λ r. ⌜ (r ≡ to (at .next)) × (now (words .exit) ≡ set (now (words .entry)) (countPlace (at .thread)) (getD (countsIn (now (words .entry))) (at .thread) 0 - 1)) ⌝ }
+{
+    let count = count_of(words, at.thread);
+    put_count(words, at.thread, count - 1);
+    Move {
+        number: 0,
+        next: at.next,
+    }
+}

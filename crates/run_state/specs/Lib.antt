@@ -1,0 +1,6 @@
+pub mod Lists
+pub mod Shown
+pub mod ListLaws
+pub mod ShownLaws
+pub mod TableLaws
+pub mod BeginLaws

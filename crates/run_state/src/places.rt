@@ -1,0 +1,109 @@
+// What stands where in `words` and `registers`. A lock or cell past the table's reads as 0, and a store there changes nothing.
+ghost use mathlib.Core.Path.{_≡_};
+ghost use Prim.Native.Nat.{_+_, _<_, _≤_};
+ghost use lib.IntN.{pos};
+ghost use lib.ListN.{getD, set};
+ghost use Rattle.run_state.specs.Lists.{nextsIn, countsIn, startedIn, ownersIn, accumulatorsIn, cellsIn, countPlace, startedPlace, putOwner, putCell};
+
+// The next statement of the frame in `slot`.
+pub fn next_of(words: &[u16; 545], slot: usize) -> usize
+    requires { ⌜ slot < 512 ⌝ }
+    ensures { λ r. ⌜ r ≡ getD (nextsIn (now (words .entry))) slot 0 ⌝ }
+{
+    lists::wide(words[slot])
+}
+
+// Makes `s` the next statement of the frame in `slot`.
+pub fn go_to(words: &mut [u16; 545], slot: usize, s: usize)
+    requires { ⌜ (slot < 512) × (s < 65536) ⌝ }
+    ensures { λ _. ⌜ now (words .exit) ≡ set (now (words .entry)) slot s ⌝ }
+{
+    words[slot] = (s % 65536) as u16;
+}
+
+// How many frames thread `n` has open.
+pub fn count_of(words: &[u16; 545], n: usize) -> usize
+    requires { ⌜ n < 16 ⌝ }
+    ensures { λ r. ⌜ r ≡ getD (countsIn (now (words .entry))) n 0 ⌝ }
+{
+    lists::wide(words[512 + n])
+}
+
+// Stores how many frames thread `n` has open.
+pub fn put_count(words: &mut [u16; 545], n: usize, count: usize)
+    requires { ⌜ (n < 16) × (count < 65536) ⌝ }
+    ensures { λ _. ⌜ now (words .exit) ≡ set (now (words .entry)) (countPlace n) count ⌝ }
+{
+    words[512 + n] = (count % 65536) as u16;
+}
+
+// How many threads are started.
+pub fn started_of(words: &[u16; 545]) -> usize
+    ensures { λ r. ⌜ r ≡ startedIn (now (words .entry)) ⌝ }
+{
+    lists::wide(words[528])
+}
+
+// Stores how many threads are started.
+pub fn put_started(words: &mut [u16; 545], started: usize)
+    requires { ⌜ started < 65536 ⌝ }
+    ensures { λ _. ⌜ now (words .exit) ≡ set (now (words .entry)) startedPlace started ⌝ }
+{
+    words[528] = (started % 65536) as u16;
+}
+
+// Who holds lock `k` of so many locks: 0 for nobody, else one more than the thread.
+pub fn owner_at(words: &[u16; 545], locks: usize, k: usize) -> usize
+    requires { ⌜ locks ≤ 16 ⌝ }
+    ensures { λ r. ⌜ r ≡ getD (ownersIn locks (now (words .entry))) k 0 ⌝ }
+{
+    if k < locks {
+        lists::wide(words[529 + k])
+    } else {
+        0
+    }
+}
+
+// Stores who holds lock `k` of so many locks.
+pub fn put_owner(words: &mut [u16; 545], locks: usize, k: usize, owner: usize)
+    requires { ⌜ (locks ≤ 16) × (owner < 65536) ⌝ }
+    ensures { λ _. ⌜ now (words .exit) ≡ putOwner locks (now (words .entry)) k owner ⌝ }
+{
+    if k < locks {
+        words[529 + k] = (owner % 65536) as u16;
+    }
+}
+
+// The accumulator of thread `n`.
+pub fn accumulator_of(registers: &[i32; 80], n: usize) -> i32
+    requires { ⌜ n < 16 ⌝ }
+    ensures { λ r. ⌜ r ≡ getD (accumulatorsIn (now (registers .entry))) n (pos 0) ⌝ }
+{
+    registers[n]
+}
+
+// Stores `v` in the accumulator of thread `n`.
+pub fn put_accumulator(registers: &mut [i32; 80], n: usize, v: i32)
+    requires { ⌜ n < 16 ⌝ }
+    ensures { λ _. ⌜ now (registers .exit) ≡ set (now (registers .entry)) n v ⌝ }
+{
+    registers[n] = v;
+}
+
+// The value of cell `x` of so many cells.
+pub fn cell_at(registers: &[i32; 80], cells: usize, x: usize) -> i32
+    requires { ⌜ cells ≤ 64 ⌝ }
+    ensures { λ r. ⌜ r ≡ getD (cellsIn cells (now (registers .entry))) x (pos 0) ⌝ }
+{
+    if x < cells { registers[16 + x] } else { 0 }
+}
+
+// Stores `v` in cell `x` of so many cells.
+pub fn put_cell(registers: &mut [i32; 80], cells: usize, x: usize, v: i32)
+    requires { ⌜ cells ≤ 64 ⌝ }
+    ensures { λ _. ⌜ now (registers .exit) ≡ putCell cells (now (registers .entry)) x v ⌝ }
+{
+    if x < cells {
+        registers[16 + x] = v;
+    }
+}

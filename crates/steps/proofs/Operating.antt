@@ -1,0 +1,380 @@
+-- What is known where a thread's next statement is looked at, and what each operation leaves there. Assumes nothing.
+use Prim.Native.Nat.{ℕ, _+_, _-_, _*_, _<_, _≤_}
+use mathlib.Core.Path.{_≡_, refl, sym, ap, _∙_, subst}
+use mathlib.Core.Bool.{Bool, true, false, cond}
+use mathlib.Core.List.{List}
+use mathlib.Core.Logic.{_⊎_, inl, inr}
+use native.Mathlib.Omega.{arith}
+use lib.IntN.{ℤ, pos, _+ℤ_}
+use lib.ListN.{length, getD, set, length-set}
+use lib.Seq.{set-getD}
+use Rattle.table.specs.Fields.{field}
+use Rattle.table.specs.Header.{statements, statementLine}
+use Rattle.table.specs.TabulateLaws.{length-tabulate}
+use Rattle.table.specs.Table.{Table, tableOf, statement, statementIn, statementOf, InRoutine}
+use Rattle.table.specs.Accepted.{Accepted, Operands}
+use Rattle.table.specs.declared.Arguments.{Arguments}
+use Rattle.table.specs.declared.Handle.{Handle}
+use Rattle.table.specs.declared.Target.{Target}
+use Rattle.table.specs.declared.Statement.{Statement}
+use Rattle.table.specs.declared.Statement.the-variants.{Read, Write, Set, Add, Take, Give, Point, Call, Start, Jump, JumpZero, Return}
+use Rattle.machine.specs.State.{State}
+use Rattle.machine.specs.Step.{wrap, isZero}
+use Rattle.run_state.specs.declared.Sizes.{Sizes}
+use Rattle.run_state.specs.Lists.{nextsIn, countsIn, startedIn, ownersIn, accumulatorsIn, cellsIn, countPlace, startedPlace, putOwner, putCell, part}
+use Rattle.run_state.specs.ListLaws.{started-there, view-next, view-count, view-started, view-owner, view-accumulator, view-cell}
+use Rattle.run_state.specs.Shown.{Arrays, arrays, view, valuePlace, Shows, Fixed, Standing, HandlesThere, Naming}
+use Rattle.run_state.specs.TableLaws.{statement-read, handles-there, LookedUp, looked-up, naming}
+use Rattle.operations.specs.declared.Place.{Place}
+use Rattle.operations.specs.declared.Move.{Move}
+use Rattle.operations.specs.declared.Step.{Step}
+use Rattle.operations.specs.declared.Step.the-variants.{Ran, Refused}
+use Rattle.operations.specs.Step.{answeredAt}
+use Rattle.operations.specs.Operation.{Placed, on, to, stopped, Locked, Called, Started}
+use Rattle.steps.specs.Stepped.{Stepped, Here, Operated}
+use Rattle.steps.specs.StepLaws.{Top, top, placed, read-step, write-step, set-step, add-step, jump-step, jump-zero-step, return-step, take-refused, take-step, give-refused, give-step, point-step, call-refused, call-step, start-refused, start-step}
+
+-- the statement of a line is the table's
+line-said : (numbers : List ℤ) (base next : ℕ) (σ : Statement) → base ≡ statementLine numbers 0
+    → σ ≡ statementIn numbers (base + next) (field numbers (base + next) 1) → σ ≡ statementOf numbers next
+unfolding statementOf
+line-said numbers base next σ b q =
+    let e : base + next ≡ statementLine numbers next = omega arith in
+    subst (λ (line : ℕ). σ ≡ statementIn numbers line (field numbers line 1)) e q
+
+-- ---- before the statement is read
+
+-- the line of a statement is there
+pub record Lined (numbers : List ℤ) (line : ℕ) : Type 0 where
+  pub small : line < 65536
+  pub there : line * 8 + 8 ≤ length numbers
+
+-- a thread that is started and has a frame open
+module _ (numbers : List ℤ) (first handle : List ℕ) (sizes : Sizes) (words values : List ℕ) (registers : List ℤ) (n started count : ℕ)
+    (s : Standing numbers first handle sizes words values registers) (started-is : started ≡ startedIn words) (low : n < started)
+    (count-is : count ≡ getD (countsIn words) n 0) (some : count ≡ 0 → ⊥) where
+  inside : n < startedIn words
+  inside = omega (arith, started-is)
+
+  -- its newest frame's slot
+  pub newest-low : n * 32 + count - 1 < 512
+  newest-low = omega (arith, s .shows .most, inside, count-is, s .shows .thread-is n inside .few)
+
+  newest-is : n * 32 + count - 1 + 1 ≡ n * 32 + getD (countsIn words) n 0
+  newest-is = omega (arith, count-is, some)
+
+  some-open : 0 < getD (countsIn words) n 0
+  some-open = omega (arith, count-is, some)
+
+  pub lined : (next : ℕ) → next ≡ getD (nextsIn words) (n * 32 + count - 1) 0 → Lined numbers (sizes .base + next)
+  unfolding tableOf
+  lined next q =
+      let p = top (tableOf numbers) (view (tableOf numbers) words values registers) (s .state) n (n * 32 + count - 1) (s .shows) inside some-open newest-is in
+      let accepted = s .fixed .accepted in
+      let facts = accepted .routine-facts (p .f .routine) (p .shown .there) in
+      let within : next < statements numbers = omega (arith, q ∙ p .shown .next-is, p .shown .inside .high, rw length-tabulate at (facts .statements-there)) in
+      let base : sizes .base ≡ statementLine numbers 0 = s .fixed .sized .base-is in
+      record {
+        small =
+            omega (
+              arith,
+              rw length-tabulate at (accepted .handles-most),
+              rw length-tabulate at (accepted .routines-most),
+              rw length-tabulate at (accepted .statements-most),
+            );
+        there = omega (arith, s .fixed .long);
+      }
+
+  pub here-at : (next : ℕ) (σ : Statement) → next ≡ getD (nextsIn words) (n * 32 + count - 1) 0
+      → σ ≡ statementIn numbers (sizes .base + next) (field numbers (sizes .base + next) 1)
+      → Here numbers first handle sizes words values registers (record { thread = n; slot = n * 32 + count - 1; next = next }) σ
+  here-at next σ q e =
+      record {
+        standing = s;
+        low = inside;
+        some = some-open;
+        slot-is = newest-is;
+        next-is = q;
+        statement-is = line-said numbers (sizes .base) next σ (s .fixed .sized .base-is) e;
+      }
+
+-- ---- at the statement
+
+-- x becomes the next statement of the frame in a slot
+abbrev stored : Arrays → ℕ → ℕ → Arrays
+stored a slot x = arrays (a .started) (set (a .nexts) slot x) (a .values) (a .counts) (a .accumulators) (a .owners) (a .cells)
+
+module _ (numbers : List ℤ) (first handle : List ℕ) (sizes : Sizes) (words values : List ℕ) (registers : List ℤ) (at : Place) (σ : Statement)
+    (here : Here numbers first handle sizes words values registers at σ) where
+  abbrev t : Table
+  t = tableOf numbers
+
+  abbrev a : Arrays
+  a = view (tableOf numbers) words values registers
+
+  abbrev fixed : Fixed numbers first handle sizes
+  fixed = here .standing .fixed
+
+  abbrev accepted : Accepted (tableOf numbers)
+  accepted = here .standing .fixed .accepted
+
+  module _ (state : State) (s : Shows (tableOf numbers) (view (tableOf numbers) words values registers) state) where
+    abbrev p : Top (tableOf numbers) (view (tableOf numbers) words values registers) state (at .thread) (at .slot)
+    p = top t a state (at .thread) (at .slot) s (here .low) (here .some) (here .slot-is)
+
+    stands-at : at .next ≡ p .f .next
+    stands-at = here .next-is ∙ p .shown .next-is
+
+    is : (τ : Statement) → σ ≡ τ → statement (tableOf numbers) (p .f .next) ≡ τ
+    is τ e =
+        statement-read numbers (p .f .next)
+        (omega (arith, p .shown .inside .high, accepted .routine-facts (p .f .routine) (p .shown .there) .statements-there))
+        ∙ ap (statementOf numbers) (sym stands-at) ∙ sym (here .statement-is) ∙ e
+
+    operands : (τ : Statement) → σ ≡ τ → Operands (tableOf numbers) (p .f .routine) τ
+    operands τ e =
+        subst (λ (τ : Statement). Operands (tableOf numbers) (p .f .routine) τ) (is τ e) (accepted .operands (p .f .routine) (p .f .next) (p .shown .there) (p .shown .inside))
+
+  -- ---- what the operations ask
+
+  abbrev shown-here : Shows (tableOf numbers) (view (tableOf numbers) words values registers) (here .standing .state)
+  shown-here = here .standing .shows
+
+  abbrev stands : Top (tableOf numbers) (view (tableOf numbers) words values registers) (here .standing .state) (at .thread) (at .slot)
+  stands = p (here .standing .state) shown-here
+
+  pub placed-here : Placed at
+  placed-here =
+      let q = placed t accepted a (here .standing .state) (at .thread) (at .slot) shown-here (here .low) stands in
+      record { thread-low = q .thread-low; slot-low = q .slot-low; next-low = subst (λ (i : ℕ). i < 512) (sym (stands-at (here .standing .state) shown-here)) (q .next-low) }
+
+  pub cells-few : sizes .cells ≤ 64
+  cells-few = omega (arith, fixed .sized .cells-are, accepted .cells-most)
+
+  pub locks-few : sizes .locks ≤ 16
+  locks-few = omega (arith, fixed .sized .locks-are, accepted .locks-most)
+
+  pub count-few : getD (countsIn words) (at .thread) 0 ≤ 32
+  count-few = shown-here .thread-is (at .thread) (here .low) .few
+
+  pub values-long : length values ≡ 4096
+  values-long = shown-here .lengths .values
+
+  pub slot-below : at .slot < startedIn words * 32
+  slot-below = omega (arith, here .low, stands .slot-is, stands .few)
+
+  pub lines-there : HandlesThere numbers
+  lines-there = handles-there numbers (fixed .long)
+
+  target-low : (s : ℕ) → InRoutine (tableOf numbers) (stands .f .routine) s → s < 512
+  target-low s i = omega (arith, i .high, accepted .routine-facts (stands .f .routine) (stands .shown .there) .statements-there, accepted .statements-most)
+
+  pub routine-there : (q : ℕ) (arguments : Arguments) → (σ ≡ Call q arguments) ⊎ (σ ≡ Start q arguments) → q < length (tableOf numbers .routines)
+  routine-there q arguments (inl e) = operands (here .standing .state) shown-here (Call q arguments) e .there
+  routine-there q arguments (inr e) = operands (here .standing .state) shown-here (Start q arguments) e .there
+
+  looked : (q : ℕ) → q < length (tableOf numbers .routines) → LookedUp (tableOf numbers) first handle q
+  looked q l = looked-up numbers first handle q accepted (fixed .first-is) (fixed .handle-is) l
+
+  pub named : (q : ℕ) (arguments : Arguments) → (σ ≡ Call q arguments) ⊎ (σ ≡ Start q arguments) → Naming numbers first handle q
+  named q arguments e = let l = routine-there q arguments e in naming numbers first handle q accepted l (looked q l)
+
+  -- ---- what the operations leave
+
+  -- by what the lists hold after the operation, before the frame's next statement is stored
+  left : (words′ values′ : List ℕ) (registers′ : List ℤ) (r m : Move) (new : Arrays) (answer : Step) → r ≡ m → m .next < 65536
+      → view (tableOf numbers) words′ values′ registers′ ≡ new → answeredAt (m .number) σ ≡ answer
+      → ((state : State) (s : Shows (tableOf numbers) (view (tableOf numbers) words values registers) state) → Stepped (tableOf numbers) (stored new (at .slot) (m .next)) state (at .thread) answer)
+      → Operated (tableOf numbers) words values registers words′ values′ registers′ at σ r
+  left words′ values′ registers′ r m new answer e l v k did =
+      subst (λ (q : Move). Operated t words values registers words′ values′ registers′ at σ q) (sym e)
+      (record {
+        small = l;
+        steps = λ state s.
+            subst (λ (x : Step). Stepped t (view t (set words′ (at .slot) (m .next)) values′ registers′) state (at .thread) x) (sym k)
+            (subst (λ (b : Arrays). Stepped t b state (at .thread) answer)
+            (sym (view-next t words′ values′ registers′ (at .slot) (m .next) (placed-here .slot-low) ∙ ap (λ (b : Arrays). stored b (at .slot) (m .next)) v)) (did state s));
+      })
+
+  next-small : at .next + 1 < 65536
+  next-small = omega (arith, placed-here .next-low)
+
+  went-on : (words′ values′ : List ℕ) (registers′ : List ℤ) (r : Move) (new : Arrays) (τ : Statement) → σ ≡ τ → r ≡ on at
+      → view (tableOf numbers) words′ values′ registers′ ≡ new
+      → ((state : State) (s : Shows (tableOf numbers) (view (tableOf numbers) words values registers) state)
+      → Stepped (tableOf numbers) (stored new (at .slot) (at .next + 1)) state (at .thread) (Ran τ))
+      → Operated (tableOf numbers) words values registers words′ values′ registers′ at σ r
+  went-on words′ values′ registers′ r new τ e q v did = left words′ values′ registers′ r (on at) new (Ran τ) q next-small v (ap Ran e) did
+
+  -- the frame's next statement stored again
+  same : (b : Arrays) → b .nexts ≡ nextsIn words → stored b (at .slot) (at .next) ≡ b
+  same b e =
+      ap (λ (l : List ℕ). arrays (b .started) l (b .values) (b .counts) (b .accumulators) (b .owners) (b .cells))
+      (ap (λ (i : ℕ). set (b .nexts) (at .slot) i) (here .next-is ∙ ap (λ (l : List ℕ). getD l (at .slot) 0) (sym e)) ∙ set-getD (b .nexts) (at .slot) 0)
+
+  was-refused : (number : ℕ) (words′ values′ : List ℕ) (registers′ : List ℤ) (r : Move) (τ : Statement) → σ ≡ τ → answeredAt number σ ≡ Refused number σ → r ≡ stopped number at
+      → words′ ≡ words → values′ ≡ values → registers′ ≡ registers
+      → ((state : State) (s : Shows (tableOf numbers) (view (tableOf numbers) words values registers) state)
+      → Stepped (tableOf numbers) (view (tableOf numbers) words values registers) state (at .thread) (Refused number τ))
+      → Operated (tableOf numbers) words values registers words′ values′ registers′ at σ r
+  was-refused number words′ values′ registers′ r τ e k q x y z did =
+      left words′ values′ registers′ r (stopped number at) a (Refused number τ) q (omega (arith, placed-here .next-low)) (rw (x, y, z)) (k ∙ ap (Refused number) e)
+      (λ state s. subst (λ (b : Arrays). Stepped t b state (at .thread) (Refused number τ)) (sym (same a refl)) (did state s))
+
+  pub did-read : (h : Handle) (registers′ : List ℤ) (r : Move) → σ ≡ Read h → r ≡ on at
+      → registers′ ≡ set registers (at .thread) (getD (cellsIn (sizes .cells) registers) (getD values (valuePlace (at .slot) (h .number)) 0) (pos 0))
+      → Operated (tableOf numbers) words values registers words values registers′ at σ r
+  did-read h registers′ r e q x =
+      let value : ℕ → ℤ = λ cells. getD (cellsIn cells registers) (getD values (valuePlace (at .slot) (h .number)) 0) (pos 0) in
+      went-on words values registers′ r _ (Read h) e q
+      (ap (λ (l : List ℤ). view t words values l) (x ∙ ap (λ (cells : ℕ). set registers (at .thread) (value cells)) (fixed .sized .cells-are))
+      ∙ view-accumulator t words values registers (at .thread) (value (t .cells)) (placed-here .thread-low))
+      (λ state s. read-step t accepted a state (at .thread) (at .slot) s (here .low) (p state s) (at .next) (stands-at state s) h (is state s (Read h) e))
+
+  pub did-write : (h : Handle) (registers′ : List ℤ) (r : Move) → σ ≡ Write h → r ≡ on at
+      → registers′ ≡ putCell (sizes .cells) registers (getD values (valuePlace (at .slot) (h .number)) 0) (getD (accumulatorsIn registers) (at .thread) (pos 0))
+      → Operated (tableOf numbers) words values registers words values registers′ at σ r
+  did-write h registers′ r e q x =
+      let k = getD values (valuePlace (at .slot) (h .number)) 0 in
+      let value = getD (accumulatorsIn registers) (at .thread) (pos 0) in
+      went-on words values registers′ r _ (Write h) e q
+      (ap (λ (l : List ℤ). view t words values l) (x ∙ ap (λ (cells : ℕ). putCell cells registers k value) (fixed .sized .cells-are)) ∙ view-cell t words values registers k value)
+      (λ state s. write-step t accepted a state (at .thread) (at .slot) s (here .low) (p state s) (at .next) (stands-at state s) h (is state s (Write h) e))
+
+  pub did-set : (number : ℤ) (registers′ : List ℤ) (r : Move) → σ ≡ Set number → r ≡ on at → registers′ ≡ set registers (at .thread) number
+      → Operated (tableOf numbers) words values registers words values registers′ at σ r
+  did-set number registers′ r e q x =
+      went-on words values registers′ r _ (Set number) e q
+      (ap (λ (l : List ℤ). view t words values l) x ∙ view-accumulator t words values registers (at .thread) number (placed-here .thread-low))
+      (λ state s. set-step t accepted a state (at .thread) (at .slot) s (here .low) (p state s) (at .next) (stands-at state s) number (is state s (Set number) e))
+
+  pub did-add : (number : ℤ) (registers′ : List ℤ) (r : Move) → σ ≡ Add number → r ≡ on at
+      → registers′ ≡ set registers (at .thread) (wrap (getD (accumulatorsIn registers) (at .thread) (pos 0) +ℤ number))
+      → Operated (tableOf numbers) words values registers words values registers′ at σ r
+  did-add number registers′ r e q x =
+      went-on words values registers′ r _ (Add number) e q
+      (ap (λ (l : List ℤ). view t words values l) x
+      ∙ view-accumulator t words values registers (at .thread) (wrap (getD (accumulatorsIn registers) (at .thread) (pos 0) +ℤ number)) (placed-here .thread-low))
+      (λ state s. add-step t accepted a state (at .thread) (at .slot) s (here .low) (p state s) (at .next) (stands-at state s) number (is state s (Add number) e))
+
+  -- the locks that the header says are the table's
+  locked : (number needed owner k : ℕ) (r : Move) (words′ : List ℕ) → Locked number needed owner k at (sizes .locks) r words words′
+      → Locked number needed owner k at (tableOf numbers .locks) r words words′
+  locked number needed owner k r words′ w = subst (λ (locks : ℕ). Locked number needed owner k at locks r words words′) (fixed .sized .locks-are) w
+
+  pub did-take : (h : Handle) (words′ : List ℕ) (r : Move) → σ ≡ Take h
+      → Locked 16 0 (at .thread + 1) (getD values (valuePlace (at .slot) (h .number)) 0) at (sizes .locks) r words words′
+      → Operated (tableOf numbers) words values registers words′ values registers at σ r
+  did-take h words′ r e w = go (locked 16 0 (at .thread + 1) (getD values (valuePlace (at .slot) (h .number)) 0) r words′ w)
+    where
+      go : Locked 16 0 (at .thread + 1) (getD values (valuePlace (at .slot) (h .number)) 0) at (tableOf numbers .locks) r words words′
+          → Operated (tableOf numbers) words values registers words′ values registers at σ r
+      go (inl w) =
+          was-refused 16 words′ values registers r (Take h) e refl (w .answer-is) (w .words-are) refl refl
+          (λ state s. take-refused t accepted a state (at .thread) (at .slot) s (here .low) (p state s) (at .next) (stands-at state s) h (is state s (Take h) e) (w .blocked))
+      go (inr w) =
+          went-on words′ values registers r _ (Take h) e (w .answer-is)
+          (ap (λ (l : List ℕ). view t l values registers) (w .words-are) ∙ view-owner t words values registers (getD values (valuePlace (at .slot) (h .number)) 0) (at .thread + 1))
+          (λ state s. take-step t accepted a state (at .thread) (at .slot) s (here .low) (p state s) (at .next) (stands-at state s) h (is state s (Take h) e) (w .free))
+
+  pub did-give : (h : Handle) (words′ : List ℕ) (r : Move) → σ ≡ Give h
+      → Locked 17 (at .thread + 1) 0 (getD values (valuePlace (at .slot) (h .number)) 0) at (sizes .locks) r words words′
+      → Operated (tableOf numbers) words values registers words′ values registers at σ r
+  did-give h words′ r e w = go (locked 17 (at .thread + 1) 0 (getD values (valuePlace (at .slot) (h .number)) 0) r words′ w)
+    where
+      go : Locked 17 (at .thread + 1) 0 (getD values (valuePlace (at .slot) (h .number)) 0) at (tableOf numbers .locks) r words words′
+          → Operated (tableOf numbers) words values registers words′ values registers at σ r
+      go (inl w) =
+          was-refused 17 words′ values registers r (Give h) e refl (w .answer-is) (w .words-are) refl refl
+          (λ state s. give-refused t accepted a state (at .thread) (at .slot) s (here .low) (p state s) (at .next) (stands-at state s) h (is state s (Give h) e) (w .blocked))
+      go (inr w) =
+          went-on words′ values registers r _ (Give h) e (w .answer-is)
+          (ap (λ (l : List ℕ). view t l values registers) (w .words-are) ∙ view-owner t words values registers (getD values (valuePlace (at .slot) (h .number)) 0) 0)
+          (λ state s. give-step t accepted a state (at .thread) (at .slot) s (here .low) (p state s) (at .next) (stands-at state s) h (is state s (Give h) e) (w .free))
+
+  pub did-point : (h g : Handle) (values′ : List ℕ) (r : Move) → σ ≡ Point h g → r ≡ on at
+      → values′ ≡ set values (valuePlace (at .slot) (h .number)) (getD values (valuePlace (at .slot) (g .number)) 0)
+      → Operated (tableOf numbers) words values registers words values′ registers at σ r
+  did-point h g values′ r e q x =
+      went-on words values′ registers r _ (Point h g) e q (ap (λ (l : List ℕ). view t words l registers) x)
+      (λ state s. point-step t accepted a state (at .thread) (at .slot) s (here .low) (p state s) (at .next) (stands-at state s) h g (is state s (Point h g) e))
+
+  pub did-call : (q : ℕ) (arguments : Arguments) (words′ values′ : List ℕ) (r : Move) → σ ≡ Call q arguments
+      → Called (tableOf numbers) (getD first q 0) (getD handle q 0) (getD handle (q + 1) 0) arguments at r words words′ values values′
+      → Operated (tableOf numbers) words values registers words′ values′ registers at σ r
+  did-call q arguments words′ values′ r e (inl w) =
+      let u = looked q (routine-there q arguments (inl e)) in
+      was-refused 19 words′ values′ registers r (Call q arguments) e refl (w .answer-is) (w .words-are) (w .values-are) refl
+      (λ state s. call-refused t accepted a state (at .thread) (at .slot) s (here .low) (p state s) (at .next) (stands-at state s) q arguments
+      (getD first q 0) (getD handle q 0) (getD handle (q + 1) 0) (u .first-is) (u .from-is) (u .end-is) (is state s (Call q arguments) e) (w .full))
+  did-call q arguments words′ values′ r e (inr w) =
+      let u = looked q (routine-there q arguments (inl e)) in
+      let count = getD (countsIn words) (at .thread) 0 + 1 in
+      let opened = set words (at .slot + 1) (getD first q 0) in
+      went-on words′ values′ registers r _ (Call q arguments) e (w .answer-is)
+      (ap (λ (l : List ℕ). view t l values′ registers) (w .words-are)
+      ∙ view-count t opened values′ registers (at .thread) (countPlace (at .thread)) count (placed-here .thread-low) refl
+      ∙ ap (λ (b : Arrays). arrays (b .started) (b .nexts) (b .values) (set (b .counts) (at .thread) count) (b .accumulators) (b .owners) (b .cells))
+      (view-next t words values′ registers (at .slot + 1) (getD first q 0) (omega (arith, here .slot-is, w .free, placed-here .thread-low))))
+      (λ state s. call-step t accepted a state (at .thread) (at .slot) s (here .low) (p state s) (at .next) (stands-at state s) q arguments
+      (getD first q 0) (getD handle q 0) (getD handle (q + 1) 0) (u .first-is) (u .from-is) (u .end-is) values′ (is state s (Call q arguments) e) (w .free) (w .entered))
+
+  pub did-start : (q : ℕ) (arguments : Arguments) (words′ values′ : List ℕ) (registers′ : List ℤ) (r : Move) → σ ≡ Start q arguments
+      → Started (tableOf numbers) (getD first q 0) (getD handle q 0) (getD handle (q + 1) 0) arguments at r words words′ values values′ registers registers′
+      → Operated (tableOf numbers) words values registers words′ values′ registers′ at σ r
+  did-start q arguments words′ values′ registers′ r e (inl w) =
+      let u = looked q (routine-there q arguments (inr e)) in
+      was-refused 18 words′ values′ registers′ r (Start q arguments) e refl (w .answer-is) (w .words-are) (w .values-are) (w .registers-are)
+      (λ state s. start-refused t accepted a state (at .thread) (at .slot) s (here .low) (p state s) (at .next) (stands-at state s) q arguments
+      (getD first q 0) (getD handle q 0) (getD handle (q + 1) 0) (u .first-is) (u .from-is) (u .end-is) (is state s (Start q arguments) e) (w .full))
+  did-start q arguments words′ values′ registers′ r e (inr w) =
+      let u = looked q (routine-there q arguments (inr e)) in
+      went-on words′ values′ registers′ r _ (Start q arguments) e (w .answer-is) (begun (startedIn words) refl (w .free) (w .words-are) (w .registers-are))
+      (λ state s. start-step t accepted a state (at .thread) (at .slot) s (here .low) (p state s) (at .next) (stands-at state s) q arguments
+      (getD first q 0) (getD handle q 0) (getD handle (q + 1) 0) (u .first-is) (u .from-is) (u .end-is) values′ (is state s (Start q arguments) e) (w .free) (w .entered))
+    where
+      begun : (n : ℕ) → n ≡ startedIn words → n < 16 → words′ ≡ set (set (set words (n * 32) (getD first q 0)) (countPlace n) 1) startedPlace (n + 1) → registers′ ≡ set registers n (pos 0)
+          → view (tableOf numbers) words′ values′ registers′
+          ≡ arrays (n + 1) (set (nextsIn words) (n * 32) (getD first q 0)) values′ (set (countsIn words) n 1) (set (accumulatorsIn registers) n (pos 0))
+          (ownersIn (tableOf numbers .locks) words) (cellsIn (tableOf numbers .cells) registers)
+      begun n is low x y =
+          let opened = set words (n * 32) (getD first q 0) in
+          let counted = set opened (countPlace n) 1 in
+          let frame-low : n * 32 < 512 = omega arith in
+          let long : startedPlace < length counted = omega (arith, length-set opened (countPlace n) 1, length-set words (n * 32) (getD first q 0), started-there words (omega (arith, here .low))) in
+          ap (λ (l : List ℕ). view t l values′ registers′) x ∙ ap (λ (l : List ℤ). view t (set counted startedPlace (n + 1)) values′ l) y
+          ∙ view-started t counted values′ (set registers n (pos 0)) (n + 1) long
+          ∙ ap (λ (b : Arrays). arrays (n + 1) (b .nexts) (b .values) (b .counts) (b .accumulators) (b .owners) (b .cells))
+          (view-count t opened values′ (set registers n (pos 0)) n (countPlace n) 1 low refl
+          ∙ ap (λ (b : Arrays). arrays (b .started) (b .nexts) (b .values) (set (b .counts) n 1) (b .accumulators) (b .owners) (b .cells))
+          (view-next t words values′ (set registers n (pos 0)) (n * 32) (getD first q 0) frame-low
+          ∙ ap (λ (b : Arrays). stored b (n * 32) (getD first q 0)) (view-accumulator t words values′ registers n (pos 0) low)))
+
+  pub did-jump : (target : Target) (r : Move) → σ ≡ Jump target → r ≡ to (target .statement) → Operated (tableOf numbers) words values registers words values registers at σ r
+  did-jump target r e q =
+      left words values registers r (to (target .statement)) a (Ran (Jump target)) q
+      (omega (arith, target-low (target .statement) (operands (here .standing .state) shown-here (Jump target) e))) refl (ap Ran e)
+      (λ state s. jump-step t accepted a state (at .thread) (at .slot) s (here .low) (p state s) (at .next) (stands-at state s) target (is state s (Jump target) e))
+
+  pub did-jump-zero : (target : Target) (r : Move) → σ ≡ JumpZero target
+      → r ≡ to (cond (isZero (getD (accumulatorsIn registers) (at .thread) (pos 0))) (target .statement) (at .next + 1))
+      → Operated (tableOf numbers) words values registers words values registers at σ r
+  did-jump-zero target r e q =
+      let z = isZero (getD (accumulatorsIn registers) (at .thread) (pos 0)) in
+      left words values registers r (to (cond z (target .statement) (at .next + 1))) a (Ran (JumpZero target)) q (small z) refl (ap Ran e)
+      (λ state s. jump-zero-step t accepted a state (at .thread) (at .slot) s (here .low) (p state s) (at .next) (stands-at state s) target (is state s (JumpZero target) e))
+    where
+      small : (b : Bool) → cond b (target .statement) (at .next + 1) < 65536
+      small true = omega (arith, target-low (target .statement) (operands (here .standing .state) shown-here (JumpZero target) e))
+      small false = next-small
+
+  pub did-return : (words′ : List ℕ) (r : Move) → σ ≡ Return → r ≡ to (at .next)
+      → words′ ≡ set words (countPlace (at .thread)) (getD (countsIn words) (at .thread) 0 - 1)
+      → Operated (tableOf numbers) words values registers words′ values registers at σ r
+  did-return words′ r e q x =
+      let count = getD (countsIn words) (at .thread) 0 - 1 in
+      left words′ values registers r (to (at .next)) _ (Ran Return) q (omega (arith, placed-here .next-low))
+      (ap (λ (l : List ℕ). view t l values registers) x ∙ view-count t words values registers (at .thread) (countPlace (at .thread)) count (placed-here .thread-low) refl) (ap Ran e)
+      (λ state s. subst (λ (b : Arrays). Stepped t b state (at .thread) (Ran Return))
+      (sym (same (arrays (startedIn words) (nextsIn words) values (set (countsIn words) (at .thread) count) (accumulatorsIn registers) (ownersIn (t .locks) words) (cellsIn (t .cells) registers)) refl))
+      (return-step t accepted a state (at .thread) (at .slot) s (here .low) (p state s) (at .next) (stands-at state s) (is state s Return e)))

@@ -1,0 +1,3 @@
+pub mod Stepped
+pub mod StepLaws
+pub mod RunLaws
