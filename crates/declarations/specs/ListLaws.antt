@@ -22,7 +22,6 @@ pub record Summing (f : List ℤ) (a : List ℕ) (sum r : ℕ) : Type 0 where
   pub is : sum ≡ firstOf f r
   pub small : sum ≤ r * 2 ^ 31
   pub few : r ≤ 32
-  pub all-small : (k : ℕ) → k < r + 1 → firstOf f k < 2 ^ 40
 
 -- the first place of zeros holds g's first value
 first-place : (g : ℕ → ℕ) (n : ℕ) → g 0 ≡ 0 → Begun g (replicate (suc n) 0) (suc n) 1
@@ -33,10 +32,7 @@ first-place g n e = record {
 
 pub summing-start : (f : List ℤ) → Summing f (replicate 33 0) 0 0
 unfolding firstOf
-summing-start f = record { begun = first-place (firstOf f) 32 refl; is = refl; small = zero-le; few = zero-le; all-small = λ k b. none k (omega arith) }
-  where
-    none : (k : ℕ) → k ≡ 0 → firstOf f k < 2 ^ 40
-    none k e = subst⁻¹ (λ (i : ℕ). firstOf f i < 2 ^ 40) e (lit< tt)
+summing-start f = record { begun = first-place (firstOf f) 32 refl; is = refl; small = zero-le; few = zero-le }
 
 pub summing-next : (f : List ℤ) (a : List ℕ) (sum r n : ℕ) → Summing f a sum r → r < 32 → n ≡ countOf f r → n < 2 ^ 31
     → Summing f (set a (r + 1) (sum + n)) (sum + n) (r + 1)
@@ -47,7 +43,6 @@ summing-next f a sum r n s h e b =
       is = v;
       small = omega (arith, s .small);
       few = omega arith;
-      all-small = λ k l. below-more (λ (i : ℕ). firstOf f i < 2 ^ 40) (r + 1) (s .all-small) (subst (λ (x : ℕ). x < 2 ^ 40) v (omega (arith, s .small))) k l;
     }
 
 -- ---- the first handles

@@ -42,8 +42,7 @@ fn routine_count(numbers: &[i32]) -> usize
 
 // The first statement of each routine, behind the last routine's the number of statements dealt out, then zeros.
 pub fn first_statements(numbers: &[i32]) -> [usize; 33]
-    ensures is { λ a. ⌜ a ≡ firstStatements (now (numbers .entry)) ⌝ }
-    ensures small { λ a. ⌜ ((k : ℕ) → k < 33 → k ≤ routines (now (numbers .entry)) → firstOf (now (numbers .entry)) k < 2 ^ 40) ⌝ }
+    ensures { λ a. ⌜ a ≡ firstStatements (now (numbers .entry)) ⌝ }
 {
     let count = routine_count(numbers);
     let mut first = [0usize; 33];

@@ -1,23 +1,23 @@
-// Which routines name which, and which reach themselves.
+// Which routines name which, by CALL or START, and which reach themselves so. A set of routines is a number.
 ghost use mathlib.Core.Path.{_≡_};
 ghost use Prim.Native.Nat.{ℕ, _<_, _^_, _-_};
-ghost use Rattle.table.specs.Until.{until};
 ghost use lib.ListN.{getD};
 ghost use Rattle.table.specs.Header.{routines};
-ghost use Rattle.table.specs.LayoutLaws.{Laid};
+ghost use Rattle.table.specs.Lists.{StatementsBegin};
+ghost use Rattle.table.specs.Naming.{namedBy, gather, namesOf, namesIn, walk, isAcyclic};
 ghost use Rattle.naming.specs.GatherLaws.{Ended};
-ghost use Rattle.table.specs.Naming.{namedBy, gather, namesOf, namesIn, isNamed, walk, isAcyclic};
 use lists::number_at;
 use lists::set_at;
 use sets::Which;
 use table::field_of;
+use table::first_line;
 
 // What statement `s` names.
 fn named_by(numbers: &[i32], s: usize) -> u64
-    requires { ⌜ s < 2 ^ 40 ⌝ }
+    requires { ⌜ s < 2 ^ 32 ⌝ }
     ensures { λ x. ⌜ x ≡ namedBy (now (numbers .entry)) s ⌝ }
 {
-    let line = 1 + field_of(numbers, 0, 3) + field_of(numbers, 0, 4) + s;
+    let line = first_line(numbers) + s;
     let op = field_of(numbers, line, 1);
     if (op == 8) | (op == 9) {
         return sets::one(field_of(numbers, line, 2));
@@ -27,7 +27,7 @@ fn named_by(numbers: &[i32], s: usize) -> u64
 
 // What the statements from `from` on and below `end` name.
 fn named_among(numbers: &[i32], from: usize, end: usize) -> u64
-    requires { ⌜ end < 2 ^ 40 ⌝ }
+    requires { ⌜ end < 2 ^ 32 ⌝ }
     ensures { λ x. ⌜ x ≡ gather (namedBy (now (numbers .entry))) 0 from (end - from) ⌝ }
 {
     let mut named = 0;
@@ -40,8 +40,8 @@ fn named_among(numbers: &[i32], from: usize, end: usize) -> u64
 }
 
 // What the statements of routine `r` name.
-fn names_of(numbers: &[i32], first: &[usize], handle: &[usize], counts: &[usize], r: usize) -> u64
-    requires { ⌜ Laid (now numbers) (now first) (now handle) (now counts) ⌝ }
+fn names_of(numbers: &[i32], first: &[usize], r: usize) -> u64
+    requires { ⌜ StatementsBegin (now numbers) (now first) ⌝ }
     requires { ⌜ r < routines (now numbers) ⌝ }
     ensures { λ x. ⌜ x ≡ namesOf (now (numbers .entry)) r ⌝ }
 {
@@ -49,22 +49,22 @@ fn names_of(numbers: &[i32], first: &[usize], handle: &[usize], counts: &[usize]
 }
 
 // For each routine, what its statements name.
-pub fn names_in(numbers: &[i32], first: &[usize], handle: &[usize], counts: &[usize]) -> [u64; 32]
-    requires { ⌜ Laid (now numbers) (now first) (now handle) (now counts) ⌝ }
+pub fn names_in(numbers: &[i32], first: &[usize]) -> [u64; 32]
+    requires { ⌜ StatementsBegin (now numbers) (now first) ⌝ }
     ensures { λ a. ⌜ a ≡ namesIn (now (numbers .entry)) ⌝ }
 {
     let count = field_of(numbers, 0, 4);
     let mut names = [0u64; 32];
     let mut r = 0;
     while r < count {
-        names[r] = names_of(numbers, first, handle, counts, r);
+        names[r] = names_of(numbers, first, r);
         r += 1;
     }
     names
 }
 
 // All that `count` routines name.
-fn all_named(names: &[u64], count: usize) -> u64
+pub fn all_named(names: &[u64], count: usize) -> u64
     requires { ⌜ Ended (now names) count ⌝ }
     ensures { λ x. ⌜ x ≡ gather (λ (k : ℕ). getD (now (names .entry)) k 0) 0 0 32 ⌝ }
 {
@@ -75,22 +75,6 @@ fn all_named(names: &[u64], count: usize) -> u64
         r += 1;
     }
     all
-}
-
-// The lowest routine but 0, below `count`, that is not named; `count` if there is none.
-pub fn unnamed(names: &[u64], count: usize) -> usize
-    requires { ⌜ Ended (now names) count ⌝ }
-    ensures { λ r. ⌜ r ≡ until (isNamed (now (names .entry))) 1 (count - 1) ⌝ }
-{
-    let all = all_named(names, count);
-    let mut r = 1;
-    while r < count {
-        if !sets::has(all, r) {
-            return r;
-        }
-        r += 1;
-    }
-    r
 }
 
 // The routines reached from those in `todo`, beside those in `seen`, `left` routines being left.
@@ -111,22 +95,8 @@ fn walk_down(names: &[u64], todo: u64, seen: u64, left: usize) -> u64
 }
 
 // Refusal 12's rule at routine `r`.
-fn is_acyclic(names: &[u64], r: usize) -> bool
+pub fn is_acyclic(names: &[u64], r: usize) -> bool
     ensures { λ b. ⌜ b ≡ isAcyclic (now (names .entry)) r ⌝ }
 {
     !sets::has(walk_down(names, set_at(names, r), 0, 32), r)
-}
-
-// The lowest routine below `count` that reaches itself; `count` if there is none.
-pub fn cyclic(names: &[u64], count: usize) -> usize
-    ensures { λ r. ⌜ r ≡ until (isAcyclic (now (names .entry))) 0 count ⌝ }
-{
-    let mut r = 0;
-    while r < count {
-        if !is_acyclic(names, r) {
-            return r;
-        }
-        r += 1;
-    }
-    r
 }

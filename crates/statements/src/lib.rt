@@ -1,20 +1,17 @@
-// The statement lines: their rule.
+// The statement lines: their rule, and that of a routine's end. `first`, `handle` and `counts` are the lists of crate declarations.
 ghost use mathlib.Core.Path.{_≡_};
-ghost use Prim.Native.Nat.{_<_, _^_, _-_};
-ghost use Rattle.table.specs.Until.{until};
+ghost use mathlib.Core.Bool.{_&&_};
+ghost use Prim.Native.Nat.{_<_, _^_, _+_, _-_};
+ghost use lib.Dec.{leb, ltb};
+ghost use lib.ListN.{getD};
+ghost use Rattle.table.specs.Fields.{field};
 ghost use Rattle.table.specs.Header.{routines};
-ghost use Rattle.table.specs.LayoutLaws.{Laid};
-ghost use Rattle.table.specs.Statements.{ownHandle, ownOfKind, ownStatement, argumentOk, argumentsOk, namingOk, pointOk, operationOk, statementOk, badStatement, endOk};
+ghost use Rattle.table.specs.Lists.{StatementsBegin, HandlesBegin, ParametersCounted};
+ghost use Rattle.table.specs.Statements.{ownHandle, ownOfKind, argumentOk, argumentsOk, namingOk, pointOk, operationOk, statementOk, endOk};
 use lists::number_at;
 use table::field_of;
+use table::first_line;
 use table::is_unused;
-
-// The number before h, or 0.
-pub fn previous(h: usize) -> usize
-    ensures { λ r. ⌜ r ≡ h - 1 ⌝ }
-{
-    if 0 < h { h - 1 } else { 0 }
-}
 
 // Whether x is a handle of routine `r`.
 fn own_handle(numbers: &[i32], r: usize, x: usize) -> bool
@@ -36,45 +33,34 @@ fn own_of_kind(numbers: &[i32], r: usize, kind: usize, x: usize) -> bool
     (field_of(numbers, 1 + x, 1) == r) & (field_of(numbers, 1 + x, 2) == kind)
 }
 
-// Whether x is a statement of routine `r`.
-fn own_statement(
-    numbers: &[i32],
-    first: &[usize],
-    handle: &[usize],
-    counts: &[usize],
-    r: usize,
-    x: usize,
-) -> bool
-    requires { ⌜ Laid (now numbers) (now first) (now handle) (now counts) ⌝ }
-    requires { ⌜ r < routines (now numbers) ⌝ }
-    ensures { λ b. ⌜ b ≡ ownStatement (now (numbers .entry)) r x ⌝ }
+// Whether x is a statement of routine `r`, by the list of the first ones.
+fn own_statement(first: &[usize], r: usize, x: usize) -> bool
+    requires { ⌜ r < 32 ⌝ }
+    ensures { λ b. ⌜ b ≡ (leb (getD (now (first .entry)) r 0) x && ltb x (getD (now (first .entry)) (r + 1) 0)) ⌝ }
 {
     (number_at(first, r) <= x) & (x < number_at(first, r + 1))
 }
 
-// Whether x may be argument `k` of a statement of routine `r` that names routine `q`.
+// Whether argument `k` in `line`, which is routine `r`'s and names routine `q`, is one that `q` takes.
 fn argument_ok(
     numbers: &[i32],
-    first: &[usize],
     handle: &[usize],
     counts: &[usize],
     r: usize,
     q: usize,
     k: usize,
-    x: usize,
+    line: usize,
 ) -> bool
-    requires { ⌜ Laid (now numbers) (now first) (now handle) (now counts) ⌝ }
+    requires { ⌜ HandlesBegin (now numbers) (now handle) ⌝ }
+    requires { ⌜ ParametersCounted (now numbers) (now counts) ⌝ }
     requires { ⌜ q < routines (now numbers) ⌝ }
     requires { ⌜ k < 4 ⌝ }
-    ensures { λ b. ⌜ b ≡ argumentOk (now (numbers .entry)) r q k x ⌝ }
+    ensures { λ b. ⌜ b ≡ argumentOk (now (numbers .entry)) r q k (field (now (numbers .entry)) line (3 + k)) ⌝ }
 {
+    let x = field_of(numbers, line, 3 + k);
     if k < number_at(counts, q) {
-        return own_of_kind(
-            numbers,
-            r,
-            field_of(numbers, 1 + (number_at(handle, q) + k), 2),
-            x,
-        );
+        let kind = field_of(numbers, 1 + (number_at(handle, q) + k), 2);
+        return own_of_kind(numbers, r, kind, x);
     }
     x == 0
 }
@@ -82,77 +68,35 @@ fn argument_ok(
 // Whether the CALL or START in `line` of routine `r` passes what routine `q` takes.
 fn arguments_ok(
     numbers: &[i32],
-    first: &[usize],
     handle: &[usize],
     counts: &[usize],
     r: usize,
     q: usize,
     line: usize,
 ) -> bool
-    requires { ⌜ Laid (now numbers) (now first) (now handle) (now counts) ⌝ }
+    requires { ⌜ HandlesBegin (now numbers) (now handle) ⌝ }
+    requires { ⌜ ParametersCounted (now numbers) (now counts) ⌝ }
     requires { ⌜ q < routines (now numbers) ⌝ }
     ensures { λ b. ⌜ b ≡ argumentsOk (now (numbers .entry)) r q line ⌝ }
 {
-    argument_ok(
-        numbers,
-        first,
-        handle,
-        counts,
-        r,
-        q,
-        0,
-        field_of(numbers, line, 3),
-    )
-        & argument_ok(
-            numbers,
-            first,
-            handle,
-            counts,
-            r,
-            q,
-            1,
-            field_of(numbers, line, 4),
-        )
-        & argument_ok(
-            numbers,
-            first,
-            handle,
-            counts,
-            r,
-            q,
-            2,
-            field_of(numbers, line, 5),
-        )
-        & argument_ok(
-            numbers,
-            first,
-            handle,
-            counts,
-            r,
-            q,
-            3,
-            field_of(numbers, line, 6),
-        )
+    argument_ok(numbers, handle, counts, r, q, 0, line)
+        & argument_ok(numbers, handle, counts, r, q, 1, line)
+        & argument_ok(numbers, handle, counts, r, q, 2, line)
+        & argument_ok(numbers, handle, counts, r, q, 3, line)
         & is_unused(numbers, line, 7)
 }
 
 // Whether the CALL or START in `line` of routine `r` names a routine and passes what it takes.
-fn naming_ok(
-    numbers: &[i32],
-    first: &[usize],
-    handle: &[usize],
-    counts: &[usize],
-    r: usize,
-    line: usize,
-) -> bool
-    requires { ⌜ Laid (now numbers) (now first) (now handle) (now counts) ⌝ }
+fn naming_ok(numbers: &[i32], handle: &[usize], counts: &[usize], r: usize, line: usize) -> bool
+    requires { ⌜ HandlesBegin (now numbers) (now handle) ⌝ }
+    requires { ⌜ ParametersCounted (now numbers) (now counts) ⌝ }
     ensures { λ b. ⌜ b ≡ namingOk (now (numbers .entry)) r line ⌝ }
 {
     let q = field_of(numbers, line, 2);
     if field_of(numbers, 0, 4) <= q {
         return false;
     }
-    arguments_ok(numbers, first, handle, counts, r, q, line)
+    arguments_ok(numbers, handle, counts, r, q, line)
 }
 
 // Whether the POINT in `line` of routine `r` has two handles of one kind.
@@ -180,7 +124,9 @@ fn operation_ok(
     line: usize,
     op: usize,
 ) -> bool
-    requires { ⌜ Laid (now numbers) (now first) (now handle) (now counts) ⌝ }
+    requires { ⌜ StatementsBegin (now numbers) (now first) ⌝ }
+    requires { ⌜ HandlesBegin (now numbers) (now handle) ⌝ }
+    requires { ⌜ ParametersCounted (now numbers) (now counts) ⌝ }
     requires { ⌜ r < routines (now numbers) ⌝ }
     ensures { λ b. ⌜ b ≡ operationOk (now (numbers .entry)) r line op ⌝ }
 {
@@ -198,16 +144,16 @@ fn operation_ok(
         return point_ok(numbers, r, line);
     }
     if (op == 8) | (op == 9) {
-        return naming_ok(numbers, first, handle, counts, r, line);
+        return naming_ok(numbers, handle, counts, r, line);
     }
     if (op == 10) | (op == 11) {
-        return own_statement(numbers, first, handle, counts, r, a) & is_unused(numbers, line, 3);
+        return own_statement(first, r, a) & is_unused(numbers, line, 3);
     }
     (op == 12) & is_unused(numbers, line, 2)
 }
 
 // Refusal 9's rule at statement `s` of routine `r`.
-fn statement_ok(
+pub fn statement_ok(
     numbers: &[i32],
     first: &[usize],
     handle: &[usize],
@@ -215,12 +161,14 @@ fn statement_ok(
     r: usize,
     s: usize,
 ) -> bool
-    requires { ⌜ Laid (now numbers) (now first) (now handle) (now counts) ⌝ }
+    requires { ⌜ StatementsBegin (now numbers) (now first) ⌝ }
+    requires { ⌜ HandlesBegin (now numbers) (now handle) ⌝ }
+    requires { ⌜ ParametersCounted (now numbers) (now counts) ⌝ }
     requires { ⌜ r < routines (now numbers) ⌝ }
-    requires { ⌜ s < 2 ^ 40 ⌝ }
+    requires { ⌜ s < 2 ^ 32 ⌝ }
     ensures { λ b. ⌜ b ≡ statementOk (now (numbers .entry)) r s ⌝ }
 {
-    let line = 1 + field_of(numbers, 0, 3) + field_of(numbers, 0, 4) + s;
+    let line = first_line(numbers) + s;
     operation_ok(
         numbers,
         first,
@@ -232,76 +180,21 @@ fn statement_ok(
     )
 }
 
-// The lowest statement of routine `r`, from `from` on and below `end`, that breaks refusal 9's rule; `end` if there is none.
-fn bad_among(
-    numbers: &[i32],
-    first: &[usize],
-    handle: &[usize],
-    counts: &[usize],
-    r: usize,
-    from: usize,
-    end: usize,
-) -> usize
-    requires { ⌜ Laid (now numbers) (now first) (now handle) (now counts) ⌝ }
-    requires { ⌜ r < routines (now numbers) ⌝ }
-    requires { ⌜ end < 2 ^ 40 ⌝ }
-    ensures { λ x. ⌜ x ≡ until (statementOk (now (numbers .entry)) r) from (end - from) ⌝ }
+// The last statement of routine `r`, by the list of the first ones; 0 if there is none.
+pub fn last_of(first: &[usize], r: usize) -> usize
+    requires { ⌜ r < 32 ⌝ }
+    ensures { λ s. ⌜ s ≡ getD (now (first .entry)) (r + 1) 0 - 1 ⌝ }
 {
-    let mut s = from;
-    while s < end {
-        if !statement_ok(numbers, first, handle, counts, r, s) {
-            return s;
-        }
-        s += 1;
-    }
-    s
-}
-
-// The lowest statement that breaks refusal 9's rule, or the number of statements dealt out.
-pub fn bad_statement(numbers: &[i32], first: &[usize], handle: &[usize], counts: &[usize]) -> usize
-    requires { ⌜ Laid (now numbers) (now first) (now handle) (now counts) ⌝ }
-    ensures { λ x. ⌜ x ≡ badStatement (now (numbers .entry)) 0 (routines (now (numbers .entry))) ⌝ }
-{
-    let count = field_of(numbers, 0, 4);
-    let mut r = 0;
-    while r < count {
-        let end = number_at(first, r + 1);
-        let s = bad_among(numbers, first, handle, counts, r, number_at(first, r), end);
-        if s < end {
-            return s;
-        }
-        r += 1;
-    }
-    number_at(first, count)
+    let end = number_at(first, r + 1);
+    if 0 < end { end - 1 } else { 0 }
 }
 
 // Refusal 10's rule at routine `r`.
-fn end_ok(numbers: &[i32], first: &[usize], handle: &[usize], counts: &[usize], r: usize) -> bool
-    requires { ⌜ Laid (now numbers) (now first) (now handle) (now counts) ⌝ }
+pub fn end_ok(numbers: &[i32], first: &[usize], r: usize) -> bool
+    requires { ⌜ StatementsBegin (now numbers) (now first) ⌝ }
     requires { ⌜ r < routines (now numbers) ⌝ }
     ensures { λ b. ⌜ b ≡ endOk (now (numbers .entry)) r ⌝ }
 {
-    let last = previous(number_at(first, r + 1));
-    let op = field_of(
-        numbers,
-        1 + field_of(numbers, 0, 3) + field_of(numbers, 0, 4) + last,
-        1,
-    );
+    let op = field_of(numbers, first_line(numbers) + last_of(first, r), 1);
     (op == 10) | (op == 12)
-}
-
-// The lowest routine that breaks refusal 10's rule, or the number of routines.
-pub fn bad_end(numbers: &[i32], first: &[usize], handle: &[usize], counts: &[usize]) -> usize
-    requires { ⌜ Laid (now numbers) (now first) (now handle) (now counts) ⌝ }
-    ensures { λ r. ⌜ r ≡ until (endOk (now (numbers .entry))) 0 (routines (now (numbers .entry))) ⌝ }
-{
-    let count = field_of(numbers, 0, 4);
-    let mut r = 0;
-    while r < count {
-        if !end_ok(numbers, first, handle, counts, r) {
-            return r;
-        }
-        r += 1;
-    }
-    r
 }

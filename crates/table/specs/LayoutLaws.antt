@@ -45,34 +45,3 @@ module _ (f : List ℤ) (few : routines f ≤ 32) (l : List ℕ) (r : ℕ) where
 
   pub count-at : l ≡ parameterCounts f → r < routines f → getD l r 0 ≡ parameters f r
   count-at e h = entry-below 32 (routines f) (parameters f) l r e (omega arith) h
-
--- the three lists that the statements' rules are tested with, of a header that passes
-pub record Laid (f : List ℤ) (first handle counts : List ℕ) : Type 0 where
-  pub handles-most : handles f ≤ 128
-  pub routines-most : routines f ≤ 32
-  pub statements-most : statements f ≤ 512
-  pub first-small : (k : ℕ) → k ≤ routines f → firstOf f k < 2 ^ 40
-  pub first-is : first ≡ firstStatements f
-  pub handle-is : handle ≡ firstHandles f
-  pub counts-is : counts ≡ parameterCounts f
-
-module _ {f : List ℤ} {first handle counts : List ℕ} (l : Laid f first handle counts) (r : ℕ) where
-  pub laid-first : r ≤ routines f → getD first r 0 ≡ firstOf f r
-  laid-first h = first-at f (l .routines-most) first r (l .first-is) h
-
-  pub laid-handle : r ≤ routines f → getD handle r 0 ≡ handlesFrom f r
-  laid-handle h = handle-at f (l .routines-most) handle r (l .handle-is) h
-
-  pub laid-count : r < routines f → getD counts r 0 ≡ parameters f r
-  laid-count h = count-at f (l .routines-most) counts r (l .counts-is) h
-
-  -- also where no routine stands
-  pub laid-small : getD first r 0 < 2 ^ 40
-  laid-small = at (ltb r (routines f + 1)) refl
-    where
-      at : (t : Bool) → ltb r (routines f + 1) ≡ t → getD first r 0 < 2 ^ 40
-      at true t =
-          let h : r < routines f + 1 = ltb-true r (routines f + 1) t in
-          subst⁻¹ (λ (n : ℕ). n < 2 ^ 40) (laid-first (omega arith)) (l .first-small r (omega arith))
-      at false t =
-          subst⁻¹ (λ (n : ℕ). n < 2 ^ 40) (entry-behind 33 (routines f + 1) (firstOf f) first r (l .first-is) (ltb-false r (routines f + 1) t)) (lit< tt)

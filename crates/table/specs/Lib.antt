@@ -20,6 +20,7 @@ pub mod CheckLaws
 pub mod ReachLaws
 pub mod HandleLaws
 pub mod RoutineLaws
+pub mod Lists
 pub mod LookupLaws
 pub mod OperationLaws
 pub mod StatementLaws

@@ -14,7 +14,7 @@ abbrev μ-loop : tie.MeasureT-loop
 μ-loop numbers handles count from₀ h₀ r₀ from h r = count - r
 
 field-of-requires : tie.Need-field-of-requires Inv-loop μ-loop
-field-of-requires c κs = search needs
+field-of-requires c κs = tt
 
 routine-count-requires : tie.Need-routine-count-requires Inv-loop μ-loop
 routine-count-requires c κs = search needs

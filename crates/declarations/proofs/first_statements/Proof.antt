@@ -48,7 +48,7 @@ loop-again : tie.Need-loop-again Inv-loop μ-loop
 loop-again c = (omega arith, summing-next _ _ _ _ _ (c .before .before .loop .inv .1) (few (c .before)) (c .count-at .ensures .0) (c .count-at .ensures .1))
 
 returns : tie.Need-returns Inv-loop μ-loop
-returns c = (begun-below _ _ _ _ _ (c .before .loop .inv .1 .begun) (omega (arith, c .before .before .routine-count .ensures)), λ k h l. c .before .loop .inv .1 .all-small k (omega (arith, c .before .before .routine-count .ensures)))
+returns c = begun-below _ _ _ _ _ (c .before .loop .inv .1 .begun) (omega (arith, c .before .before .routine-count .ensures))
 
 pub first-statements-spec : {M : Type 1} → statement M
 first-statements-spec =

@@ -8,18 +8,17 @@ use lib.ListN.{getD}
 use Rattle.table.specs.Header.{routines}
 use Rattle.table.specs.Routines.{sumOk}
 use Rattle.table.specs.LayoutLaws.{first-at}
-use borrow.Author.Needs.{needs}
 use Rattle.declarations.proofs.sum_ok.Statement.{statement}
 use Rattle.declarations.proofs.sum_ok.Tie as tie
 
 field-of-requires : tie.Need-field-of-requires
-field-of-requires c κs = search needs
+field-of-requires c κs = tt
 
 number-at-requires : tie.Need-number-at-requires
-number-at-requires c κs = search needs
+number-at-requires c κs = tt
 
 field-of-requires-2 : tie.Need-field-of-requires-2
-field-of-requires-2 c κs = search needs
+field-of-requires-2 c κs = tt
 
 returns : tie.Need-returns
 unfolding sumOk

@@ -1,17 +1,16 @@
 -- `naming::is_acyclic` meets its contract. Assumes nothing.
 use Rattle.table.specs.Naming.{isAcyclic, reached}
-use borrow.Author.Needs.{needs}
 use Rattle.naming.proofs.is_acyclic.Statement.{statement}
 use Rattle.naming.proofs.is_acyclic.Tie as tie
 
 set-at-requires : tie.Need-set-at-requires
-set-at-requires c κs = search needs
+set-at-requires c κs = tt
 
 walk-down-requires : tie.Need-walk-down-requires
-walk-down-requires c κs = search needs
+walk-down-requires c κs = tt
 
 has-requires : tie.Need-has-requires
-has-requires c κs = search needs
+has-requires c κs = tt
 
 returns : tie.Need-returns
 unfolding isAcyclic reached

@@ -9,23 +9,23 @@ use Rattle.naming.proofs.names_in.Statement.{statement}
 use Rattle.naming.proofs.names_in.Tie as tie
 
 abbrev Inv-loop : tie.InvT-loop
-Inv-loop numbers first handle counts count names₀ r₀ names r = (r ≤ count) × Begun (namesOf numbers) names 32 r
+Inv-loop numbers first count names₀ r₀ names r = (r ≤ count) × Begun (namesOf numbers) names 32 r
 
 abbrev μ-loop : tie.MeasureT-loop
-μ-loop numbers first handle counts count names₀ r₀ names r = count - r
+μ-loop numbers first count names₀ r₀ names r = count - r
 
 field-of-requires : tie.Need-field-of-requires Inv-loop μ-loop
-field-of-requires c κs = search needs
+field-of-requires c κs = tt
 
 loop-holds : tie.Need-loop-holds Inv-loop μ-loop
 loop-holds c = (zero-le, begun-none _ 32)
 
 names-of-requires : tie.Need-names-of-requires Inv-loop μ-loop
-names-of-requires c κs = (c .before .before .before .before .before .before .pre, omega (arith, c .before .before .field-of .ensures .0, c .loop-test .taken))
+names-of-requires c κs = (c .before .before .before .before .pre, omega (arith, c .before .before .field-of .ensures .0, c .loop-test .taken))
 
 -- fewer than 32 routines are passed
 few : (c : tie.In-loop Inv-loop μ-loop) → c .before .loop .r < 32
-few c = omega (arith, c .before .before .before .before .before .before .pre .routines-most, c .before .before .field-of .ensures .0, c .loop-test .taken)
+few c = omega (arith, c .before .before .before .before .pre .sized .routines-most, c .before .before .field-of .ensures .0, c .loop-test .taken)
 
 mul-names : tie.Need-mul-names Inv-loop μ-loop
 mul-names c = record { fits = omega (arith, few (c .before)) }

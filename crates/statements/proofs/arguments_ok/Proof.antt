@@ -4,48 +4,32 @@ use borrow.Author.Needs.{needs}
 use Rattle.statements.proofs.arguments_ok.Statement.{statement}
 use Rattle.statements.proofs.arguments_ok.Tie as tie
 
-field-of-requires : tie.Need-field-of-requires
-field-of-requires c κs = search needs
-
 argument-ok-requires : tie.Need-argument-ok-requires
 argument-ok-requires c κs = search needs
-
-field-of-requires-2 : tie.Need-field-of-requires-2
-field-of-requires-2 c κs = search needs
 
 argument-ok-requires-2 : tie.Need-argument-ok-requires-2
 argument-ok-requires-2 c κs = search needs
 
-field-of-requires-3 : tie.Need-field-of-requires-3
-field-of-requires-3 c κs = search needs
-
 argument-ok-requires-3 : tie.Need-argument-ok-requires-3
 argument-ok-requires-3 c κs = search needs
-
-field-of-requires-4 : tie.Need-field-of-requires-4
-field-of-requires-4 c κs = search needs
 
 argument-ok-requires-4 : tie.Need-argument-ok-requires-4
 argument-ok-requires-4 c κs = search needs
 
 is-unused-requires : tie.Need-is-unused-requires
-is-unused-requires c κs = search needs
+is-unused-requires c κs = tt
 
 returns : tie.Need-returns
 unfolding argumentsOk
-returns c = rw (c .before .before .before .before .before .before .before .argument-ok .ensures, c .before .before .before .before .before .before .before .before .field-of .ensures .0, c .before .before .before .before .before .argument-ok2 .ensures, c .before .before .before .before .before .before .field-of2 .ensures .0, c .before .before .before .argument-ok3 .ensures, c .before .before .before .before .field-of3 .ensures .0, c .before .argument-ok4 .ensures, c .before .before .field-of4 .ensures .0, c .is-unused .ensures)
+returns c = rw (c .before .before .before .before .argument-ok .ensures, c .before .before .before .argument-ok2 .ensures, c .before .before .argument-ok3 .ensures, c .before .argument-ok4 .ensures, c .is-unused .ensures)
 
 pub arguments-ok-spec : {M : Type 1} → statement M
 arguments-ok-spec =
     tie.close
     (tie.spec
-    field-of-requires
     argument-ok-requires
-    field-of-requires-2
     argument-ok-requires-2
-    field-of-requires-3
     argument-ok-requires-3
-    field-of-requires-4
     argument-ok-requires-4
     is-unused-requires
     returns)

@@ -6,7 +6,7 @@ use Rattle.statements.proofs.own_handle.Statement.{statement}
 use Rattle.statements.proofs.own_handle.Tie as tie
 
 field-of-requires : tie.Need-field-of-requires
-field-of-requires c κs = search needs
+field-of-requires c κs = tt
 
 returns : tie.Need-returns
 unfolding ownHandle
@@ -16,7 +16,7 @@ add-field-of : tie.Need-add-field-of
 add-field-of c = search needs
 
 field-of-requires-2 : tie.Need-field-of-requires-2
-field-of-requires-2 c κs = search needs
+field-of-requires-2 c κs = tt
 
 returns-2 : tie.Need-returns-2
 unfolding ownHandle

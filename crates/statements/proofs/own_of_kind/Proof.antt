@@ -6,7 +6,7 @@ use Rattle.statements.proofs.own_of_kind.Statement.{statement}
 use Rattle.statements.proofs.own_of_kind.Tie as tie
 
 field-of-requires : tie.Need-field-of-requires
-field-of-requires c κs = search needs
+field-of-requires c κs = tt
 
 returns : tie.Need-returns
 unfolding ownOfKind ownHandle
@@ -16,13 +16,13 @@ add-field-of : tie.Need-add-field-of
 add-field-of c = search needs
 
 field-of-requires-2 : tie.Need-field-of-requires-2
-field-of-requires-2 c κs = search needs
+field-of-requires-2 c κs = tt
 
 add-field-of-2 : tie.Need-add-field-of-2
 add-field-of-2 c = search needs
 
 field-of-requires-3 : tie.Need-field-of-requires-3
-field-of-requires-3 c κs = search needs
+field-of-requires-3 c κs = tt
 
 returns-2 : tie.Need-returns-2
 unfolding ownOfKind ownHandle

@@ -15,7 +15,7 @@ parameter-ok-requires c κs = search needs
 
 returns : tie.Need-returns
 unfolding handleOk
-returns c = cc
+returns c = rw (c .before .before .handle-fields-ok .ensures, c .before .handle-order-ok .ensures, c .parameter-ok .ensures)
 
 pub handle-ok-spec : {M : Type 1} → statement M
 handle-ok-spec =

@@ -5,19 +5,19 @@ use Rattle.declarations.proofs.handles.parameter_ok.Statement.{statemen
 use Rattle.declarations.proofs.handles.parameter_ok.Tie as tie
 
 previous-requires : tie.Need-previous-requires
-previous-requires c κs = search needs
+previous-requires c κs = tt
 
 add-field-of : tie.Need-add-field-of
 add-field-of c = search needs
 
 field-of-requires : tie.Need-field-of-requires
-field-of-requires c κs = search needs
+field-of-requires c κs = tt
 
 add-field-of-2 : tie.Need-add-field-of-2
 add-field-of-2 c = search needs
 
 field-of-requires-2 : tie.Need-field-of-requires-2
-field-of-requires-2 c κs = search needs
+field-of-requires-2 c κs = tt
 
 same-above-requires : tie.Need-same-above-requires
 same-above-requires c κs = search needs
@@ -26,14 +26,14 @@ add-field-of-3 : tie.Need-add-field-of-3
 add-field-of-3 c = search needs
 
 field-of-requires-3 : tie.Need-field-of-requires-3
-field-of-requires-3 c κs = search needs
+field-of-requires-3 c κs = tt
 
 same-above-requires-2 : tie.Need-same-above-requires-2
 same-above-requires-2 c κs = search needs
 
 returns : tie.Need-returns
 unfolding parameterOk
-returns c = cc
+returns c = rw (c .before .before .before .before .field-of .ensures .0, c .before .before .before .field-of2 .ensures .0, c .before .before .same-above .ensures, c .before .field-of3 .ensures .0, c .same-above2 .ensures, c .before .before .before .before .before .previous .ensures)
 
 pub parameter-ok-spec : {M : Type 1} → statement M
 parameter-ok-spec =

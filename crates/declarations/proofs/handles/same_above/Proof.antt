@@ -13,13 +13,13 @@ add-field-of : tie.Need-add-field-of
 add-field-of c = search needs
 
 field-of-requires : tie.Need-field-of-requires
-field-of-requires c κs = search needs
+field-of-requires c κs = tt
 
 add-field-of-2 : tie.Need-add-field-of-2
 add-field-of-2 c = search needs
 
 field-of-requires-2 : tie.Need-field-of-requires-2
-field-of-requires-2 c κs = search needs
+field-of-requires-2 c κs = tt
 
 returns-2 : tie.Need-returns-2
 unfolding sameAbove

@@ -1,19 +1,18 @@
 -- `declarations::handles::things_of` meets its contract. Assumes nothing.
 use borrow.Author.Tests.{eq-eqb, ne-eqb}
 use Rattle.table.specs.Handles.{things}
-use borrow.Author.Needs.{needs}
 use Rattle.declarations.proofs.handles.things_of.Statement.{statement}
 use Rattle.declarations.proofs.handles.things_of.Tie as tie
 
 field-of-requires : tie.Need-field-of-requires
-field-of-requires c κs = search needs
+field-of-requires c κs = tt
 
 returns : tie.Need-returns
 unfolding things
 returns c = rw (eq-eqb _ _ (c .before .if1 .taken), c .field-of .ensures .0)
 
 field-of-requires-2 : tie.Need-field-of-requires-2
-field-of-requires-2 c κs = search needs
+field-of-requires-2 c κs = tt
 
 returns-2 : tie.Need-returns-2
 unfolding things

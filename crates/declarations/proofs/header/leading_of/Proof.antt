@@ -6,14 +6,14 @@ use Rattle.declarations.proofs.header.leading_of.Statement.{statement}
 use Rattle.declarations.proofs.header.leading_of.Tie as tie
 
 field-of-requires : tie.Need-field-of-requires
-field-of-requires c κs = search needs
+field-of-requires c κs = tt
 
 returns : tie.Need-returns
 unfolding leading
 returns c = rw (le-leb _ _ (rw (c .before .field-of .ensures .0) at (c .if1 .taken)))
 
 field-of-requires-2 : tie.Need-field-of-requires-2
-field-of-requires-2 c κs = search needs
+field-of-requires-2 c κs = tt
 
 add-if2 : tie.Need-add-if2
 add-if2 c = search needs

@@ -5,7 +5,7 @@ use Rattle.declarations.proofs.header.leading_ok.Statement.{statement}
 use Rattle.declarations.proofs.header.leading_ok.Tie as tie
 
 field-of-requires : tie.Need-field-of-requires
-field-of-requires c κs = search needs
+field-of-requires c κs = tt
 
 leading-of-requires : tie.Need-leading-of-requires
 leading-of-requires c κs = search needs

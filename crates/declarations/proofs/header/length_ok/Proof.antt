@@ -5,19 +5,19 @@ use Rattle.declarations.proofs.header.length_ok.Statement.{statement}
 use Rattle.declarations.proofs.header.length_ok.Tie as tie
 
 field-of-requires : tie.Need-field-of-requires
-field-of-requires c κs = search needs
+field-of-requires c κs = tt
 
 add-result : tie.Need-add-result
 add-result c = search needs
 
 field-of-requires-2 : tie.Need-field-of-requires-2
-field-of-requires-2 c κs = search needs
+field-of-requires-2 c κs = tt
 
 add-result-2 : tie.Need-add-result-2
 add-result-2 c = search needs
 
 field-of-requires-3 : tie.Need-field-of-requires-3
-field-of-requires-3 c κs = search needs
+field-of-requires-3 c κs = tt
 
 add-result-3 : tie.Need-add-result-3
 add-result-3 c = search needs

@@ -8,7 +8,7 @@ use Rattle.declarations.proofs.routines.count_at.Statement.{statement}
 use Rattle.declarations.proofs.routines.count_at.Tie as tie
 
 field-of-requires : tie.Need-field-of-requires
-field-of-requires c κs = search needs
+field-of-requires c κs = tt
 
 add-field-of : tie.Need-add-field-of
 add-field-of c = search needs
@@ -17,7 +17,7 @@ add-field-of-2 : tie.Need-add-field-of-2
 add-field-of-2 c = search needs
 
 field-of-requires-2 : tie.Need-field-of-requires-2
-field-of-requires-2 c κs = search needs
+field-of-requires-2 c κs = tt
 
 returns : tie.Need-returns
 returns c = (c .field-of2 .ensures .0 ∙ ap (λ (n : ℕ). field (now (c .before .before .args .numbers)) (1 + n + c .before .before .args .r) 1) (c .before .field-of .ensures .0), c .field-of2 .ensures .1)
