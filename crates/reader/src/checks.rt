@@ -1,46 +1,55 @@
 // The verdict: the refusals in their order, each over the whole text before the next.
 ghost use mathlib.Core.Path.{_≡_};
-ghost use mathlib.Core.Bool.{true};
-ghost use Prim.Native.Nat.{ℕ, _≤_, _<_, _^_};
-ghost use Rattle.table.specs.Header.{headerOk, routines, statementLine};
-ghost use Rattle.table.specs.Routines.{firstOf};
-ghost use Rattle.table.specs.Layout.{firstStatements};
-ghost use Rattle.table.specs.LayoutLaws.{Laid};
-ghost use Rattle.naming.specs.GatherLaws.{Ended};
-ghost use Rattle.table.specs.Verdict.{namingVerdict, statementVerdict, declarationVerdict, numbersVerdict, textOk};
-use declarations::first_handles;
-use declarations::first_statements;
-use declarations::handles::bad_handle;
-use declarations::header::bad_leading;
+ghost use Rattle.table.specs.Header.{routines};
+ghost use Rattle.table.specs.HeaderLaws.{Sized};
+ghost use Rattle.table.specs.Lists.{StatementsBegin, HandlesBegin, ParametersCounted};
+ghost use Rattle.table.specs.Naming.{namesIn};
+ghost use Rattle.table.specs.Statements.{badStatement};
+ghost use Rattle.table.specs.Verdict.{namingVerdict, statementVerdict, declarationVerdict, numbersVerdict};
+use crate::rules::Rule;
+use crate::rules::lowest;
 use declarations::header::header_ok;
 use declarations::header::length_ok;
-use declarations::parameter_counts;
-use declarations::routines::bad_routine;
-use declarations::sum_ok;
 use lists::number_at;
-use naming::cyclic;
-use naming::names_in;
-use naming::unnamed;
-use statements::bad_end;
-use statements::bad_statement;
-use statements::previous;
 use table::Verdict;
 use table::field_of;
+use table::first_line;
 
-// Refusals 11 and 12.
-fn naming_verdict(numbers: &[i32], names: &[u64]) -> Verdict
-    requires { ⌜ Ended (now names) (routines (now numbers)) ⌝ }
+// Refusals 11 and 12, by what each routine names.
+fn naming_verdict(
+    numbers: &[i32],
+    first: &[usize],
+    handle: &[usize],
+    counts: &[usize],
+    names: &[u64],
+) -> Verdict
+    requires { ⌜ StatementsBegin (now numbers) (now first) ⌝ }
+    requires { ⌜ HandlesBegin (now numbers) (now handle) ⌝ }
+    requires { ⌜ ParametersCounted (now numbers) (now counts) ⌝ }
+    requires { ⌜ now names ≡ namesIn (now numbers) ⌝ }
     ensures { λ v. ⌜ v ≡ namingVerdict (now (numbers .entry)) (now (names .entry)) ⌝ }
 {
     let count = field_of(numbers, 0, 4);
-    let r = unnamed(names, count);
+    let named = Rule::Named {
+        all: naming::all_named(names, count),
+    };
+    let r = lowest(named, numbers, first, handle, counts, names, 1, count);
     if r < count {
         return Verdict::Refused {
             number: 11,
             line: 1 + field_of(numbers, 0, 3) + r,
         };
     }
-    let q = cyclic(names, count);
+    let q = lowest(
+        Rule::Acyclic,
+        numbers,
+        first,
+        handle,
+        counts,
+        names,
+        0,
+        count,
+    );
     if q < count {
         return Verdict::Refused {
             number: 12,
@@ -50,70 +59,112 @@ fn naming_verdict(numbers: &[i32], names: &[u64]) -> Verdict
     Verdict::Accepted
 }
 
-// The line of statement `s`.
-fn statement_line(numbers: &[i32], s: usize) -> usize
-    requires { ⌜ s < 2 ^ 40 ⌝ }
-    ensures { λ x. ⌜ x ≡ statementLine (now (numbers .entry)) s ⌝ }
+// The lowest statement that breaks refusal 9's rule, or the number of statements dealt out.
+fn bad_statement(
+    numbers: &[i32],
+    first: &[usize],
+    handle: &[usize],
+    counts: &[usize],
+    names: &[u64],
+) -> usize
+    requires { ⌜ StatementsBegin (now numbers) (now first) ⌝ }
+    requires { ⌜ HandlesBegin (now numbers) (now handle) ⌝ }
+    requires { ⌜ ParametersCounted (now numbers) (now counts) ⌝ }
+    ensures { λ x. ⌜ x ≡ badStatement (now (numbers .entry)) 0 (routines (now (numbers .entry))) ⌝ }
 {
-    1 + field_of(numbers, 0, 3) + field_of(numbers, 0, 4) + s
+    let count = field_of(numbers, 0, 4);
+    let mut r = 0;
+    while r < count {
+        let end = number_at(first, r + 1);
+        let rule = Rule::Statement { routine: r };
+        let s = lowest(
+            rule,
+            numbers,
+            first,
+            handle,
+            counts,
+            names,
+            number_at(first, r),
+            end,
+        );
+        if s < end {
+            return s;
+        }
+        r += 1;
+    }
+    number_at(first, count)
 }
 
 // Refusals 9 to 12, by the lists that the rules are tested with.
 fn statement_checks(numbers: &[i32], first: &[usize], handle: &[usize], counts: &[usize]) -> Verdict
-    requires { ⌜ Laid (now numbers) (now first) (now handle) (now counts) ⌝ }
+    requires { ⌜ StatementsBegin (now numbers) (now first) ⌝ }
+    requires { ⌜ HandlesBegin (now numbers) (now handle) ⌝ }
+    requires { ⌜ ParametersCounted (now numbers) (now counts) ⌝ }
     ensures { λ v. ⌜ v ≡ statementVerdict (now (numbers .entry)) ⌝ }
 {
-    let s = bad_statement(numbers, first, handle, counts);
+    // nothing reads the names yet
+    let none = [0u64; 1];
+    let s = bad_statement(numbers, first, handle, counts, &none[..]);
     if s < field_of(numbers, 0, 5) {
         return Verdict::Refused {
             number: 9,
-            line: statement_line(numbers, s),
+            line: first_line(numbers) + s,
         };
     }
-    let r = bad_end(numbers, first, handle, counts);
-    if r < field_of(numbers, 0, 4) {
+    let count = field_of(numbers, 0, 4);
+    let r = lowest(
+        Rule::End,
+        numbers,
+        first,
+        handle,
+        counts,
+        &none[..],
+        0,
+        count,
+    );
+    if r < count {
         return Verdict::Refused {
             number: 10,
-            line: statement_line(numbers, previous(number_at(first, r + 1))),
+            line: first_line(numbers) + statements::last_of(first, r),
         };
     }
-    let names = names_in(numbers, first, handle, counts);
-    naming_verdict(numbers, &names[..])
+    let names = naming::names_in(numbers, first);
+    naming_verdict(numbers, first, handle, counts, &names[..])
 }
 
 // Refusals 9 to 12.
 fn statement_verdict(numbers: &[i32], first: &[usize]) -> Verdict
-    requires { ⌜ headerOk (now numbers) ≡ true ⌝ }
-    requires { ⌜ now first ≡ firstStatements (now numbers) ⌝ }
-    requires { ⌜ ((k : ℕ) → k < 33 → k ≤ routines (now numbers) → firstOf (now numbers) k < 2 ^ 40) ⌝ }
+    requires { ⌜ StatementsBegin (now numbers) (now first) ⌝ }
     ensures { λ v. ⌜ v ≡ statementVerdict (now (numbers .entry)) ⌝ }
 {
-    let handle = first_handles(numbers);
-    let counts = parameter_counts(numbers, &handle[..]);
+    let handle = declarations::first_handles(numbers);
+    let counts = declarations::parameter_counts(numbers, &handle[..]);
     statement_checks(numbers, first, &handle[..], &counts[..])
 }
 
 // Refusals 6 to 12.
 fn declaration_verdict(numbers: &[i32]) -> Verdict
-    requires { ⌜ headerOk (now numbers) ≡ true ⌝ }
+    requires { ⌜ Sized (now numbers) ⌝ }
     ensures { λ v. ⌜ v ≡ declarationVerdict (now (numbers .entry)) ⌝ }
 {
-    let h = bad_handle(numbers);
-    if h < field_of(numbers, 0, 3) {
+    let handles = field_of(numbers, 0, 3);
+    let h = declarations::lowest(declarations::Rule::Handle, numbers, 0, handles);
+    if h < handles {
         return Verdict::Refused {
             number: 6,
             line: 1 + h,
         };
     }
-    let r = bad_routine(numbers);
-    if r < field_of(numbers, 0, 4) {
+    let routines = field_of(numbers, 0, 4);
+    let r = declarations::lowest(declarations::Rule::Routine, numbers, 0, routines);
+    if r < routines {
         return Verdict::Refused {
             number: 7,
-            line: 1 + field_of(numbers, 0, 3) + r,
+            line: 1 + handles + r,
         };
     }
-    let first = first_statements(numbers);
-    if !sum_ok(numbers, &first[..]) {
+    let first = declarations::first_statements(numbers);
+    if !declarations::sum_ok(numbers, &first[..]) {
         return Verdict::Refused { number: 8, line: 0 };
     }
     statement_verdict(numbers, &first[..])
@@ -129,16 +180,9 @@ pub fn numbers_verdict(numbers: &[i32], lines: usize) -> Verdict
     if !length_ok(numbers, lines) {
         return Verdict::Refused { number: 4, line: 0 };
     }
-    let line = bad_leading(numbers, lines);
+    let line = declarations::lowest(declarations::Rule::Leading, numbers, 1, lines);
     if line < lines {
         return Verdict::Refused { number: 5, line };
     }
     declaration_verdict(numbers)
-}
-
-// Refusal 1's rule, of a text's length.
-pub fn text_ok(n: usize) -> bool
-    ensures { λ b. ⌜ b ≡ textOk n ⌝ }
-{
-    (0 < n) & (n % 49 == 0) & (n <= 32977)
 }

@@ -1,5 +1,6 @@
 // The reader: a table text, or the first refusal of document 01.
 mod checks;
+mod rules;
 
 ghost use mathlib.Core.Path.{_≡_};
 ghost use Prim.Native.Nat.{_*_};
@@ -24,7 +25,7 @@ fn refused(number: u32, line: usize) -> Reading
 pub fn has_length(n: usize) -> bool
     ensures { λ b. ⌜ b ≡ textOk n ⌝ }
 {
-    checks::text_ok(n)
+    (0 < n) & (n % 49 == 0) & (n <= 32977)
 }
 
 // The verdict on a text; where it is accepted, its numbers stand in `numbers`.
@@ -33,7 +34,7 @@ pub fn read_into(text: &[u8], numbers: &mut [i32]) -> Verdict
     ensures verdict { λ v. ⌜ v ≡ verdict (now (text .entry)) ⌝ }
     ensures numbers { λ v. ⌜ (v ≡ Verdict.Accepted → now (numbers .exit) ≡ numbersOf (now (text .entry))) ⌝ }
 {
-    if !checks::text_ok(text.len()) {
+    if !has_length(text.len()) {
         return Verdict::Refused { number: 1, line: 0 };
     }
     match lines::read_numbers(text, numbers) {

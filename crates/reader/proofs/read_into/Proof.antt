@@ -13,14 +13,14 @@ use borrow.Author.Needs.{needs}
 use Rattle.reader.proofs.read_into.Statement.{statement}
 use Rattle.reader.proofs.read_into.Tie as tie
 
-text-ok-requires : tie.Need-text-ok-requires
-text-ok-requires c κs = search needs
+has-length-requires : tie.Need-has-length-requires
+has-length-requires c κs = search needs
 
 good : (c : tie.Else1) → textOk (length (now (c .before .before .before .args .text))) ≡ true
-good c = sym (c .before .text-ok .ensures) ∙ not-false (c .before .text-ok .result) (c .if1 .left)
+good c = sym (c .before .has-length .ensures) ∙ not-false (c .before .has-length .result) (c .if1 .left)
 
 returns : tie.Need-returns
-returns c = into-refused _ _ 1 0 (bad-length _ (sym (c .before .text-ok .ensures) ∙ not-true (c .before .text-ok .result) (c .if1 .taken)))
+returns c = into-refused _ _ 1 0 (bad-length _ (sym (c .before .has-length .ensures) ∙ not-true (c .before .has-length .result) (c .if1 .taken)))
 
 read-numbers-requires : tie.Need-read-numbers-requires
 read-numbers-requires c κs = search needs
@@ -52,7 +52,7 @@ pub read-into-spec : {M : Type 1} → statement M
 read-into-spec =
     tie.close
     (tie.spec
-    text-ok-requires
+    has-length-requires
     returns
     read-numbers-requires
     enum-known-i

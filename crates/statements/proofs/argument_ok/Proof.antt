@@ -24,12 +24,12 @@ number-at-requires-2 : tie.Need-number-at-requires-2
 number-at-requires-2 c κs = tt
 
 add-field-of-2 : tie.Need-add-field-of-2
-add-field-of-2 c = 
+add-field-of-2 c =
     let start = c .before .before .before .before .before .before in
     record { fits = omega (arith, c .number-at2 .ensures, handles-early (start .pre .0) (start .args .q) (omega (arith, start .pre .1 .1 .0)), start .pre .1 .1 .1) }
 
 add-field-of-3 : tie.Need-add-field-of-3
-add-field-of-3 c = 
+add-field-of-3 c =
     let start = c .before .before .before .before .before .before in
     record { fits = omega (arith, c .number-at2 .ensures, handles-early (start .pre .0) (start .args .q) (omega (arith, start .pre .1 .1 .0)), start .pre .1 .1 .1) }
 
@@ -41,7 +41,7 @@ own-of-kind-requires c κs = tt
 
 returns : tie.Need-returns
 unfolding argumentOk
-returns c = 
+returns c =
     let start = c .before .before .before .before .before .before .before .before in
     let f = now (start .args .numbers) in
     let n = c .before .before .before .before .number-at .ensures ∙ parameters-counted (start .pre .1 .0) (start .args .q) (start .pre .1 .1 .0) in
@@ -50,7 +50,7 @@ returns c =
 
 returns-2 : tie.Need-returns-2
 unfolding argumentOk
-returns-2 c = 
+returns-2 c =
     let start = c .before .before .before .before .before in
     let f = now (start .args .numbers) in
     let n = c .before .number-at .ensures ∙ parameters-counted (start .pre .1 .0) (start .args .q) (start .pre .1 .1 .0) in

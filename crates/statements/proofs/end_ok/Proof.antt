@@ -18,7 +18,7 @@ last-of-requires : tie.Need-last-of-requires
 last-of-requires c κs = search needs
 
 add-field-of : tie.Need-add-field-of
-add-field-of c = 
+add-field-of c =
     let start = c .before .before .before in
     record { fits = omega (arith, c .last-of .ensures, begin-early (start .pre .0) (start .args .r + 1), c .before .first-line .ensures .1) }
 
@@ -27,7 +27,7 @@ field-of-requires c κs = tt
 
 returns : tie.Need-returns
 unfolding endOk
-returns c = 
+returns c =
     let start = c .before .before .before .before in
     let f = now (start .args .numbers) in
     let r = start .args .r in

@@ -23,7 +23,7 @@ operation-ok-requires c κs = search needs
 
 returns : tie.Need-returns
 unfolding statementOk
-returns c = 
+returns c =
     let start = c .before .before .before .before .before .before in
     let s = start .args .s in
     let line = ap (λ (n : ℕ). n + s) (c .before .before .first-line .ensures .0) ∙ statement-line (now (start .args .numbers)) s in

@@ -1,6 +1,4 @@
 -- `reader::checks::statement_verdict` meets its contract. Assumes nothing.
-use Rattle.table.specs.HeaderLaws.{header-sized}
-use native.Mathlib.Omega.{arith}
 use borrow.Author.Needs.{needs}
 use Rattle.reader.proofs.checks.statement_verdict.Statement.{statement}
 use Rattle.reader.proofs.checks.statement_verdict.Tie as tie
@@ -12,7 +10,7 @@ slice-aggregate-parameter-counts : tie.Need-slice-aggregate-parameter-counts
 slice-aggregate-parameter-counts c = search needs
 
 parameter-counts-requires : tie.Need-parameter-counts-requires
-parameter-counts-requires c κs = search needs
+parameter-counts-requires c κs = (c .before .first-handles .ensures, c .before .before .before .pre .sized .handles-most)
 
 slice-aggregate-statement-checks : tie.Need-slice-aggregate-statement-checks
 slice-aggregate-statement-checks c = search needs
@@ -21,17 +19,15 @@ slice-aggregate-statement-checks-2 : tie.Need-slice-aggregate-statement-checks-2
 slice-aggregate-statement-checks-2 c = search needs
 
 statement-checks-requires : tie.Need-statement-checks-requires
-statement-checks-requires c κs = let start = c .before .before .before .before .before .before in
-    let sized = header-sized _ (start .pre .0) in
-    record {
-      handles-most = sized .handles-most;
-      routines-most = sized .routines-most;
-      statements-most = sized .statements-most;
-      first-small = λ k h. start .pre .1 .1 k (omega (arith, sized .routines-most)) h;
-      first-is = start .pre .1 .0;
-      handle-is = c .before .before .before .before .first-handles .ensures;
-      counts-is = c .before .before .parameter-counts .ensures;
-    }
+statement-checks-requires c κs =
+    let begins = c .before .before .before .before .before .before .pre in
+    (
+      begins,
+      (
+        record { sized = begins .sized; is = c .before .before .before .before .first-handles .ensures },
+        record { sized = begins .sized; is = c .before .before .parameter-counts .ensures },
+      ),
+    )
 
 returns : tie.Need-returns
 returns c = search needs
