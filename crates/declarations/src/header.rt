@@ -1,5 +1,7 @@
 // The header's rule, and the first field of each line.
 ghost use mathlib.Core.Path.{_≡_};
+ghost use Prim.Native.Nat.{_-_};
+ghost use Rattle.table.specs.Until.{until};
 ghost use Rattle.table.specs.Header.{within, headerOk, lengthOk, leading, leadingOk};
 use table::field_of;
 use table::is_unused;
@@ -46,8 +48,22 @@ fn leading_of(numbers: &[i32], line: usize) -> usize
 }
 
 // Refusal 5's rule at a later line.
-pub fn leading_ok(numbers: &[i32], line: usize) -> bool
+fn leading_ok(numbers: &[i32], line: usize) -> bool
     ensures { λ r. ⌜ r ≡ leadingOk (now (numbers .entry)) line ⌝ }
 {
     field_of(numbers, line, 0) == leading_of(numbers, line)
+}
+
+// The lowest later line that breaks refusal 5's rule, or the number of lines.
+pub fn bad_leading(numbers: &[i32], lines: usize) -> usize
+    ensures { λ r. ⌜ r ≡ until (leadingOk (now (numbers .entry))) 1 (lines - 1) ⌝ }
+{
+    let mut line = 1;
+    while line < lines {
+        if !leading_ok(numbers, line) {
+            return line;
+        }
+        line += 1;
+    }
+    line
 }

@@ -4,25 +4,24 @@ pub mod header;
 pub mod routines;
 
 ghost use mathlib.Core.Path.{_≡_};
-ghost use Prim.Native.Nat.{_<_, _^_, _≤_, _-_, min};
+ghost use Prim.Native.Nat.{_<_, _^_, _≤_, _+_, _-_, min};
+ghost use lib.Dec.{eqb};
 ghost use Rattle.table.specs.Until.{until};
-ghost use Rattle.table.specs.Header.{handles, routines};
+ghost use Rattle.table.specs.Fields.{field};
+ghost use Rattle.table.specs.Header.{routines, handleLine};
 ghost use Rattle.table.specs.Routines.{sumOk};
 ghost use Rattle.table.specs.Layout.{firstStatements, firstHandles, parameterCounts};
 ghost use Rattle.declarations.specs.Rules.{holdsAt};
 use handles::handle_ok;
-use header::leading_ok;
 use lists::number_at;
 use routines::count_at;
 use routines::routine_ok;
 use table::field_of;
 
-// A rule that is tested at one place after another: of a later line (5), a handle (6), a routine (7); or that a field of a handle's line has a value.
+// A rule that is tested at one place after another: at a handle (6) or at a routine (7).
 pub enum Rule {
-    Leading,
     Handle,
     Routine,
-    Field { j: usize, value: usize },
 }
 
 // Whether `rule` holds at place `i`.
@@ -31,19 +30,17 @@ fn holds(rule: Rule, numbers: &[i32], i: usize) -> bool
     ensures { λ b. ⌜ b ≡ holdsAt (now (numbers .entry)) rule i ⌝ }
 {
     match rule {
-        Rule::Leading => leading_ok(numbers, i),
         Rule::Handle => handle_ok(numbers, i),
         Rule::Routine => routine_ok(numbers, i),
-        Rule::Field { j, value } => field_of(numbers, 1 + i, j) == value,
     }
 }
 
-// The lowest place from `from` on, below `end`, at which `rule` fails; `end` if there is none.
-pub fn lowest(rule: Rule, numbers: &[i32], from: usize, end: usize) -> usize
+// The lowest place from 0 on, below `end`, at which `rule` fails; `end` if there is none.
+pub fn lowest(rule: Rule, numbers: &[i32], end: usize) -> usize
     requires { ⌜ end < 2 ^ 32 ⌝ }
-    ensures { λ x. ⌜ x ≡ until (holdsAt (now (numbers .entry)) rule) from (end - from) ⌝ }
+    ensures { λ x. ⌜ x ≡ until (holdsAt (now (numbers .entry)) rule) 0 end ⌝ }
 {
-    let mut i = from;
+    let mut i = 0;
     while i < end {
         if !holds(rule, numbers, i) {
             return i;
@@ -51,6 +48,20 @@ pub fn lowest(rule: Rule, numbers: &[i32], from: usize, end: usize) -> usize
         i += 1;
     }
     i
+}
+
+// The first handle from `from` on, below `end`, whose field `j` is not `value`; `end` if there is none.
+fn skip(numbers: &[i32], j: usize, value: usize, from: usize, end: usize) -> usize
+    ensures { λ x. ⌜ x ≡ until (λ h. eqb (field (now (numbers .entry)) (handleLine h) j) value) from (end - from) ⌝ }
+{
+    let mut h = from;
+    while h < end {
+        if field_of(numbers, 1 + h, j) != value {
+            return h;
+        }
+        h += 1;
+    }
+    h
 }
 
 // The number of routines, 32 at most.
@@ -99,7 +110,7 @@ pub fn first_handles(numbers: &[i32]) -> [usize; 33]
     let mut h = 0;
     let mut r = 0;
     while r < count {
-        h = lowest(Rule::Field { j: 1, value: r }, numbers, h, handles);
+        h = skip(numbers, 1, r, h, handles);
         from[r + 1] = h;
         r += 1;
     }
@@ -109,7 +120,6 @@ pub fn first_handles(numbers: &[i32]) -> [usize; 33]
 // How many parameters each routine has, then zeros.
 pub fn parameter_counts(numbers: &[i32], handle: &[usize]) -> [usize; 32]
     requires { ⌜ now handle ≡ firstHandles (now numbers) ⌝ }
-    requires { ⌜ handles (now numbers) ≤ 128 ⌝ }
     ensures { λ a. ⌜ a ≡ parameterCounts (now (numbers .entry)) ⌝ }
 {
     let count = routine_count(numbers);
@@ -117,8 +127,8 @@ pub fn parameter_counts(numbers: &[i32], handle: &[usize]) -> [usize; 32]
     let mut r = 0;
     while r < count {
         let from = number_at(handle, r);
-        let end = number_at(handle, r + 1);
-        counts[r] = lowest(Rule::Field { j: 3, value: 0 }, numbers, from, end) - from;
+        let end = skip(numbers, 3, 0, from, number_at(handle, r + 1));
+        counts[r] = end - from;
         r += 1;
     }
     counts

@@ -1,4 +1,4 @@
--- What a rule says at a place, of the rules that go by the lists, and where the places are. Assumes nothing.
+-- What a rule of whole routines says, and where it may be tested. Assumes nothing.
 use mathlib.Core.Path.{_≡_, ap, subst}
 use Prim.Native.Nat.{ℕ, _+_, _≤_, _<_}
 use native.Mathlib.Omega.{arith}
@@ -9,34 +9,28 @@ use lib.IntN.{ℤ}
 use Rattle.sets.specs.Set.{has}
 use Rattle.table.specs.Until.{until}
 use Rattle.table.specs.Header.{routines}
-use Rattle.table.specs.Statements.{statementOk, endOk}
+use Rattle.table.specs.Statements.{endOk}
 use Rattle.table.specs.Naming.{gather, isNamed, isAcyclic}
 use Rattle.reader.specs.declared.rules.Rule.{Rule}
-use Rattle.reader.specs.declared.rules.Rule.the-variants.{Statement, End, Named, Acyclic}
+use Rattle.reader.specs.declared.rules.Rule.the-variants.{End, Named, Acyclic}
 
 abbrev pub holdsAt : List ℤ → List ℕ → Rule → ℕ → Bool
-holdsAt f names (Statement r) = statementOk f r
 holdsAt f names End = endOk f
 holdsAt f names (Named all) = has all
 holdsAt f names Acyclic = isAcyclic names
 
--- the places below n are ones at which the rule may be tested
+-- the routines below n are ones at which the rule may be tested
 abbrev pub InTable : List ℤ → Rule → ℕ → Type 0
-InTable f (Statement r) n = (r < routines f) × (n ≤ 512)
 InTable f End n = n ≤ routines f
 InTable f (Named all) n = Unit {0}
 InTable f Acyclic n = Unit {0}
 
 pub in-table : (f : List ℤ) (rule : Rule) (i n : ℕ) → i < n → InTable f rule n → InTable f rule (i + 1)
-in-table f (Statement r) i n h t = (t .0, omega arith)
 in-table f End i n h t = omega arith
 in-table f (Named all) i n h t = tt
 in-table f Acyclic i n h t = tt
 
 -- the same, by the rule
-pub statement-in-table : (f : List ℤ) (rule : Rule) (r n : ℕ) → rule ≡ Statement r → InTable f rule n → (r < routines f) × (n ≤ 512)
-statement-in-table f rule r n e t = subst (λ (x : Rule). InTable f x n) e t
-
 pub end-in-table : (f : List ℤ) (rule : Rule) (n : ℕ) → rule ≡ End → InTable f rule n → n ≤ routines f
 end-in-table f rule n e t = subst (λ (x : Rule). InTable f x n) e t
 

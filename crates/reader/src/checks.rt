@@ -8,48 +8,31 @@ ghost use Rattle.table.specs.Statements.{badStatement};
 ghost use Rattle.table.specs.Verdict.{namingVerdict, statementVerdict, declarationVerdict, numbersVerdict};
 use crate::rules::Rule;
 use crate::rules::lowest;
+use declarations::header::bad_leading;
 use declarations::header::header_ok;
 use declarations::header::length_ok;
 use lists::number_at;
+use statements::bad_among;
 use table::Verdict;
 use table::field_of;
 use table::first_line;
 
 // Refusals 11 and 12, by what each routine names.
-fn naming_verdict(
-    numbers: &[i32],
-    first: &[usize],
-    handle: &[usize],
-    counts: &[usize],
-    names: &[u64],
-) -> Verdict
+fn naming_verdict(numbers: &[i32], first: &[usize], names: &[u64]) -> Verdict
     requires { ⌜ StatementsBegin (now numbers) (now first) ⌝ }
-    requires { ⌜ HandlesBegin (now numbers) (now handle) ⌝ }
-    requires { ⌜ ParametersCounted (now numbers) (now counts) ⌝ }
     requires { ⌜ now names ≡ namesIn (now numbers) ⌝ }
     ensures { λ v. ⌜ v ≡ namingVerdict (now (numbers .entry)) (now (names .entry)) ⌝ }
 {
     let count = field_of(numbers, 0, 4);
-    let named = Rule::Named {
-        all: naming::all_named(names, count),
-    };
-    let r = lowest(named, numbers, first, handle, counts, names, 1, count);
+    let all = naming::all_named(names, count);
+    let r = lowest(Rule::Named { all }, numbers, first, names, 1, count);
     if r < count {
         return Verdict::Refused {
             number: 11,
             line: 1 + field_of(numbers, 0, 3) + r,
         };
     }
-    let q = lowest(
-        Rule::Acyclic,
-        numbers,
-        first,
-        handle,
-        counts,
-        names,
-        0,
-        count,
-    );
+    let q = lowest(Rule::Acyclic, numbers, first, names, 0, count);
     if q < count {
         return Verdict::Refused {
             number: 12,
@@ -60,13 +43,7 @@ fn naming_verdict(
 }
 
 // The lowest statement that breaks refusal 9's rule, or the number of statements dealt out.
-fn bad_statement(
-    numbers: &[i32],
-    first: &[usize],
-    handle: &[usize],
-    counts: &[usize],
-    names: &[u64],
-) -> usize
+fn bad_statement(numbers: &[i32], first: &[usize], handle: &[usize], counts: &[usize]) -> usize
     requires { ⌜ StatementsBegin (now numbers) (now first) ⌝ }
     requires { ⌜ HandlesBegin (now numbers) (now handle) ⌝ }
     requires { ⌜ ParametersCounted (now numbers) (now counts) ⌝ }
@@ -76,17 +53,7 @@ fn bad_statement(
     let mut r = 0;
     while r < count {
         let end = number_at(first, r + 1);
-        let rule = Rule::Statement { routine: r };
-        let s = lowest(
-            rule,
-            numbers,
-            first,
-            handle,
-            counts,
-            names,
-            number_at(first, r),
-            end,
-        );
+        let s = bad_among(numbers, first, handle, counts, r, number_at(first, r), end);
         if s < end {
             return s;
         }
@@ -102,9 +69,7 @@ fn statement_checks(numbers: &[i32], first: &[usize], handle: &[usize], counts: 
     requires { ⌜ ParametersCounted (now numbers) (now counts) ⌝ }
     ensures { λ v. ⌜ v ≡ statementVerdict (now (numbers .entry)) ⌝ }
 {
-    // nothing reads the names yet
-    let none = [0u64; 1];
-    let s = bad_statement(numbers, first, handle, counts, &none[..]);
+    let s = bad_statement(numbers, first, handle, counts);
     if s < field_of(numbers, 0, 5) {
         return Verdict::Refused {
             number: 9,
@@ -112,16 +77,9 @@ fn statement_checks(numbers: &[i32], first: &[usize], handle: &[usize], counts: 
         };
     }
     let count = field_of(numbers, 0, 4);
-    let r = lowest(
-        Rule::End,
-        numbers,
-        first,
-        handle,
-        counts,
-        &none[..],
-        0,
-        count,
-    );
+    // no names are read here
+    let none = [0u64; 1];
+    let r = lowest(Rule::End, numbers, first, &none[..], 0, count);
     if r < count {
         return Verdict::Refused {
             number: 10,
@@ -129,7 +87,7 @@ fn statement_checks(numbers: &[i32], first: &[usize], handle: &[usize], counts: 
         };
     }
     let names = naming::names_in(numbers, first);
-    naming_verdict(numbers, first, handle, counts, &names[..])
+    naming_verdict(numbers, first, &names[..])
 }
 
 // Refusals 9 to 12.
@@ -148,7 +106,7 @@ fn declaration_verdict(numbers: &[i32]) -> Verdict
     ensures { λ v. ⌜ v ≡ declarationVerdict (now (numbers .entry)) ⌝ }
 {
     let handles = field_of(numbers, 0, 3);
-    let h = declarations::lowest(declarations::Rule::Handle, numbers, 0, handles);
+    let h = declarations::lowest(declarations::Rule::Handle, numbers, handles);
     if h < handles {
         return Verdict::Refused {
             number: 6,
@@ -156,7 +114,7 @@ fn declaration_verdict(numbers: &[i32]) -> Verdict
         };
     }
     let routines = field_of(numbers, 0, 4);
-    let r = declarations::lowest(declarations::Rule::Routine, numbers, 0, routines);
+    let r = declarations::lowest(declarations::Rule::Routine, numbers, routines);
     if r < routines {
         return Verdict::Refused {
             number: 7,
@@ -180,7 +138,7 @@ pub fn numbers_verdict(numbers: &[i32], lines: usize) -> Verdict
     if !length_ok(numbers, lines) {
         return Verdict::Refused { number: 4, line: 0 };
     }
-    let line = declarations::lowest(declarations::Rule::Leading, numbers, 1, lines);
+    let line = bad_leading(numbers, lines);
     if line < lines {
         return Verdict::Refused { number: 5, line };
     }

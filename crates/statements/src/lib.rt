@@ -4,6 +4,7 @@ ghost use mathlib.Core.Bool.{_&&_};
 ghost use Prim.Native.Nat.{_<_, _^_, _+_, _-_};
 ghost use lib.Dec.{leb, ltb};
 ghost use lib.ListN.{getD};
+ghost use Rattle.table.specs.Until.{until};
 ghost use Rattle.table.specs.Fields.{field};
 ghost use Rattle.table.specs.Header.{routines};
 ghost use Rattle.table.specs.Lists.{StatementsBegin, HandlesBegin, ParametersCounted};
@@ -153,7 +154,7 @@ fn operation_ok(
 }
 
 // Refusal 9's rule at statement `s` of routine `r`.
-pub fn statement_ok(
+fn statement_ok(
     numbers: &[i32],
     first: &[usize],
     handle: &[usize],
@@ -178,6 +179,33 @@ pub fn statement_ok(
         line,
         field_of(numbers, line, 1),
     )
+}
+
+// The lowest statement of routine `r`, from `from` on and below `end`, that breaks refusal 9's rule; `end` if there is none.
+pub fn bad_among(
+    numbers: &[i32],
+    first: &[usize],
+    handle: &[usize],
+    counts: &[usize],
+    r: usize,
+    from: usize,
+    end: usize,
+) -> usize
+    requires { ⌜ StatementsBegin (now numbers) (now first) ⌝ }
+    requires { ⌜ HandlesBegin (now numbers) (now handle) ⌝ }
+    requires { ⌜ ParametersCounted (now numbers) (now counts) ⌝ }
+    requires { ⌜ r < routines (now numbers) ⌝ }
+    requires { ⌜ end < 2 ^ 32 ⌝ }
+    ensures { λ x. ⌜ x ≡ until (statementOk (now (numbers .entry)) r) from (end - from) ⌝ }
+{
+    let mut s = from;
+    while s < end {
+        if !statement_ok(numbers, first, handle, counts, r, s) {
+            return s;
+        }
+        s += 1;
+    }
+    s
 }
 
 // The last statement of routine `r`, by the list of the first ones; 0 if there is none.

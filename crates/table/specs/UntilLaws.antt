@@ -72,6 +72,9 @@ until-range good from (suc n) = rw until-step (go (good from) (until-range good 
     go true (a, b) = (omega arith, omega arith)
     go false (a, b) = (le-refl from, omega arith)
 
--- a search that begins at 0
-pub from-zero : (good : ℕ → Bool) (end : ℕ) → until good 0 (end - 0) ≡ until good 0 end
-from-zero good end = ap (until good 0) (sub-zero end)
+-- the same for a loop that begins at 0
+pub stop-from-zero : (good : ℕ → Bool) (end i : ℕ) → Looking good end 0 i → i < end → good i ≡ false → i ≡ until good 0 end
+stop-from-zero good end i l h e = looking-stop good end 0 i l h e ∙ ap (until good 0) (sub-zero end)
+
+pub done-from-zero : (good : ℕ → Bool) (end i : ℕ) → Looking good end 0 i → end ≤ i → i ≡ until good 0 end
+done-from-zero good end i l h = looking-done good end 0 i l h ∙ ap (until good 0) (sub-zero end)

@@ -22,8 +22,8 @@ routine-count-requires c κs = search needs
 loop-holds : tie.Need-loop-holds Inv-loop μ-loop
 loop-holds c = (zero-le, skipping-start _)
 
-lowest-requires : tie.Need-lowest-requires Inv-loop μ-loop
-lowest-requires c κs = omega (arith, c .before .before .before .field-of .ensures .1)
+skip-requires : tie.Need-skip-requires Inv-loop μ-loop
+skip-requires c κs = search needs
 
 add-from : tie.Need-add-from Inv-loop μ-loop
 add-from c = search needs
@@ -45,7 +45,7 @@ loop-less : tie.Need-loop-less Inv-loop μ-loop
 loop-less c = search needs
 
 loop-again : tie.Need-loop-again Inv-loop μ-loop
-loop-again c = (omega arith, skipping-next _ _ _ _ _ _ (c .before .before .loop .inv .1) (few (c .before)) (c .before .before .before .before .field-of .ensures .0) (c .lowest .ensures))
+loop-again c = (omega arith, skipping-next _ _ _ _ _ _ (c .before .before .loop .inv .1) (few (c .before)) (c .before .before .before .before .field-of .ensures .0) (c .skip .ensures))
 
 returns : tie.Need-returns Inv-loop μ-loop
 returns c = begun-below _ _ _ _ _ (c .before .loop .inv .1 .begun) (omega (arith, c .before .before .routine-count .ensures))
@@ -59,7 +59,7 @@ first-handles-spec =
     field-of-requires
     routine-count-requires
     loop-holds
-    lowest-requires
+    skip-requires
     add-from
     mul-from
     array-write-from

@@ -2,7 +2,7 @@
 use borrow.Author.Needs.{needs}
 use native.Mathlib.Omega.{arith}
 use mathlib.Core.Path.{_≡_, ap, _∙_}
-use Prim.Native.Nat.{ℕ, _+_, _-_, _<_, _≤_}
+use Prim.Native.Nat.{ℕ, _+_, _-_, _<_}
 use mathlib.Core.List.{List}
 use lib.IntN.{ℤ}
 use denote.Ref.{now}
@@ -16,27 +16,27 @@ use Rattle.reader.proofs.checks.bad_statement.Statement.{statement}
 use Rattle.reader.proofs.checks.bad_statement.Tie as tie
 
 abbrev Inv-loop : tie.InvT-loop
-Inv-loop numbers first handle counts names count r₀ r = Searching numbers count r
+Inv-loop numbers first handle counts count r₀ r = Searching numbers count r
 
 abbrev μ-loop : tie.MeasureT-loop
-μ-loop numbers first handle counts names count r₀ r = count - r
+μ-loop numbers first handle counts count r₀ r = count - r
 
--- what a turn has found: the lowest bad statement of routine r, and r's end
+-- what a turn has found: the bad-among bad statement of routine r, and r's end
 record Turn (f : List ℤ) (r e s : ℕ) : Type 0 where
   end : e ≡ firstOf f (r + 1)
   found : s ≡ badIn f r
 
-at : (c : tie.After-lowest Inv-loop μ-loop)
-    → Turn (now (c .before .before .before .before .before .before .before .before .before .before .args .numbers)) (c .before .before .before .before .loop .r) (c .before .before .number-at .result) (c .lowest .result)
+at : (c : tie.After-bad-among Inv-loop μ-loop)
+    → Turn (now (c .before .before .before .before .before .before .before .before .before .args .numbers)) (c .before .before .before .before .loop .r) (c .before .before .number-at .result) (c .bad-among .result)
 at c =
-    let start = c .before .before .before .before .before .before .before .before .before .before in
+    let start = c .before .before .before .before .before .before .before .before .before in
     let f = now (start .args .numbers) in
     let r = c .before .before .before .before .loop .r in
     let inside : r < routines f = omega (arith, c .before .before .before .before .before .field-of .ensures .0, c .before .before .before .loop-test .taken) in
     let e = c .before .before .number-at .ensures ∙ statements-begin (start .pre .0) (r + 1) (omega arith) in
     record {
       end = e;
-      found = searched f r _ _ _ (c .lowest .ensures) (c .before .number-at2 .ensures ∙ statements-begin (start .pre .0) r (omega arith)) e;
+      found = searched f r _ _ _ (c .bad-among .ensures) (c .before .number-at2 .ensures ∙ statements-begin (start .pre .0) r (omega arith)) e;
     }
 
 field-of-requires : tie.Need-field-of-requires Inv-loop μ-loop
@@ -54,14 +54,14 @@ number-at-requires c κs = tt
 number-at-requires-2 : tie.Need-number-at-requires-2 Inv-loop μ-loop
 number-at-requires-2 c κs = tt
 
-lowest-requires : tie.Need-lowest-requires Inv-loop μ-loop
-lowest-requires c κs =
-    let start = c .before .before .before .before .before .before .before .before .before in
+bad-among-requires : tie.Need-bad-among-requires Inv-loop μ-loop
+bad-among-requires c κs =
+    let start = c .before .before .before .before .before .before .before .before in
     let f = now (start .args .numbers) in
     let r = c .before .before .before .loop .r in
     let inside : r < routines f = omega (arith, c .before .before .before .before .field-of .ensures .0, c .before .before .loop-test .taken) in
-    let early : c .before .number-at .result ≤ 512 = omega (arith, c .before .number-at .ensures, begin-early (start .pre .0) (r + 1)) in
-    (start .pre .0, (start .pre .1 .0, (start .pre .1 .1, (inside, early))))
+    let early = begin-early (start .pre .0) (r + 1) in
+    (start .pre .0, (start .pre .1 .0, (start .pre .1 .1, (inside, omega (arith, c .before .number-at .ensures)))))
 
 returns : tie.Need-returns Inv-loop μ-loop
 returns c = let a = at (c .before) in
@@ -82,7 +82,7 @@ number-at-requires-3 : tie.Need-number-at-requires-3 Inv-loop μ-loop
 number-at-requires-3 c κs = tt
 
 returns-2 : tie.Need-returns-2 Inv-loop μ-loop
-returns-2 c = let start = c .before .before .before .before .before .before .before .before in
+returns-2 c = let start = c .before .before .before .before .before .before .before in
     let f = now (start .args .numbers) in
     let count = c .before .before .before .field-of .result in
     c .number-at3 .ensures
@@ -100,7 +100,7 @@ bad-statement-spec =
     add-number-at
     number-at-requires
     number-at-requires-2
-    lowest-requires
+    bad-among-requires
     returns
     add-r
     loop-less

@@ -3,7 +3,6 @@ use mathlib.Core.Path.{_≡_, sym, ap, _∙_}
 use denote.Ref.{now}
 use borrow.Author.Tests.{lt-ltb, le-ltb, not-true, not-false, eqb-true}
 use Rattle.table.specs.Until.{until}
-use Rattle.table.specs.UntilLaws.{from-zero}
 use Rattle.table.specs.Header.{handles, routines}
 use Rattle.table.specs.Handles.{handleOk}
 use Rattle.table.specs.Routines.{routineOk, sumOk}
@@ -23,10 +22,10 @@ add-t9 c = search needs
 
 -- the handle and the routine found
 handle : (c : tie.After-lowest) → c .lowest .result ≡ until (handleOk (now (c .before .before .args .numbers))) 0 (handles (now (c .before .before .args .numbers)))
-handle c = c .lowest .ensures ∙ from-zero _ _ ∙ ap (until _ 0) (c .before .field-of .ensures .0)
+handle c = c .lowest .ensures ∙ ap (until _ 0) (c .before .field-of .ensures .0)
 
 routine : (c : tie.After-lowest2) → c .lowest2 .result ≡ until (routineOk (now (c .before .before .before .before .before .args .numbers))) 0 (routines (now (c .before .before .before .before .before .args .numbers)))
-routine c = c .lowest2 .ensures ∙ from-zero _ _ ∙ ap (until _ 0) (c .before .field-of2 .ensures .0)
+routine c = c .lowest2 .ensures ∙ ap (until _ 0) (c .before .field-of2 .ensures .0)
 
 returns : tie.Need-returns
 unfolding declarationVerdict

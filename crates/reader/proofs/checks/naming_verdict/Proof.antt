@@ -1,10 +1,10 @@
 -- `reader::checks::naming_verdict` meets its contract. Assumes nothing.
-use mathlib.Core.Path.{_≡_, _∙_}
+use mathlib.Core.Path.{_≡_, ap, _∙_}
 use Prim.Native.Nat.{_-_}
 use denote.Ref.{now}
 use borrow.Author.Tests.{lt-ltb, le-ltb}
 use Rattle.table.specs.Until.{until}
-use Rattle.table.specs.UntilLaws.{from-zero}
+use native.Mathlib.Nat.{sub-zero}
 use Rattle.table.specs.Naming.{isNamed, isAcyclic}
 use Rattle.table.specs.Verdict.{namingVerdict}
 use Rattle.naming.specs.GatherLaws.{names-ended}
@@ -18,8 +18,8 @@ field-of-requires c κs = tt
 
 all-named-requires : tie.Need-all-named-requires
 all-named-requires c κs =
-    let start = c .before .before .before .before .before in
-    rw (c .field-of .ensures .0) (names-ended (now (start .args .numbers)) (now (start .args .names)) (start .pre .0 .sized .routines-most) (start .pre .1 .1 .1))
+    let start = c .before .before .before in
+    rw (c .field-of .ensures .0) (names-ended (now (start .args .numbers)) (now (start .args .names)) (start .pre .0 .sized .routines-most) (start .pre .1))
 
 lowest-requires : tie.Need-lowest-requires
 lowest-requires c κs = search needs
@@ -27,18 +27,18 @@ lowest-requires c κs = search needs
 field-of-requires-2 : tie.Need-field-of-requires-2
 field-of-requires-2 c κs = tt
 
-add-t13 : tie.Need-add-t13
-add-t13 c = search needs
+add-t11 : tie.Need-add-t11
+add-t11 c = search needs
 
-add-t14 : tie.Need-add-t14
-add-t14 c = search needs
+add-t12 : tie.Need-add-t12
+add-t12 c = search needs
 
 -- the routines found
-unnamed : (c : tie.After-lowest) → c .lowest .result ≡ until (isNamed (now (c .before .before .before .before .before .before .before .args .names))) 1 (c .before .before .field-of .result - 1)
+unnamed : (c : tie.After-lowest) → c .lowest .result ≡ until (isNamed (now (c .before .before .before .before .before .args .names))) 1 (c .before .before .field-of .result - 1)
 unnamed c = c .lowest .ensures ∙ named-by-all _ _ _ (c .before .all-named .ensures)
 
-cyclic : (c : tie.After-lowest2) → c .lowest2 .result ≡ until (isAcyclic (now (c .before .before .before .before .before .before .before .before .before .args .names))) 0 (c .before .before .before .before .field-of .result)
-cyclic c = c .lowest2 .ensures ∙ from-zero _ _
+cyclic : (c : tie.After-lowest2) → c .lowest2 .result ≡ until (isAcyclic (now (c .before .before .before .before .before .before .before .args .names))) 0 (c .before .before .before .before .field-of .result)
+cyclic c = c .lowest2 .ensures ∙ ap (until _ 0) (sub-zero _)
 
 returns : tie.Need-returns
 unfolding namingVerdict
@@ -50,11 +50,11 @@ lowest-requires-2 c κs = search needs
 field-of-requires-3 : tie.Need-field-of-requires-3
 field-of-requires-3 c κs = tt
 
-add-t17 : tie.Need-add-t17
-add-t17 c = search needs
+add-t14 : tie.Need-add-t14
+add-t14 c = search needs
 
-add-t18 : tie.Need-add-t18
-add-t18 c = search needs
+add-t15 : tie.Need-add-t15
+add-t15 c = search needs
 
 returns-2 : tie.Need-returns-2
 unfolding namingVerdict
@@ -72,12 +72,12 @@ naming-verdict-spec =
     all-named-requires
     lowest-requires
     field-of-requires-2
-    add-t13
-    add-t14
+    add-t11
+    add-t12
     returns
     lowest-requires-2
     field-of-requires-3
-    add-t17
-    add-t18
+    add-t14
+    add-t15
     returns-2
     returns-3)

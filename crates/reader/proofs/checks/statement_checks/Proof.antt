@@ -5,7 +5,7 @@ use Prim.Native.Nat.{ℕ, _+_, _-_, _<_}
 use denote.Ref.{now}
 use borrow.Author.Tests.{lt-ltb, le-ltb}
 use Rattle.table.specs.Until.{until}
-use Rattle.table.specs.UntilLaws.{from-zero}
+use native.Mathlib.Nat.{sub-zero}
 use Rattle.table.specs.Header.{routines}
 use Rattle.table.specs.HeaderLaws.{statement-line}
 use Rattle.table.specs.Lists.{statements-begin, begin-early}
@@ -14,9 +14,6 @@ use Rattle.table.specs.Verdict.{statementVerdict}
 use borrow.Author.Needs.{needs}
 use Rattle.reader.proofs.checks.statement_checks.Statement.{statement}
 use Rattle.reader.proofs.checks.statement_checks.Tie as tie
-
-slice-aggregate-bad-statement : tie.Need-slice-aggregate-bad-statement
-slice-aggregate-bad-statement c = search needs
 
 bad-statement-requires : tie.Need-bad-statement-requires
 bad-statement-requires c κs = search needs
@@ -27,14 +24,14 @@ field-of-requires c κs = tt
 first-line-requires : tie.Need-first-line-requires
 first-line-requires c κs = tt
 
-add-t15 : tie.Need-add-t15
-add-t15 c = search needs
+add-t13 : tie.Need-add-t13
+add-t13 c = search needs
 
 returns : tie.Need-returns
 unfolding statementVerdict
 returns c =
     let s = c .before .before .before .bad-statement .result in
-    let line = ap (λ (n : ℕ). n + s) (c .first-line .ensures .0) ∙ statement-line (now (c .before .before .before .before .before .before .before .before .args .numbers)) s in
+    let line = ap (λ (n : ℕ). n + s) (c .first-line .ensures .0) ∙ statement-line (now (c .before .before .before .before .before .before .before .args .numbers)) s in
     rw (line, ← c .before .before .before .bad-statement .ensures, lt-ltb _ _ (rw (c .before .before .field-of .ensures .0) at (c .before .if1 .taken)))
 
 field-of-requires-2 : tie.Need-field-of-requires-2
@@ -45,11 +42,11 @@ slice-aggregate-lowest c = search needs
 
 lowest-requires : tie.Need-lowest-requires
 lowest-requires c κs =
-    let pre = c .before .before .before .before .before .before .before .before .before .pre in (pre .0, (pre .1 .0, (pre .1 .1, omega (arith, c .before .field-of2 .ensures .0))))
+    (c .before .before .before .before .before .before .before .before .pre .0, omega (arith, c .before .field-of2 .ensures .0))
 
 -- the routine found
-runs-on : (c : tie.After-lowest) → c .lowest .result ≡ until (endOk (now (c .before .before .before .before .before .before .before .before .before .before .args .numbers))) 0 (routines (now (c .before .before .before .before .before .before .before .before .before .before .args .numbers)))
-runs-on c = c .lowest .ensures ∙ from-zero _ _ ∙ ap (until _ 0) (c .before .before .field-of2 .ensures .0)
+runs-on : (c : tie.After-lowest) → c .lowest .result ≡ until (endOk (now (c .before .before .before .before .before .before .before .before .before .args .numbers))) 0 (routines (now (c .before .before .before .before .before .before .before .before .before .args .numbers)))
+runs-on c = c .lowest .ensures ∙ ap (until _ 0) (sub-zero _ ∙ c .before .before .field-of2 .ensures .0)
 
 first-line-requires-2 : tie.Need-first-line-requires-2
 first-line-requires-2 c κs = tt
@@ -57,14 +54,14 @@ first-line-requires-2 c κs = tt
 last-of-requires : tie.Need-last-of-requires
 last-of-requires c κs = search needs
 
-add-t21 : tie.Need-add-t21
-add-t21 c =
-    record { fits = omega (arith, c .last-of .ensures, begin-early (c .before .before .before .before .before .before .before .before .before .before .before .before .before .pre .0) (c .before .before .before .lowest .result + 1), c .before .first-line2 .ensures .1) }
+add-t19 : tie.Need-add-t19
+add-t19 c =
+    record { fits = omega (arith, c .last-of .ensures, begin-early (c .before .before .before .before .before .before .before .before .before .before .before .before .pre .0) (c .before .before .before .lowest .result + 1), c .before .first-line2 .ensures .1) }
 
 returns-2 : tie.Need-returns-2
 unfolding statementVerdict
 returns-2 c =
-    let start = c .before .before .before .before .before .before .before .before .before .before .before .before .before in
+    let start = c .before .before .before .before .before .before .before .before .before .before .before .before in
     let f = now (start .args .numbers) in
     let r = c .before .before .before .lowest .result in
     let inside : r < routines f = omega (arith, c .before .before .before .before .before .field-of2 .ensures .0, c .before .before .if2 .taken) in
@@ -102,18 +99,17 @@ pub statement-checks-spec : {M : Type 1} → statement M
 statement-checks-spec =
     tie.close
     (tie.spec
-    slice-aggregate-bad-statement
     bad-statement-requires
     field-of-requires
     first-line-requires
-    add-t15
+    add-t13
     returns
     field-of-requires-2
     slice-aggregate-lowest
     lowest-requires
     first-line-requires-2
     last-of-requires
-    add-t21
+    add-t19
     returns-2
     names-in-requires
     slice-aggregate-naming-verdict

@@ -10,7 +10,7 @@ slice-aggregate-parameter-counts : tie.Need-slice-aggregate-parameter-counts
 slice-aggregate-parameter-counts c = search needs
 
 parameter-counts-requires : tie.Need-parameter-counts-requires
-parameter-counts-requires c κs = (c .before .first-handles .ensures, c .before .before .before .pre .sized .handles-most)
+parameter-counts-requires c κs = c .before .first-handles .ensures
 
 slice-aggregate-statement-checks : tie.Need-slice-aggregate-statement-checks
 slice-aggregate-statement-checks c = search needs
@@ -20,8 +20,7 @@ slice-aggregate-statement-checks-2 c = search needs
 
 statement-checks-requires : tie.Need-statement-checks-requires
 statement-checks-requires c κs =
-    let begins = c .before .before .before .before .before .before .pre in
-    (
+    let begins = c .before .before .before .before .before .before .pre in (
       begins,
       (
         record { sized = begins .sized; is = c .before .before .before .before .first-handles .ensures },

@@ -10,25 +10,23 @@ use Rattle.reader.proofs.rules.lowest.Statement.{statement}
 use Rattle.reader.proofs.rules.lowest.Tie as tie
 
 abbrev Inv-loop : tie.InvT-loop
-Inv-loop rule numbers first handle counts names from end i₀ i = Looking (holdsAt numbers names rule) end from i
+Inv-loop rule numbers first names from end r₀ r = Looking (holdsAt numbers names rule) end from r
 
 abbrev μ-loop : tie.MeasureT-loop
-μ-loop rule numbers first handle counts names from end i₀ i = end - i
+μ-loop rule numbers first names from end r₀ r = end - r
 
 loop-holds : tie.Need-loop-holds Inv-loop μ-loop
 loop-holds c = looking-start _ _ _
 
 holds-requires : tie.Need-holds-requires Inv-loop μ-loop
 holds-requires c κs =
-    let start = c .before .before .before .before .before .before in
-    let pre = start .pre in
-    (pre .0, (pre .1 .0, (pre .1 .1 .0, in-table (now (start .args .numbers)) (start .args .rule) _ _ (c .loop-test .taken) (pre .1 .1 .1))))
+    let start = c .before .before .before .before in (start .pre .0, in-table (now (start .args .numbers)) (start .args .rule) _ _ (c .loop-test .taken) (start .pre .1))
 
 returns : tie.Need-returns Inv-loop μ-loop
 returns c = looking-stop _ _ _ _ (c .before .before .before .loop .inv) (c .before .before .loop-test .taken) (sym (c .before .holds .ensures) ∙ not-true _ (c .if1 .taken))
 
-add-i : tie.Need-add-i Inv-loop μ-loop
-add-i c = search needs
+add-r : tie.Need-add-r Inv-loop μ-loop
+add-r c = search needs
 
 loop-less : tie.Need-loop-less Inv-loop μ-loop
 loop-less c = search needs
@@ -48,7 +46,7 @@ lowest-spec =
     loop-holds
     holds-requires
     returns
-    add-i
+    add-r
     loop-less
     loop-again
     returns-2)
