@@ -1,6 +1,6 @@
 -- The numbers of a text's lines, eight a line, in one list, and the numbers that a rule compares with limits. Assumes nothing.
 use Prim.Native.Nat.{ℕ, _+_, _-_, _*_}
-use mathlib.Core.List.{List, []}
+use mathlib.Core.List.{List}
 use mathlib.Core.Bool.{Bool}
 use lib.ListN.{getD}
 use lib.Dec.{eqb, leb}

@@ -1,14 +1,18 @@
--- The limits that a header's rule gives. Assumes nothing.
+-- The limits that a header's rule gives, and the order of the lines. Assumes nothing.
 use mathlib.Core.Path.{_≡_, refl}
 use mathlib.Core.List.{List}
 use mathlib.Core.Bool.{Bool, true, false, _&&_}
-use Prim.Native.Nat.{ℕ, _≤_}
+use Prim.Native.Nat.{ℕ, _+_, _≤_}
 use native.Mathlib.Omega.{arith}
 use borrow.Author.Tests.{leb-true}
 use lib.Dec.{leb, eqb}
 use lib.IntN.{ℤ}
 use Rattle.table.specs.Fields.{field, unused}
-use Rattle.table.specs.Header.{headerOk, within, cells, locks, handles, routines, statements}
+use Rattle.table.specs.Header.{headerOk, within, cells, locks, handles, routines, statements, statementLine}
+
+-- the statements' lines follow each other
+pub statement-line : (f : List ℤ) (s : ℕ) → statementLine f 0 + s ≡ statementLine f s
+statement-line f s = omega arith
 
 -- both of two tests pass
 pub both : (a b : Bool) → (a && b) ≡ true → (a ≡ true) × (b ≡ true)

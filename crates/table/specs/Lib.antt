@@ -1,7 +1,6 @@
 pub mod Tabulate
 pub mod TabulateLaws
 pub mod CutLaws
-pub mod Entry
 pub mod Until
 pub mod UntilLaws
 pub mod Fields
@@ -12,10 +11,7 @@ pub mod Routines
 pub mod Layout
 pub mod LayoutLaws
 pub mod Statements
-pub mod SearchLaws
 pub mod Naming
-pub mod GatherLaws
-pub mod WalkLaws
 pub mod Verdict
 pub mod VerdictLaws
 pub mod Table
@@ -24,6 +20,7 @@ pub mod CheckLaws
 pub mod ReachLaws
 pub mod HandleLaws
 pub mod RoutineLaws
+pub mod Lists
 pub mod LookupLaws
 pub mod OperationLaws
 pub mod StatementLaws

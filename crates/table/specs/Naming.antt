@@ -4,11 +4,11 @@ use mathlib.Core.List.{List}
 use mathlib.Core.Bool.{Bool, cond, not, _||_}
 use lib.Dec.{eqb, ltb}
 use lib.IntN.{ℤ}
+use lib.ListN.{getD}
 use Rattle.sets.specs.Set.{has, one, union, minus, with, lowest}
 use Rattle.sets.specs.declared.Which.{Which}
 use Rattle.sets.specs.declared.Which.the-variants.{Element, Nothing}
 use Rattle.table.specs.Tabulate.{tabulate}
-use Rattle.table.specs.Entry.{entry}
 use Rattle.table.specs.Header.{routines}
 use Rattle.table.specs.Routines.{firstOf}
 use Rattle.table.specs.Statements.{operation, operand}
@@ -32,7 +32,7 @@ namesIn f = tabulate 32 (namesOf f)
 
 -- refusal 11: routine r is named by a CALL or START
 unfoldable pub isNamed : List ℕ → ℕ → Bool
-isNamed names r = has (gather (entry names) 0 0 32) r
+isNamed names r = has (gather (λ (k : ℕ). getD names k 0) 0 0 32) r
 
 -- by the lowest element of a set: `none` if there is none, else what `some` says of it
 abbrev pub onWhich : Which → ℕ → (ℕ → ℕ) → ℕ
@@ -44,11 +44,11 @@ onWhich (Element i) none some = some i
 unfoldable pub walk : List ℕ → ℕ → ℕ → ℕ → ℕ
 walk names todo seen zero = seen
 walk names todo seen (suc left) =
-    onWhich (lowest todo) seen (λ i. walk names (minus (union todo (entry names i)) (with seen i)) (with seen i) left)
+    onWhich (lowest todo) seen (λ i. walk names (minus (union todo (getD names i 0)) (with seen i)) (with seen i) left)
 
 -- the routines that routine r reaches through CALLs and STARTs
 unfoldable pub reached : List ℕ → ℕ → ℕ
-reached names r = walk names (entry names r) 0 32
+reached names r = walk names (getD names r 0) 0 32
 
 -- refusal 12: routine r does not reach itself
 unfoldable pub isAcyclic : List ℕ → ℕ → Bool

@@ -7,14 +7,13 @@ use Prim.Native.Nat.{ℕ, zero, suc, _+_, _-_, _/_, _^_, _≤_, _<_, zero-le}
 use native.Mathlib.Omega.{arith}
 use native.Mathlib.Decide.{decLt}
 use lib.Dec.{ltb}
-use lib.ListN.{length, List·getD-eq-default}
+use lib.ListN.{getD, length, List·getD-eq-default}
 use lib.Count.{onesIn}
 use lib.IntN.{ℤ}
 use borrow.Author.Tests.{ltb-true, lt-ltb}
 use Rattle.sets.specs.Set.{has, union, count}
 use Rattle.sets.specs.SetLaws.{has-union-left, has-union-right, union-cases, below-of-has}
-use Rattle.table.specs.Entry.{entry}
-use Rattle.table.specs.Header.{routines, statements}
+use Rattle.table.specs.Header.{routines}
 use Rattle.table.specs.Routines.{firstOf}
 use Rattle.table.specs.Naming.{namedBy, gather, namesOf, namesIn, isNamed, reached}
 use Rattle.table.specs.Tabulate.{tabulate}
@@ -102,25 +101,25 @@ module _ (f : List ℤ) (p : Passed f) where
       rw (lt-ltb r (routines f) b)
       (gather-has (namedBy f) (firstOf f (r + 1) - firstOf f r) 0 (firstOf f r) q s low (omega arith) (names-has f r s q few (statement-good f p r s b low high) (n .names)))
 
-  entry-is : (r : ℕ) → r < 32 → entry (namesIn f) r ≡ namesOf f r
+  entry-is : (r : ℕ) → r < 32 → getD (namesIn f) r 0 ≡ namesOf f r
   unfolding namesIn
   entry-is r b = getD-tabulate 32 (namesOf f) r 0 b
 
-  entry-none : (r : ℕ) → 32 ≤ r → entry (namesIn f) r ≡ 0
+  entry-none : (r : ℕ) → 32 ≤ r → getD (namesIn f) r 0 ≡ 0
   unfolding namesIn
   entry-none r b =
       let l = length-tabulate 32 (namesOf f) in
       let past : length (tabulate 32 (namesOf f)) ≤ r = omega arith in
       List·getD-eq-default (tabulate 32 (namesOf f)) 0 past
 
-  pub entry-naming : (r q : ℕ) → In (entry (namesIn f) r) q → Naming f r q
+  pub entry-naming : (r q : ℕ) → In (getD (namesIn f) r 0) q → Naming f r q
   entry-naming r q h = go (decLt r 32)
     where
       go : Dec (r < 32) → Naming f r q
       go (yes b) = names-naming r q (subst (λ (x : ℕ). In x q) (entry-is r b) h)
       go (no b) = in-empty q (subst (λ (x : ℕ). In x q) (entry-none r (omega arith)) h)
 
-  pub naming-entry : (r q : ℕ) → Naming f r q → In (entry (namesIn f) r) q
+  pub naming-entry : (r q : ℕ) → Naming f r q → In (getD (namesIn f) r 0) q
   naming-entry r q n =
       let b = n .routine-there in
       let l = few in
@@ -130,10 +129,10 @@ module _ (f : List ℤ) (p : Passed f) where
   pub naming-there : (r q : ℕ) → Naming f r q → q < routines f
   naming-there r q n = names-there f r (n .at) q (statement-good f p r (n .at) (n .routine-there) (n .low) (n .high)) (n .names)
 
-  names-small : (r : ℕ) → entry (namesIn f) r < 2 ^ 32
-  names-small r = below-of-has 32 (entry (namesIn f) r) (λ q b. go q b (has (entry (namesIn f) r) q) refl)
+  names-small : (r : ℕ) → getD (namesIn f) r 0 < 2 ^ 32
+  names-small r = below-of-has 32 (getD (namesIn f) r 0) (λ q b. go q b (has (getD (namesIn f) r 0) q) refl)
     where
-      go : (q : ℕ) → 32 ≤ q → (t : Bool) → has (entry (namesIn f) r) q ≡ t → has (entry (namesIn f) r) q ≡ false
+      go : (q : ℕ) → 32 ≤ q → (t : Bool) → has (getD (namesIn f) r 0) q ≡ t → has (getD (namesIn f) r 0) q ≡ false
       go q b true e = let l = naming-there r q (entry-naming r q e) in let m = few in absurd (omega arith)
       go q b false e = e
 
@@ -141,7 +140,7 @@ module _ (f : List ℤ) (p : Passed f) where
 
   pub named-by : (q : ℕ) → 1 ≤ q → q < routines f → (r : ℕ) × Naming f r q
   unfolding isNamed
-  named-by q a b = gather-from (entry (namesIn f)) 32 0 0 q (λ o. in-empty q o) (λ r low high o. (r, entry-naming r q o)) (p .named-ok q a b)
+  named-by q a b = gather-from (λ (k : ℕ). getD (namesIn f) k 0) 32 0 0 q (λ o. in-empty q o) (λ r low high o. (r, entry-naming r q o)) (p .named-ok q a b)
 
   -- ---- no routine reaches itself
 

@@ -7,11 +7,11 @@ use Prim.Native.Nat.{ℕ, zero, suc, _+_, _^_, _≤_, _<_}
 use native.Mathlib.Omega.{arith}
 use lib.Dec.{eqb, ltb}
 use borrow.Author.Tests.{ltb-true, ltb-false, eqb-true, eq-eqb, not-true}
+use lib.ListN.{getD}
 use Rattle.sets.specs.Set.{has, union, minus, with, lowest, count}
 use Rattle.sets.specs.SetLaws.{has-union-left, has-union-right, union-cases, has-minus, has-with, has-empty, has-beyond, below-of-has, union-below, minus-below, count-with, count-below, count-inside-less, lowest-is, lowest-nothing}
 use Rattle.sets.specs.declared.Which.{Which}
 use Rattle.sets.specs.declared.Which.the-variants.{Element, Nothing}
-use Rattle.table.specs.Entry.{entry}
 use Rattle.table.specs.Naming.{walk, reached, isAcyclic, onWhich}
 use Rattle.table.specs.HeaderLaws.{both}
 
@@ -79,21 +79,21 @@ parted a b i h = go (has b i) refl
     go true e = has-union-left b (minus a b) i e
     go false e = has-union-right b (minus a b) i (minus-in a b i h e)
 
-module _ (names : List ℕ) (small : (i : ℕ) → entry names i < 2 ^ 32) where
+module _ (names : List ℕ) (small : (i : ℕ) → getD names i 0 < 2 ^ 32) where
   -- the state of a walk: what is seen and what is to do are apart, and what a seen one names is one of both
   record Walking (todo seen : ℕ) : Type 0 where
     todo-small : todo < 2 ^ 32
     seen-small : seen < 2 ^ 32
     apart : (i : ℕ) → In todo i → has seen i ≡ false
-    named : (i j : ℕ) → In seen i → In (entry names i) j → In (union seen todo) j
+    named : (i j : ℕ) → In seen i → In (getD names i 0) j → In (union seen todo) j
 
   -- a set that holds both and is closed under naming
   record Covers (todo seen all : ℕ) : Type 0 where
     holds : Inside (union seen todo) all
-    closed : (i : ℕ) → In all i → Inside (entry names i) all
+    closed : (i : ℕ) → In all i → Inside (getD names i 0) all
 
   after : ℕ → ℕ → ℕ → ℕ
-  after todo seen i = minus (union todo (entry names i)) (with seen i)
+  after todo seen i = minus (union todo (getD names i 0)) (with seen i)
 
   -- nothing that is seen or to do is lost
   kept : (todo seen i j : ℕ) → i < 32 → In (union seen todo) j → In (union (with seen i) (after todo seen i)) j
@@ -101,7 +101,7 @@ module _ (names : List ℕ) (small : (i : ℕ) → entry names i < 2 ^ 32) where
   kept todo seen i j b h =
       union-cases seen todo j
       (λ o. has-union-left (with seen i) (after todo seen i) j (with-old seen i j b o))
-      (λ o. parted (union todo (entry names i)) (with seen i) j (has-union-left todo (entry names i) j o))
+      (λ o. parted (union todo (getD names i 0)) (with seen i) j (has-union-left todo (getD names i 0) j o))
       h
 
   walking-next : (todo seen i : ℕ) → Walking todo seen → In todo i → i < 32 → Walking (after todo seen i) (with seen i)
@@ -110,11 +110,11 @@ module _ (names : List ℕ) (small : (i : ℕ) → entry names i < 2 ^ 32) where
       record {
         todo-small = minus-below 32 (with seen i) (union-below 32 (w .todo-small) (small i));
         seen-small = with-bound seen i (w .seen-small) b;
-        apart = λ j k. minus-out (union todo (entry names i)) (with seen i) j k .1;
+        apart = λ j k. minus-out (union todo (getD names i 0)) (with seen i) j k .1;
         named = λ k j p q. with-cases seen i k b p
             (λ o. kept todo seen i j b (w .named k j o q))
-            (λ e. parted (union todo (entry names i)) (with seen i) j
-            (has-union-right todo (entry names i) j (subst (λ (x : ℕ). In (entry names x) j) e q)));
+            (λ e. parted (union todo (getD names i 0)) (with seen i) j
+            (has-union-right todo (getD names i 0) j (subst (λ (x : ℕ). In (getD names x 0) j) e q)));
       }
 
   -- with all 32 seen there is nothing to do
@@ -153,7 +153,7 @@ module _ (names : List ℕ) (small : (i : ℕ) → entry names i < 2 ^ 32) where
 
   -- ---- the walk reaches nothing but what a closed set that holds its start holds
 
-  walk-least : (all : ℕ) → ((i : ℕ) → In all i → Inside (entry names i) all) → (left todo seen : ℕ) → todo < 2 ^ 32 → Inside todo all → Inside seen all
+  walk-least : (all : ℕ) → ((i : ℕ) → In all i → Inside (getD names i 0) all) → (left todo seen : ℕ) → todo < 2 ^ 32 → Inside todo all → Inside seen all
       → Inside (walk names todo seen left) all
   unfolding walk after
   walk-least all closed zero todo seen b t s = s
@@ -169,34 +169,34 @@ module _ (names : List ℕ) (small : (i : ℕ) → entry names i < 2 ^ 32) where
           let h : In todo i = lowest-is todo i (omega arith) e .0 in
           let l : i < 32 = in-below todo i b h in
           ih (after todo seen i) (with seen i) (minus-below 32 (with seen i) (union-below 32 b (small i)))
-          (λ j k. union-cases todo (entry names i) j (t j) (closed i (t i h) j) (minus-out (union todo (entry names i)) (with seen i) j k .0))
+          (λ j k. union-cases todo (getD names i 0) j (t j) (closed i (t i h) j) (minus-out (union todo (getD names i 0)) (with seen i) j k .0))
           (λ j k. with-cases seen i j l k (s j) (λ e′. subst (In all) (sym e′) (t i h)))
 
   -- ---- what a routine reaches
 
-  reached-covers : (r : ℕ) → Covers (entry names r) 0 (reached names r)
+  reached-covers : (r : ℕ) → Covers (getD names r 0) 0 (reached names r)
   unfolding reached
   reached-covers r =
-      let start : Walking (entry names r) 0 =
+      let start : Walking (getD names r 0) 0 =
       record { todo-small = small r; seen-small = omega arith; apart = λ i h. has-empty i; named = λ i j h k. in-empty i h } in
-      walk-covers 32 (entry names r) 0 start (omega arith)
+      walk-covers 32 (getD names r 0) 0 start (omega arith)
 
-  pub reached-named : (r : ℕ) → Inside (entry names r) (reached names r)
-  reached-named r q h = reached-covers r .holds q (has-union-right 0 (entry names r) q h)
+  pub reached-named : (r : ℕ) → Inside (getD names r 0) (reached names r)
+  reached-named r q h = reached-covers r .holds q (has-union-right 0 (getD names r 0) q h)
 
-  pub reached-closed : (r i : ℕ) → In (reached names r) i → Inside (entry names i) (reached names r)
+  pub reached-closed : (r i : ℕ) → In (reached names r) i → Inside (getD names i 0) (reached names r)
   reached-closed r = reached-covers r .closed
 
   -- what a named routine reaches, the naming one reaches
-  pub reached-inside : (r q : ℕ) → In (entry names r) q → Inside (reached names q) (reached names r)
+  pub reached-inside : (r q : ℕ) → In (getD names r 0) q → Inside (reached names q) (reached names r)
   unfolding reached
   reached-inside r q h =
-      walk-least (reached names r) (reached-closed r) 32 (entry names q) 0 (small q) (reached-closed r q (reached-named r q h)) (λ j k. in-empty j k)
+      walk-least (reached names r) (reached-closed r) 32 (getD names q 0) 0 (small q) (reached-closed r q (reached-named r q h)) (λ j k. in-empty j k)
 
   -- the number of routines reached falls along naming, to a routine that does not reach itself
-  pub reached-falls : (r q : ℕ) → In (entry names r) q → isAcyclic names q ≡ true → count (reached names q) < count (reached names r)
+  pub reached-falls : (r q : ℕ) → In (getD names r 0) q → isAcyclic names q ≡ true → count (reached names q) < count (reached names r)
   unfolding isAcyclic
   reached-falls r q h a =
-      let l = in-below (entry names r) q (small r) h in
+      let l = in-below (getD names r 0) q (small r) h in
       let out = not-true (has (reached names q) q) a in
       count-inside-less (reached names q) (reached names r) q (reached-inside r q h) (omega arith) out (reached-named r q h)

@@ -16,7 +16,7 @@ use Rattle.table.specs.HeaderLaws.{both, between}
 use Rattle.table.specs.Routines.{countOf, routineOk, firstOf}
 use Rattle.table.specs.LayoutLaws.{first-next}
 use Rattle.table.specs.Statements.{operation, statementOk, badStatement, endOk, lastOf}
-use Rattle.table.specs.SearchLaws.{badIn}
+use Rattle.table.specs.Until.{until}
 use Rattle.table.specs.CheckLaws.{Passed, until-before}
 use Rattle.table.specs.HandleLaws.{either}
 
@@ -61,7 +61,11 @@ one-owner f r q s a b c d = go (decLt r q) (decLt q r)
 
 -- ---- no bad statement is found
 
-bad-step : (f : List ℤ) (r n : ℕ) → badStatement f r (suc n) ≡ cond (ltb (badIn f r) (firstOf f (r + 1))) (badIn f r) (badStatement f (r + 1) n)
+-- what routine r's own statements give
+abbrev pub badIn : List ℤ → ℕ → ℕ
+badIn f r = until (statementOk f r) (firstOf f r) (firstOf f (r + 1) - firstOf f r)
+
+pub bad-step : (f : List ℤ) (r n : ℕ) → badStatement f r (suc n) ≡ cond (ltb (badIn f r) (firstOf f (r + 1))) (badIn f r) (badStatement f (r + 1) n)
 unfolding badStatement
 bad-step f r n = refl
 

@@ -9,7 +9,7 @@ use lib.Dec.{eqb, leb, ltb}
 use lib.ListN.{getD}
 use lib.IntN.{ℤ}
 use borrow.Author.Tests.{ltb-true, lt-ltb, leb-true, eqb-true, eq-eqb, ne-eqb}
-use Rattle.sets.specs.Set.{has, one}
+use Rattle.sets.specs.Set.{one}
 use Rattle.sets.specs.SetLaws.{has-one}
 use Rattle.table.specs.Fields.{number, unused}
 use Rattle.table.specs.Header.{handles, routines, statementLine}

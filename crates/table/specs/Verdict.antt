@@ -1,6 +1,6 @@
 -- "Why a text is turned down": refusals 1 to 12 in their order. Each check runs over the whole text before the next, and names the lowest failing line.
 -- A `let` is not computed unless it is used, so a later check runs only where the earlier ones pass. Assumes nothing.
-use Prim.Native.Nat.{ℕ, _+_, _-_, _/_, _%_}
+use Prim.Native.Nat.{ℕ, _-_, _/_, _%_}
 use mathlib.Core.List.{List}
 use mathlib.Core.Option.{Option, none, some}
 use mathlib.Core.Bool.{Bool, cond, _&&_}

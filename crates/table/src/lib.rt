@@ -1,21 +1,10 @@
-// The reader: a table text, or the first refusal of document 01. Crates above see only the promises here.
-mod checks;
-mod fields;
-mod handles;
-mod header;
-mod naming;
-mod routines;
-mod statements;
-
+// The table: its types, and what stands where in the numbers of its lines. Definitions and laws are in specs/.
 ghost use mathlib.Core.Path.{_≡_};
 ghost use Prim.Native.Nat.{_+_, _*_, _<_, _≤_, _^_};
 ghost use lib.ListN.{length};
-ghost use Rattle.lines.specs.Line.{lineCount, numbersOf};
-ghost use Rattle.table.specs.Fields.{field};
-ghost use Rattle.table.specs.Layout.{firstStatements, firstHandles, parameterCounts};
-ghost use Rattle.table.specs.Verdict.{textOk, verdict, readingOf, turnedDown};
+ghost use Rattle.table.specs.Fields.{field, number, unused, plain};
+ghost use Rattle.table.specs.Header.{statementLine};
 ghost use Rattle.table.specs.Table.{countsOf, argumentsIn, statementIn};
-use lines::FirstBad;
 
 // What is said of a text: a table, or the number of the first refusal that applies and the line that goes with it.
 pub enum Verdict {
@@ -98,51 +87,12 @@ pub struct Routine {
     pub parameters: usize,
 }
 
-// The reading of a refused text.
-fn refused(number: u32, line: usize) -> Reading
-    ensures { λ r. ⌜ r ≡ turnedDown number line ⌝ }
+// A number as the rules compare it: itself, or 1,000,000 for a negative one.
+fn plain_number(x: i32) -> usize
+    ensures is { λ r. ⌜ r ≡ plain x ⌝ }
+    ensures small { λ r. ⌜ r < 2 ^ 31 ⌝ }
 {
-    Reading {
-        verdict: Verdict::Refused { number, line },
-        numbers: [0i32; 5384],
-    }
-}
-
-// Refusal 1's rule: whether a text of so many bytes may be one.
-pub fn has_length(n: usize) -> bool
-    ensures { λ b. ⌜ b ≡ textOk n ⌝ }
-{
-    checks::text_ok(n)
-}
-
-// The verdict on a text; where it is accepted, its numbers stand in `numbers`.
-pub fn read_into(text: &[u8], numbers: &mut [i32]) -> Verdict
-    requires { ⌜ length (now numbers) ≡ 8 * lineCount (now text) ⌝ }
-    ensures verdict { λ v. ⌜ v ≡ verdict (now (text .entry)) ⌝ }
-    ensures numbers { λ v. ⌜ (v ≡ Verdict.Accepted → now (numbers .exit) ≡ numbersOf (now (text .entry))) ⌝ }
-{
-    if !checks::text_ok(text.len()) {
-        return Verdict::Refused { number: 1, line: 0 };
-    }
-    match lines::read_numbers(text, numbers) {
-        FirstBad::Line(i) => Verdict::Refused { number: 2, line: i },
-        FirstBad::Nothing => checks::numbers_verdict(numbers, text.len() / 49),
-    }
-}
-
-// The table of a text, or the first refusal: its verdict and its numbers, for every text.
-pub fn read(text: &[u8]) -> Reading
-    ensures { λ r. ⌜ r ≡ readingOf (now (text .entry)) ⌝ }
-{
-    let mut numbers = [0i32; 5384];
-    let count = 8 * lines::line_count(text);
-    match read_into(text, &mut numbers[..count]) {
-        Verdict::Accepted => Reading {
-            verdict: Verdict::Accepted,
-            numbers,
-        },
-        Verdict::Refused { number, line } => refused(number, line),
-    }
+    if x < 0 { 1_000_000 } else { x as usize }
 }
 
 // Field `j` of `line` as the rules compare it: its number, 1,000,000 for a negative one, 0 past the end.
@@ -150,7 +100,21 @@ pub fn field_of(numbers: &[i32], line: usize, j: usize) -> usize
     ensures is { λ r. ⌜ r ≡ field (now (numbers .entry)) line j ⌝ }
     ensures small { λ r. ⌜ r < 2 ^ 31 ⌝ }
 {
-    fields::field_at(numbers, line, j)
+    let count = numbers.len();
+    if j < count {
+        if line <= (count - 1 - j) / 8 {
+            return plain_number(numbers[line * 8 + j]);
+        }
+    }
+    0
+}
+
+// The number in field `j` of a line that is there.
+pub fn number_in(numbers: &[i32], line: usize, j: usize) -> i32
+    requires { ⌜ (line * 8 + 8 ≤ length (now numbers)) × (j < 8) ⌝ }
+    ensures { λ r. ⌜ r ≡ number (now (numbers .entry)) line j ⌝ }
+{
+    numbers[line * 8 + j]
 }
 
 // Field `j` of a line that is there, as the rules compare it.
@@ -159,7 +123,29 @@ pub fn field_in(numbers: &[i32], line: usize, j: usize) -> usize
     ensures is { λ r. ⌜ r ≡ field (now (numbers .entry)) line j ⌝ }
     ensures small { λ r. ⌜ r < 2 ^ 31 ⌝ }
 {
-    fields::field_in(numbers, line, j)
+    plain_number(number_in(numbers, line, j))
+}
+
+// Whether the fields of `line` from field `from` on are 0.
+pub fn is_unused(numbers: &[i32], line: usize, from: usize) -> bool
+    ensures { λ r. ⌜ r ≡ unused (now (numbers .entry)) line from ⌝ }
+{
+    let mut j = from;
+    while j < 8 {
+        if field_of(numbers, line, j) != 0 {
+            return false;
+        }
+        j += 1;
+    }
+    true
+}
+
+// The line of statement 0.
+pub fn first_line(numbers: &[i32]) -> usize
+    ensures is { λ r. ⌜ r ≡ statementLine (now (numbers .entry)) 0 ⌝ }
+    ensures small { λ r. ⌜ r < 2 ^ 33 ⌝ }
+{
+    1 + field_of(numbers, 0, 3) + field_of(numbers, 0, 4)
 }
 
 // What the header of a table's numbers says.
@@ -167,11 +153,11 @@ pub fn counts_of(numbers: &[i32]) -> Counts
     ensures { λ r. ⌜ r ≡ countsOf (now (numbers .entry)) ⌝ }
 {
     Counts {
-        cells: fields::field_at(numbers, 0, 1),
-        locks: fields::field_at(numbers, 0, 2),
-        handles: fields::field_at(numbers, 0, 3),
-        routines: fields::field_at(numbers, 0, 4),
-        statements: fields::field_at(numbers, 0, 5),
+        cells: field_of(numbers, 0, 1),
+        locks: field_of(numbers, 0, 2),
+        handles: field_of(numbers, 0, 3),
+        routines: field_of(numbers, 0, 4),
+        statements: field_of(numbers, 0, 5),
     }
 }
 
@@ -181,10 +167,10 @@ fn arguments_in(numbers: &[i32], line: usize) -> Arguments
     ensures { λ r. ⌜ r ≡ argumentsIn (now (numbers .entry)) line ⌝ }
 {
     Arguments {
-        first: fields::field_in(numbers, line, 3),
-        second: fields::field_in(numbers, line, 4),
-        third: fields::field_in(numbers, line, 5),
-        fourth: fields::field_in(numbers, line, 6),
+        first: field_in(numbers, line, 3),
+        second: field_in(numbers, line, 4),
+        third: field_in(numbers, line, 5),
+        fourth: field_in(numbers, line, 6),
     }
 }
 
@@ -193,18 +179,18 @@ fn statement_in(numbers: &[i32], line: usize, op: usize) -> Statement
     requires { ⌜ line * 8 + 8 ≤ length (now numbers) ⌝ }
     ensures { λ r. ⌜ r ≡ statementIn (now (numbers .entry)) line op ⌝ }
 {
-    let number = fields::field_in(numbers, line, 2);
+    let number = field_in(numbers, line, 2);
     match op {
         1 => Statement::Read(Handle { number }),
         2 => Statement::Write(Handle { number }),
-        3 => Statement::Set(fields::number_in(numbers, line, 2)),
-        4 => Statement::Add(fields::number_in(numbers, line, 2)),
+        3 => Statement::Set(number_in(numbers, line, 2)),
+        4 => Statement::Add(number_in(numbers, line, 2)),
         5 => Statement::Take(Handle { number }),
         6 => Statement::Give(Handle { number }),
         7 => Statement::Point {
             handle: Handle { number },
             from: Handle {
-                number: fields::field_in(numbers, line, 3),
+                number: field_in(numbers, line, 3),
             },
         },
         8 => Statement::Call {
@@ -226,27 +212,5 @@ pub fn statement_at(numbers: &[i32], line: usize) -> Statement
     requires { ⌜ line * 8 + 8 ≤ length (now numbers) ⌝ }
     ensures { λ r. ⌜ r ≡ statementIn (now (numbers .entry)) line (field (now (numbers .entry)) line 1) ⌝ }
 {
-    statement_in(numbers, line, fields::field_in(numbers, line, 1))
-}
-
-// The first statement of each routine of a table's numbers, behind the last routine's the number of statements, then zeros.
-pub fn first_statements(numbers: &[i32]) -> [usize; 33]
-    ensures { λ a. ⌜ a ≡ firstStatements (now (numbers .entry)) ⌝ }
-{
-    routines::first_statements(numbers)
-}
-
-// The first handle of each routine of a table's numbers, behind the last routine's the number of handles, then zeros.
-pub fn first_handles(numbers: &[i32]) -> [usize; 33]
-    ensures { λ a. ⌜ a ≡ firstHandles (now (numbers .entry)) ⌝ }
-{
-    routines::first_handles(numbers)
-}
-
-// How many parameters each routine of a table's numbers has, then zeros.
-pub fn parameter_counts(numbers: &[i32]) -> [usize; 32]
-    ensures { λ a. ⌜ a ≡ parameterCounts (now (numbers .entry)) ⌝ }
-{
-    let handle = routines::first_handles(numbers);
-    routines::parameter_counts(numbers, &handle[..])
+    statement_in(numbers, line, field_in(numbers, line, 1))
 }

@@ -9,7 +9,7 @@ use table::Verdict;
 pub extern "C" fn table_verdict(text: &[u8]) -> u64
     ensures { λ r. ⌜ r ≡ packed (verdict (now (text .entry))) ⌝ }
 {
-    let reading = table::read(text);
+    let reading = reader::read(text);
     let verdict = reading.verdict;
     match verdict {
         Verdict::Accepted => 0,

@@ -18,7 +18,7 @@ fn print_refusal(number: u32, line: usize) {
 }
 
 fn print_verdict(text: &[u8]) {
-    let reading = table::read(text);
+    let reading = reader::read(text);
     let verdict = reading.verdict;
     match verdict {
         Verdict::Accepted => {

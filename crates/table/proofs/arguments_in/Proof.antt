@@ -3,27 +3,19 @@ use Rattle.table.specs.Table.{argumentsIn}
 use borrow.Author.Needs.{needs}
 use Rattle.table.proofs.arguments_in.Statement.{statement}
 use Rattle.table.proofs.arguments_in.Tie as tie
-use Rattle.table.proofs.arguments_in.Reads as reads
-use Rattle.table.proofs.arguments_in.Lts as lts
-use Rattle.table.proofs.fields.field_in.Reads as field-in-reads
 
--- src/lib.rt:173:16
 field-in-requires : tie.Need-field-in-requires
 field-in-requires c κs = search needs
 
--- src/lib.rt:174:17
 field-in-requires-2 : tie.Need-field-in-requires-2
 field-in-requires-2 c κs = search needs
 
--- src/lib.rt:175:16
 field-in-requires-3 : tie.Need-field-in-requires-3
 field-in-requires-3 c κs = search needs
 
--- src/lib.rt:176:17
 field-in-requires-4 : tie.Need-field-in-requires-4
 field-in-requires-4 c κs = search needs
 
--- src/lib.rt:169:1
 returns : tie.Need-returns
 unfolding argumentsIn
 returns c = rw (c .before .before .before .field-in .ensures .0, c .before .before .field-in2 .ensures .0, c .before .field-in3 .ensures .0, c .field-in4 .ensures .0)
