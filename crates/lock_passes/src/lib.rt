@@ -134,8 +134,54 @@ fn look(
     }
 }
 
-// Goes the ways of the statements that those in `changed` lead to, and so on, in place of passes over all of them, until none is marked or they
-// were many.
+// Looks at the marked statements, and so at those that they lead to, until none is marked or they were many.
+fn look_at_marked(
+    out: &mut [u64],
+    back: &mut [u64; 32],
+    numbers: &[i32],
+    first: &[usize],
+    flow: &[u64],
+    given: &[u64],
+    fixed: Fixed,
+    marks: &mut [u64; 8],
+    calls: &[u64; 256],
+    owners: &[u8; 512],
+)
+    requires { ⌜ Small (now first) (fixed .base) ⌝ }
+    ensures { λ _. ⌜ Kept (lent (numbers .entry) (first .entry) (flow .entry) (given .entry) fixed) (now (out .entry)) (now (back .entry)) (now (out .exit)) (now (back .exit)) ⌝ }
+{
+    let mut s = 0;
+    let mut left: usize = 16777216;
+    while 0 < left {
+        s = worklist::next_marked(marks, s);
+        if 512 <= s {
+            return;
+        }
+        let routine = worklist::owner_at(owners, s);
+        let end = s + 1;
+        let part = Part {
+            routine: routine,
+            from: s,
+            end: end,
+        };
+        look(
+            out,
+            back,
+            numbers,
+            first,
+            flow,
+            given,
+            fixed,
+            marks,
+            calls,
+            part,
+        );
+        worklist::unmark(marks, s);
+        left -= 1;
+    }
+}
+
+// Goes the ways of the statements that those in `changed` lead to, and so on, in place of passes over all of them.
 pub fn work_through(
     out: &mut [u64],
     back: &mut [u64; 32],
@@ -152,42 +198,19 @@ pub fn work_through(
     let mut marks = [0u64; 8];
     let mut calls = [0u64; 256];
     let mut owners = [0u8; 512];
-    worklist::note_all(&mut calls, &mut owners, numbers, first, fixed.base);
-    worklist::mark_all_after(
+    let base = fixed.base;
+    worklist::note_all(&mut calls, &mut owners, numbers, first, base);
+    worklist::mark_all_after(&mut marks, &calls, &owners, numbers, first, base, changed);
+    look_at_marked(
+        out,
+        back,
+        numbers,
+        first,
+        flow,
+        given,
+        fixed,
         &mut marks,
         &calls,
         &owners,
-        numbers,
-        first,
-        fixed.base,
-        changed,
     );
-    let mut s = 0;
-    let mut left: usize = 16777216;
-    while 0 < left {
-        s = worklist::next_marked(&marks, s);
-        if 512 <= s {
-            return;
-        }
-        let routine = worklist::owner_at(&owners, s);
-        let part = Part {
-            routine: routine,
-            from: s,
-            end: s + 1,
-        };
-        look(
-            out,
-            back,
-            numbers,
-            first,
-            flow,
-            given,
-            fixed,
-            &mut marks,
-            &calls,
-            part,
-        );
-        worklist::unmark(&mut marks, s);
-        left -= 1;
-    }
 }

@@ -64,7 +64,8 @@ module _ (e : Setting) where
   abbrev pub brought : ℕ → List ℕ → List ℕ → ℕ
   brought s out back = behind (e .numbers) (e .flow) (e .given) (leaving (e .all) out) (leaving (e .all) back) (e .base + s) s (operation s)
 
-  -- the ways of statement s of routine r have nothing to leave out
+  -- the ways of statement s of routine r have nothing to leave out: that to the next statement, by a jump, past a JUMPZ, into a CALLed routine ("the
+  -- entry set is the intersection over its CALLs"), into a STARTed one ("and empty for a routine named by a START"), and back from a RETURN
   pub record Rule (r s : ℕ) (out back : List ℕ) : Type 0 where
     pub next : 0 < operation s → operation s < 10 → Lost (e .all) out (s + 1) (brought s out back)
     pub jump : 9 < operation s → operation s < 12 → Lost (e .all) out (operand s) (leaving (e .all) out s)
@@ -81,7 +82,7 @@ module _ (e : Setting) where
   abbrev pub RoutineRules : ℕ → List ℕ → List ℕ → Type 0
   RoutineRules r = RulesIn r (getD (e .first) r 0) (getD (e .first) (r + 1) 0)
 
-  -- no way has anything to leave out, that into the entry of routine 0 included
+  -- no way has anything to leave out, that into routine 0 included ("and empty for routine 0")
   pub record Closed (out back : List ℕ) : Type 0 where
     pub entry : Lost (e .all) out 0 0
     pub at : (r : ℕ) → r < routines (e .numbers) → RoutineRules r out back

@@ -12,7 +12,9 @@ use Rattle.sets.specs.Least.{room}
 use Rattle.table.specs.Fields.{field}
 use Rattle.report.specs.Held.{onlyLock}
 
--- what is held behind statement s in a line, by the number of its operation, with what is held before each statement and what each routine hands back
+-- what is held behind statement s in a line, by the number of its operation, with what is held before each statement and what each routine hands back.
+-- "TAKE adds the lock if its flow set has exactly one. GIVE removes its whole flow set. After CALL r: the intersection of the sets before r's RETURNs,
+-- joined with the locks held before the call that no GIVE in r, or in what r reaches by CALLs, has in its flow set. Other operations keep the set."
 unfoldable pub behind : List ℤ → List ℕ → List ℕ → (ℕ → ℕ) → (ℕ → ℕ) → ℕ → ℕ → ℕ → ℕ
 behind f flow given held handed line s op =
     cond (eqb op 5) (union (held s) (onlyLock (getD flow (field f line 2) 0)))

@@ -1,0 +1,72 @@
+-- `lock_passes::look_at_marked` meets its contract. Every statement that is looked at keeps what those before it kept. Assumes nothing.
+use native.Mathlib.Omega.{arith}
+use borrow.Author.Needs.{needs}
+use Rattle.lock_rules.specs.Rules.{setting, Kept}
+use Rattle.lock_rules.specs.MoveLaws.{kept-none, kept-then}
+use Rattle.lock_passes.proofs.look_at_marked.Statement.{statement}
+use Rattle.lock_passes.proofs.look_at_marked.Tie as tie
+
+abbrev Inv-loop : tie.InvT-loop
+Inv-loop out₀ back₀ numbers first flow given fixed marks₀ calls owners s₀ left₀ out back marks s left = Kept (setting numbers first flow given fixed) out₀ back₀ out back
+
+abbrev μ-loop : tie.MeasureT-loop
+μ-loop out₀ back₀ numbers first flow given fixed marks₀ calls owners s₀ left₀ out back marks s left = left
+
+loop-holds : tie.Need-loop-holds Inv-loop μ-loop
+loop-holds c = kept-none
+
+next-marked-requires : tie.Need-next-marked-requires Inv-loop μ-loop
+next-marked-requires c κs = search needs
+
+same-length : tie.Need-same-length Inv-loop μ-loop
+same-length c = c .before .before .before .before .loop .inv .long
+
+returns : tie.Need-returns Inv-loop μ-loop
+returns c = c .before .before .before .before .loop .inv
+
+owner-at-requires : tie.Need-owner-at-requires Inv-loop μ-loop
+owner-at-requires c κs = search needs
+
+add-end : tie.Need-add-end Inv-loop μ-loop
+add-end c = search needs
+
+look-requires : tie.Need-look-requires Inv-loop μ-loop
+look-requires c κs = (c .before .before .before .before .before .before .before .before .before .before .before .before .before .pre, (c .before .before .before .owner-at .ensures, omega (arith, c .before .before .before .before .if1 .left)))
+
+unmark-requires : tie.Need-unmark-requires Inv-loop μ-loop
+unmark-requires c κs = search needs
+
+sub-left : tie.Need-sub-left Inv-loop μ-loop
+sub-left c = search needs
+
+loop-less : tie.Need-loop-less Inv-loop μ-loop
+loop-less c = search needs
+
+loop-again : tie.Need-loop-again Inv-loop μ-loop
+loop-again c = kept-then (c .before .before .before .before .before .before .before .before .before .before .before .before .before .loop .inv) (c .before .before .before .before .look .ensures)
+
+same-length-2 : tie.Need-same-length-2 Inv-loop μ-loop
+same-length-2 c = c .before .loop .inv .long
+
+returns-2 : tie.Need-returns-2 Inv-loop μ-loop
+returns-2 c = c .before .loop .inv
+
+pub look-at-marked-spec : {M : Type 1} → statement M
+look-at-marked-spec =
+    tie.close
+    (tie.spec
+    Inv-loop
+    μ-loop
+    loop-holds
+    next-marked-requires
+    same-length
+    returns
+    owner-at-requires
+    add-end
+    look-requires
+    unmark-requires
+    sub-left
+    loop-less
+    loop-again
+    same-length-2
+    returns-2)
