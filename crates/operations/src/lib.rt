@@ -7,10 +7,10 @@ ghost use mathlib.Core.Logic.{_⊎_};
 ghost use Prim.Native.Nat.{_+_, _*_, _-_, _<_, _≤_};
 ghost use lib.IntN.{pos, _+ℤ_};
 ghost use lib.ListN.{getD, set, length};
-ghost use Rattle.table.specs.Table.{tableOf};
+ghost use Rattle.table.specs.Table.{tableOf, argumentsIn};
 ghost use Rattle.machine.specs.Step.{wrap, isZero};
 ghost use Rattle.run_state.specs.Lists.{countsIn, startedIn, accumulatorsIn, cellsIn, countPlace, putCell};
-ghost use Rattle.run_state.specs.Shown.{valuePlace, HandlesThere, Naming};
+ghost use Rattle.run_state.specs.Shown.{valuePlace, Reaching, Naming};
 ghost use Rattle.operations.specs.Operation.{Placed, on, to, Locked, Called, Started};
 use numbers::is_zero;
 use numbers::wrapped_sum;
@@ -28,7 +28,6 @@ use run_state::places::put_count;
 use run_state::places::put_owner;
 use run_state::places::put_started;
 use run_state::places::started_of;
-use table::Arguments;
 use table::Statement;
 
 // What a step is answered with: the statement that ran, the statement that was refused and the number 16 to 19 of its refusal, or that the thread
@@ -39,11 +38,12 @@ pub enum Step {
     Nothing { number: u32 },
 }
 
-// Where a thread stands: its number, the slot of its newest frame, and that frame's next statement.
+// Where a thread stands: its number, the slot of its newest frame, that frame's next statement, and the line of that statement.
 pub struct Place {
     pub thread: usize,
     pub slot: usize,
     pub next: usize,
+    pub line: usize,
 }
 
 // What an operation is answered with: 0 or the number of its refusal, and the statement that its frame is at afterwards. The caller stores the latter;
@@ -146,7 +146,8 @@ pub fn take(h: usize, at: Place, locks: usize, words: &mut [u16; 545], values: &
     ensures { λ r. ⌜ Locked 16 0 (at .thread + 1) (getD (now (values .entry)) (valuePlace (at .slot) h) 0) at locks r (now (words .entry)) (now (words .exit)) ⌝ }
 {
     let k = value_of(values, at.slot, h);
-    hand_over(k, 0, at.thread + 1, 16, at, locks, words)
+    let owner = at.thread + 1;
+    hand_over(k, 0, owner, 16, at, locks, words)
 }
 
 // GIVE: "this thread's lock becomes free"; 17 where it is not this thread's.
@@ -155,7 +156,8 @@ pub fn give(h: usize, at: Place, locks: usize, words: &mut [u16; 545], values: &
     ensures { λ r. ⌜ Locked 17 (at .thread + 1) 0 (getD (now (values .entry)) (valuePlace (at .slot) h) 0) at locks r (now (words .entry)) (now (words .exit)) ⌝ }
 {
     let k = value_of(values, at.slot, h);
-    hand_over(k, at.thread + 1, 0, 17, at, locks, words)
+    let owner = at.thread + 1;
+    hand_over(k, owner, 0, 17, at, locks, words)
 }
 
 // POINT: "h refers to what g refers to".
@@ -168,19 +170,18 @@ pub fn point(h: usize, g: usize, at: Place, values: &mut [u8; 4096]) -> Move
     going_on(at)
 }
 
-// CALL: "opens a frame"; 19 where 32 are open.
+// CALL: "opens a frame"; 19 where 32 are open. The arguments are read from its line where they are wanted.
 pub fn call(
     numbers: &[i32],
     first: &[usize; 33],
     handle: &[usize; 33],
     routine: usize,
-    arguments: Arguments,
     at: Place,
     words: &mut [u16; 545],
     values: &mut [u8; 4096],
 ) -> Move
-    requires { ⌜ Naming (now numbers) (now first) (now handle) routine × Placed at × (at .slot + 1 ≡ at .thread * 32 + getD (countsIn (now words)) (at .thread) 0) × (length (now values) ≡ 4096) × HandlesThere (now numbers) ⌝ }
-    ensures { λ r. ⌜ Called (tableOf (now (numbers .entry))) (getD (now (first .entry)) routine 0) (getD (now (handle .entry)) routine 0) (getD (now (handle .entry)) (routine + 1) 0) arguments at r (now (words .entry)) (now (words .exit)) (now (values .entry)) (now (values .exit)) ⌝ }
+    requires { ⌜ Naming (now numbers) (now first) (now handle) routine × Placed at × (at .slot + 1 ≡ at .thread * 32 + getD (countsIn (now words)) (at .thread) 0) × (length (now values) ≡ 4096) × Reaching (now numbers) (at .line) ⌝ }
+    ensures { λ r. ⌜ Called (tableOf (now (numbers .entry))) (getD (now (first .entry)) routine 0) (getD (now (handle .entry)) routine 0) (getD (now (handle .entry)) (routine + 1) 0) (argumentsIn (now (numbers .entry)) (at .line)) at r (now (words .entry)) (now (words .exit)) (now (values .entry)) (now (values .exit)) ⌝ }
 {
     let slot = at.slot;
     let count = count_of(words, at.thread);
@@ -194,7 +195,7 @@ pub fn call(
         numbers,
         handle[routine],
         handle[routine + 1],
-        arguments,
+        at.line,
         values,
         slot + 1,
         slot,
@@ -204,20 +205,19 @@ pub fn call(
     going_on(at)
 }
 
-// START: "adds a thread"; 18 where 16 are started.
+// START: "adds a thread"; 18 where 16 are started. The arguments are read from its line where they are wanted.
 pub fn start(
     numbers: &[i32],
     first: &[usize; 33],
     handle: &[usize; 33],
     routine: usize,
-    arguments: Arguments,
     at: Place,
     words: &mut [u16; 545],
     values: &mut [u8; 4096],
     registers: &mut [i32; 80],
 ) -> Move
-    requires { ⌜ Naming (now numbers) (now first) (now handle) routine × Placed at × (at .slot < startedIn (now words) * 32) × (length (now values) ≡ 4096) × HandlesThere (now numbers) ⌝ }
-    ensures { λ r. ⌜ Started (tableOf (now (numbers .entry))) (getD (now (first .entry)) routine 0) (getD (now (handle .entry)) routine 0) (getD (now (handle .entry)) (routine + 1) 0) arguments at r (now (words .entry)) (now (words .exit)) (now (values .entry)) (now (values .exit)) (now (registers .entry)) (now (registers .exit)) ⌝ }
+    requires { ⌜ Naming (now numbers) (now first) (now handle) routine × Placed at × (at .slot < startedIn (now words) * 32) × (length (now values) ≡ 4096) × Reaching (now numbers) (at .line) ⌝ }
+    ensures { λ r. ⌜ Started (tableOf (now (numbers .entry))) (getD (now (first .entry)) routine 0) (getD (now (handle .entry)) routine 0) (getD (now (handle .entry)) (routine + 1) 0) (argumentsIn (now (numbers .entry)) (at .line)) at r (now (words .entry)) (now (words .exit)) (now (values .entry)) (now (values .exit)) (now (registers .entry)) (now (registers .exit)) ⌝ }
 {
     let slot = at.slot;
     let n = started_of(words);
@@ -231,7 +231,7 @@ pub fn start(
         numbers,
         handle[routine],
         handle[routine + 1],
-        arguments,
+        at.line,
         values,
         n * 32,
         slot,

@@ -14,7 +14,6 @@ ghost use Rattle.table.specs.Accepted.{Accepted};
 ghost use Rattle.machine.specs.State.{start};
 ghost use Rattle.run_state.specs.Lists.{cellsIn};
 ghost use Rattle.run_state.specs.Shown.{ListsShow, Fixed, Sized};
-use table::Arguments;
 
 // What a step asks of the table's header: the line of statement 0, and how many cells and locks there are.
 pub struct Sizes {
@@ -50,20 +49,16 @@ pub fn begin(
     values: &mut [u8; 4096],
     registers: &mut [i32; 80],
 )
-    requires { ⌜ Accepted (tableOf (now numbers)) × (now handle ≡ firstHandles (now numbers)) × (length (now numbers) ≡ 8 * statementLine (now numbers) (statements (now numbers))) × (length (now values) ≡ 4096) ⌝ }
+    requires { ⌜ Accepted (tableOf (now numbers)) × (now handle ≡ firstHandles (now numbers)) × (length (now numbers) ≡ 8 * statementLine (now numbers) (statements (now numbers))) ⌝ }
     ensures { λ _. ⌜ ListsShow (tableOf (now (numbers .entry))) (now (words .exit)) (now (values .exit)) (now (registers .exit)) (start (tableOf (now (numbers .entry)))) ⌝ }
 {
     *words = [0u16; 545];
+    *values = [0u8; 4096];
     *registers = [0i32; 80];
     words[512] = 1;
     words[528] = 1;
-    let nothing = Arguments {
-        first: 0,
-        second: 0,
-        third: 0,
-        fourth: 0,
-    };
-    frames::enter(numbers, handle[0], handle[1], nothing, values, 0, 1);
+    // routine 0 has no parameter, so any line will do for the arguments
+    frames::enter(numbers, handle[0], handle[1], 0, values, 0, 1);
 }
 
 // Copies the cells' values out.

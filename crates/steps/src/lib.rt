@@ -67,22 +67,18 @@ fn operate(
             at,
             values,
         ),
-        Statement::Call { routine, arguments } => operations::call(
+        Statement::Call {
+            routine,
+            arguments: _,
+        } => operations::call(numbers, first, handle, routine, at, words, values),
+        Statement::Start {
+            routine,
+            arguments: _,
+        } => operations::start(
             numbers,
             first,
             handle,
             routine,
-            arguments,
-            at,
-            words,
-            values,
-        ),
-        Statement::Start { routine, arguments } => operations::start(
-            numbers,
-            first,
-            handle,
-            routine,
-            arguments,
             at,
             words,
             values,
@@ -121,11 +117,13 @@ pub fn step(
     }
     let slot = n * 32 + count - 1;
     let next = places::next_of(words, slot);
-    let statement = table::statement_at(numbers, sizes.base + next);
+    let line = sizes.base + next;
+    let statement = table::statement_at(numbers, line);
     let at = Place {
         thread: n,
         slot,
         next,
+        line,
     };
     let done = operate(
         numbers,

@@ -1,6 +1,8 @@
 -- `run_state::begin` meets its contract. Assumes nothing.
-use Rattle.run_state.specs.TableLaws.{handles-there}
+use Rattle.run_state.specs.TableLaws.{reaching}
 use Rattle.run_state.specs.BeginLaws.{entering, begun}
+use mathlib.Core.Path.{refl}
+use native.Mathlib.Omega.{arith}
 use borrow.Author.Needs.{needs}
 use Rattle.run_state.proofs.begin.Statement.{statement}
 use Rattle.run_state.proofs.begin.Tie as tie
@@ -18,10 +20,10 @@ element-copy-out-enter-2 : tie.Need-element-copy-out-enter-2
 element-copy-out-enter-2 c = search needs
 
 enter-requires : tie.Need-enter-requires
-enter-requires c κs = let p = c .before .before .before .before .before .pre in (entering _ _ (p .0) (p .1), p .3, handles-there _ (p .2))
+enter-requires c κs = let p = c .before .before .before .before .before .before .pre in (entering _ _ (p .0) (p .1), refl, reaching _ 0 (p .2) (omega arith))
 
 returns : tie.Need-returns
-returns c = let p = c .before .before .before .before .before .before .pre in begun _ _ (p .0) (p .1) _ _ (p .3) (c .enter .ensures)
+returns c = let p = c .before .before .before .before .before .before .before .pre in begun _ _ (p .0) (p .1) _ _ (c .enter .ensures)
 
 pub begin-spec : {M : Type 1} → statement M
 begin-spec =
