@@ -1,4 +1,4 @@
--- "prints .. on refusal line 50, number, line, five zeros": its bytes, and what printing it leaves in a lent buffer. Assumes nothing.
+-- "On refusal it prints one line: 50, number, line, five zeros": its bytes, and what printing it leaves in a lent buffer. Assumes nothing.
 use Prim.Native.Nat.{ℕ}
 use mathlib.Core.Bool.{cond, _&&_}
 use mathlib.Core.List.{List, [], _∷_, _++_, map}

@@ -7,7 +7,7 @@ use native.Mathlib.Omega.{arith}
 use lib.Dec.{leb, ltb}
 use lib.IntN.{ℤ, pos}
 use lib.ListN.{length, drop}
-use borrow.Author.Tests.{lt-ltb, le-ltb, le-leb, lt-leb}
+use borrow.Author.Tests.{lt-ltb, le-ltb, le-leb, lt-leb, ltb-true, leb-true}
 use Rattle.lines.specs.Line.{lineText, allInField}
 use Rattle.lines.specs.LineLaws.{all-none, all-good, line-text-length}
 use Rattle.lines.specs.Print.{printedAt}
@@ -61,3 +61,15 @@ module _ (number line : ℕ) where
 
 pub nothing-said : (bytes out : List ℕ) → bytes ≡ [] → (0 ≡ length bytes) × (out ≡ over bytes out)
 nothing-said bytes out e = (sym (ap length e), rw e)
+
+-- what is written fits
+pub refusal-fits : (number line room : ℕ) → length (refusalIn number line room) ≤ room
+unfolding refusalIn
+refusal-fits number line room = go (ltb number 1000000) refl (ltb line 1000000) refl (leb 49 room) refl
+  where
+    go : (a : Bool) → ltb number 1000000 ≡ a → (b : Bool) → ltb line 1000000 ≡ b → (c : Bool) → leb 49 room ≡ c
+        → length (cond (a && b && c) (refusalText number line) []) ≤ room
+    go true p true q true r = omega (arith, refusal-long number line (ltb-true number 1000000 p) (ltb-true line 1000000 q), leb-true 49 room r)
+    go true p true q false r = omega arith
+    go true p false q c r = omega arith
+    go false p b q c r = omega arith

@@ -18,6 +18,8 @@ pub fn print_refusal(out: &mut [u8], number: u32, line: usize) -> usize
     if out.len() < 49 {
         return 0;
     }
-    lines::print_line(out, 0, [50, number as i32, line as i32, 0, 0, 0, 0, 0]);
+    let first = number as i32;
+    let second = line as i32;
+    lines::print_line(out, 0, [50, first, second, 0, 0, 0, 0, 0]);
     49
 }
