@@ -8,8 +8,8 @@
 
 enum { PLACES = 1024, EDGES = 4096, ROUNDS = 40 };
 
-// A slice of Rattle is a pointer and a count.
-typedef void solver(uint64_t *sets, size_t n, const uint16_t *from, size_t nfrom, const uint16_t *to, size_t nto);
+// A slice of Rattle is a pointer and a count. An edge is 65,536 times the place that it comes from, and the place that it leads to.
+typedef void solver(uint64_t *sets, size_t n, const uint32_t *edges, size_t count);
 solver sets_solve_up, plain_solve_pairs, plain_solve_single;
 
 static double seconds(void) {
@@ -19,7 +19,7 @@ static double seconds(void) {
 }
 
 static uint64_t start[PLACES], a[PLACES], b[PLACES];
-static uint16_t from[EDGES], to[EDGES];
+static uint32_t edges[EDGES];
 
 int main(void) {
     uint32_t x = 12345;
@@ -31,12 +31,11 @@ int main(void) {
         size_t high = 1 + (x >> 8) % (PLACES - 1);
         x = x * 1664525u + 1013904223u;
         size_t low = (x >> 8) % (high + 1);
-        from[k] = (uint16_t)high;
-        to[k] = (uint16_t)low;
         if (k % 4 == 3 && k / 4 < PLACES - 1) {
-            from[k] = (uint16_t)(PLACES - 2 - k / 4);
-            to[k] = (uint16_t)(PLACES - 1 - k / 4);
+            high = PLACES - 2 - k / 4;
+            low = PLACES - 1 - k / 4;
         }
+        edges[k] = (uint32_t)(high * 65536 + low);
     }
     solver *solvers[3] = {sets_solve_up, plain_solve_pairs, plain_solve_single};
     double best[3] = {1e9, 1e9, 1e9};
@@ -44,7 +43,7 @@ int main(void) {
         for (int v = 0; v < 3; v++) {
             memcpy(b, start, sizeof b);
             double t0 = seconds();
-            solvers[v](b, PLACES, from, EDGES, to, EDGES);
+            solvers[v](b, PLACES, edges, EDGES);
             double t = seconds() - t0;
             if (t < best[v]) best[v] = t;
             if (v == 0) memcpy(a, b, sizeof a);

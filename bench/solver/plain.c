@@ -16,30 +16,30 @@ static inline int put(uint64_t *sets, size_t n, size_t f, size_t t, int changed)
     return changed;
 }
 
-static int pass_pairs(uint64_t *sets, size_t n, const uint16_t *from, const uint16_t *to, size_t edges) {
-    size_t pairs = edges - edges % 2, k = 0;
+static int pass_pairs(uint64_t *sets, size_t n, const uint32_t *edges, size_t count) {
+    size_t pairs = count - count % 2, k = 0;
     int changed = 0;
     while (k < pairs) {
-        changed = put(sets, n, from[k], to[k], changed);
-        changed = put(sets, n, from[k + 1], to[k + 1], changed);
+        changed = put(sets, n, edges[k] / 65536, edges[k] % 65536, changed);
+        changed = put(sets, n, edges[k + 1] / 65536, edges[k + 1] % 65536, changed);
         k += 2;
     }
-    if (k < edges) return put(sets, n, from[k], to[k], changed);
+    if (k < count) return put(sets, n, edges[k] / 65536, edges[k] % 65536, changed);
     return changed;
 }
 
-static int pass_single(uint64_t *sets, size_t n, const uint16_t *from, const uint16_t *to, size_t edges) {
+static int pass_single(uint64_t *sets, size_t n, const uint32_t *edges, size_t count) {
     int changed = 0;
-    for (size_t k = 0; k < edges; k++) changed = put(sets, n, from[k], to[k], changed);
+    for (size_t k = 0; k < count; k++) changed = put(sets, n, edges[k] / 65536, edges[k] % 65536, changed);
     return changed;
 }
 
-void plain_solve_pairs(uint64_t *sets, size_t n, const uint16_t *from, size_t nfrom, const uint16_t *to, size_t nto) {
-    while (pass_pairs(sets, n, from, to, nfrom < nto ? nfrom : nto)) {
+void plain_solve_pairs(uint64_t *sets, size_t n, const uint32_t *edges, size_t count) {
+    while (pass_pairs(sets, n, edges, count)) {
     }
 }
 
-void plain_solve_single(uint64_t *sets, size_t n, const uint16_t *from, size_t nfrom, const uint16_t *to, size_t nto) {
-    while (pass_single(sets, n, from, to, nfrom < nto ? nfrom : nto)) {
+void plain_solve_single(uint64_t *sets, size_t n, const uint32_t *edges, size_t count) {
+    while (pass_single(sets, n, edges, count)) {
     }
 }

@@ -1,145 +1,150 @@
-// Flow, effects, given-up locks and futures of an accepted table, each the least sets along the edges of its definition, by the one solver.
-// `first`, `handle` and `counts` are the lists of table::first_statements, first_handles and parameter_counts. `from` and `to` lend the room for
-// the edges, four a statement; what stands in them before does not matter, and what is left in them says nothing.
-mod edges;
-mod parts;
-mod starts;
-
+// Flow, effects, given-up locks and futures of an accepted table, each the least sets along the edges of its equation, by the one solver.
+// `first`, `handle` and `counts` are the lists of table::first_statements, first_handles and parameter_counts. `edges` lends the room for the edges,
+// four a statement; what stands in it before does not matter, and what is left in it says nothing.
 ghost use mathlib.Core.Path.{_≡_};
 ghost use mathlib.Core.Bool.{true, false};
+ghost use mathlib.Core.List.{_++_, map};
 ghost use Prim.Native.Nat.{_+_, _*_, _≤_};
 ghost use lib.ListN.{length, take};
+ghost use Rattle.sets.specs.Least.{edgeOf, least};
 ghost use Rattle.table.specs.Header.{handles, routines, statements};
 ghost use Rattle.table.specs.Table.{tableOf};
-ghost use Rattle.table.specs.LayoutLaws.{Laid};
+ghost use Rattle.table.specs.Tabulate.{tabulate};
+ghost use Rattle.table.specs.Layout.{firstStatements, firstHandles, parameterCounts};
 ghost use Rattle.table.specs.Accepted.{Accepted};
-ghost use Rattle.sets.specs.Least.{least};
 ghost use Rattle.report.specs.Layout.{oneEach};
 ghost use Rattle.report.specs.Flow.{flowSets};
 ghost use Rattle.report.specs.Effect.{effects, gives};
 ghost use Rattle.report.specs.Future.{futures};
-use sets::Order;
+ghost use Rattle.edges.specs.Equations.{inRoutine, futureInitial};
+use solver::Order;
 
 // Makes the sets the least ones along the first `n` edges.
-fn settle(out: &mut [u64], from: &[u16], to: &[u16], n: usize, order: Order)
-    requires { ⌜ (n ≤ length (now from)) × (n ≤ length (now to)) ⌝ }
-    ensures { λ _. ⌜ now (out .exit) ≡ least (take n (now (from .entry))) (take n (now (to .entry))) (now (out .entry)) ⌝ }
+fn settle(out: &mut [u64], edges: &[u32], n: usize, order: Order)
+    requires { ⌜ n ≤ length (now edges) ⌝ }
+    ensures { λ _. ⌜ now (out .exit) ≡ least (map edgeOf (take n (now (edges .entry)))) (now (out .entry)) ⌝ }
 {
-    sets::solve(out, &from[..n], &to[..n], order);
+    solver::solve(out, &edges[..n], order);
 }
 
-// Leaves in `out` the flow set of each handle.
+// Leaves in `flow` the flow set of each handle.
 pub fn flow_sets(
     numbers: &[i32],
-    first: &[usize],
     handle: &[usize],
     counts: &[usize],
-    from: &mut [u16],
-    to: &mut [u16],
+    edges: &mut [u32],
+    flow: &mut [u64],
+)
+    requires { ⌜ Accepted (tableOf (now numbers)) ⌝ }
+    requires { ⌜ now handle ≡ firstHandles (now numbers) ⌝ }
+    requires { ⌜ now counts ≡ parameterCounts (now numbers) ⌝ }
+    requires { ⌜ 4 * statements (now numbers) ≤ length (now edges) ⌝ }
+    requires { ⌜ length (now flow) ≡ handles (now numbers) ⌝ }
+    ensures { λ _. ⌜ now (flow .exit) ≡ flowSets (tableOf (now (numbers .entry))) (oneEach (tableOf (now (numbers .entry)))) ⌝ }
+{
+    let n = edges::fill_flow(numbers, handle, counts, edges);
+    initial::fill_flow(numbers, flow);
+    settle(flow, edges, n, Order::FirstToLast);
+}
+
+// Leaves in `out` the least sets along the first `n` edges, from what the statements of each routine give up, write or read themselves.
+fn own_sets(
+    numbers: &[i32],
+    first: &[usize],
+    flow: &[u64],
+    locks: bool,
+    writes: bool,
+    edges: &[u32],
+    n: usize,
     out: &mut [u64],
 )
-    requires { ⌜ Laid (now numbers) (now first) (now handle) (now counts) ⌝ }
     requires { ⌜ Accepted (tableOf (now numbers)) ⌝ }
-    requires { ⌜ (4 * statements (now numbers) ≤ length (now from)) × (4 * statements (now numbers) ≤ length (now to)) ⌝ }
-    requires { ⌜ length (now out) ≡ handles (now numbers) ⌝ }
-    ensures { λ _. ⌜ now (out .exit) ≡ flowSets (tableOf (now (numbers .entry))) (oneEach (tableOf (now (numbers .entry)))) ⌝ }
+    requires { ⌜ now first ≡ firstStatements (now numbers) ⌝ }
+    requires { ⌜ n ≤ length (now edges) ⌝ }
+    requires { ⌜ length (now out) ≡ routines (now numbers) ⌝ }
+    ensures { λ _. ⌜ now (out .exit) ≡ least (map edgeOf (take n (now (edges .entry)))) (tabulate (length (now (out .entry))) (inRoutine locks writes (now (flow .entry)) (tableOf (now (numbers .entry))))) ⌝ }
 {
-    let n = edges::fill_flow(numbers, first, handle, counts, from, to);
-    starts::fill_flow(numbers, out);
-    settle(out, from, to, n, Order::FirstToLast);
+    initial::fill_own(numbers, first, flow, locks, writes, out);
+    settle(out, edges, n, Order::LastToFirst);
 }
 
 // Leaves in `reads` and `writes` the cells that each routine reads and writes, with those of all it CALLs or STARTs.
 pub fn effect_sets(
     numbers: &[i32],
     first: &[usize],
-    handle: &[usize],
-    counts: &[usize],
     flow: &[u64],
-    from: &mut [u16],
-    to: &mut [u16],
+    edges: &mut [u32],
     reads: &mut [u64],
     writes: &mut [u64],
 )
-    requires { ⌜ Laid (now numbers) (now first) (now handle) (now counts) ⌝ }
     requires { ⌜ Accepted (tableOf (now numbers)) ⌝ }
-    requires { ⌜ (4 * statements (now numbers) ≤ length (now from)) × (4 * statements (now numbers) ≤ length (now to)) ⌝ }
-    requires { ⌜ (length (now reads) ≡ routines (now numbers)) × (length (now writes) ≡ routines (now numbers)) ⌝ }
+    requires { ⌜ now first ≡ firstStatements (now numbers) ⌝ }
+    requires { ⌜ 4 * statements (now numbers) ≤ length (now edges) ⌝ }
+    requires { ⌜ length (now reads) ≡ routines (now numbers) ⌝ }
+    requires { ⌜ length (now writes) ≡ routines (now numbers) ⌝ }
     ensures reads { λ _. ⌜ now (reads .exit) ≡ effects (tableOf (now (numbers .entry))) (oneEach (tableOf (now (numbers .entry)))) (now (flow .entry)) false ⌝ }
     ensures writes { λ _. ⌜ now (writes .exit) ≡ effects (tableOf (now (numbers .entry))) (oneEach (tableOf (now (numbers .entry)))) (now (flow .entry)) true ⌝ }
 {
-    let n = edges::fill_up(numbers, first, handle, counts, true, from, to);
-    starts::fill_own(numbers, first, handle, counts, flow, false, false, reads);
-    settle(reads, from, to, n, Order::LastToFirst);
-    starts::fill_own(numbers, first, handle, counts, flow, false, true, writes);
-    settle(writes, from, to, n, Order::LastToFirst);
+    let n = edges::fill_naming(numbers, first, true, edges);
+    own_sets(numbers, first, flow, false, false, edges, n, reads);
+    own_sets(numbers, first, flow, false, true, edges, n, writes);
 }
 
-// Leaves in `out` the locks that each routine, or what it reaches by CALLs, may give up.
+// Leaves in `given` the locks that each routine, or what it reaches by CALLs, may give up.
 pub fn given_sets(
     numbers: &[i32],
     first: &[usize],
-    handle: &[usize],
-    counts: &[usize],
     flow: &[u64],
-    from: &mut [u16],
-    to: &mut [u16],
-    out: &mut [u64],
+    edges: &mut [u32],
+    given: &mut [u64],
 )
-    requires { ⌜ Laid (now numbers) (now first) (now handle) (now counts) ⌝ }
     requires { ⌜ Accepted (tableOf (now numbers)) ⌝ }
-    requires { ⌜ (4 * statements (now numbers) ≤ length (now from)) × (4 * statements (now numbers) ≤ length (now to)) ⌝ }
-    requires { ⌜ length (now out) ≡ routines (now numbers) ⌝ }
-    ensures { λ _. ⌜ now (out .exit) ≡ gives (tableOf (now (numbers .entry))) (oneEach (tableOf (now (numbers .entry)))) (now (flow .entry)) ⌝ }
+    requires { ⌜ now first ≡ firstStatements (now numbers) ⌝ }
+    requires { ⌜ 4 * statements (now numbers) ≤ length (now edges) ⌝ }
+    requires { ⌜ length (now given) ≡ routines (now numbers) ⌝ }
+    ensures { λ _. ⌜ now (given .exit) ≡ gives (tableOf (now (numbers .entry))) (oneEach (tableOf (now (numbers .entry)))) (now (flow .entry)) ⌝ }
 {
-    let n = edges::fill_up(numbers, first, handle, counts, false, from, to);
-    starts::fill_own(numbers, first, handle, counts, flow, true, false, out);
-    settle(out, from, to, n, Order::LastToFirst);
+    let n = edges::fill_naming(numbers, first, false, edges);
+    own_sets(numbers, first, flow, true, false, edges, n, given);
 }
 
-// Leaves in `later_reads` and `later_writes` the future of each statement, and behind them that of the CALLs of each routine: the cells that are
-// read and written; `reads` and `writes` are the effects.
+// Leaves in `out` the least sets along the first `n` edges, from the effects of what may come next.
+fn later_sets(
+    numbers: &[i32],
+    flow: &[u64],
+    effect: &[u64],
+    writes: bool,
+    edges: &[u32],
+    n: usize,
+    out: &mut [u64],
+)
+    requires { ⌜ Accepted (tableOf (now numbers)) ⌝ }
+    requires { ⌜ n ≤ length (now edges) ⌝ }
+    ensures { λ _. ⌜ now (out .exit) ≡ least (map edgeOf (take n (now (edges .entry)))) (tabulate (length (now (out .entry))) (futureInitial writes (now (flow .entry)) (now (effect .entry)) (tableOf (now (numbers .entry))))) ⌝ }
+{
+    initial::fill_future(numbers, flow, effect, writes, out);
+    settle(out, edges, n, Order::LastToFirst);
+}
+
+// Leaves in `later` the future of each statement, and behind them that of the CALLs of each routine: first the cells that are read, then those that
+// are written; `reads` and `writes` are the effects.
 pub fn future_sets(
     numbers: &[i32],
     first: &[usize],
-    handle: &[usize],
-    counts: &[usize],
     flow: &[u64],
     reads: &[u64],
     writes: &[u64],
-    from: &mut [u16],
-    to: &mut [u16],
-    later_reads: &mut [u64],
-    later_writes: &mut [u64],
+    edges: &mut [u32],
+    later: &mut [u64],
 )
-    requires { ⌜ Laid (now numbers) (now first) (now handle) (now counts) ⌝ }
     requires { ⌜ Accepted (tableOf (now numbers)) ⌝ }
-    requires { ⌜ (4 * statements (now numbers) ≤ length (now from)) × (4 * statements (now numbers) ≤ length (now to)) ⌝ }
-    requires { ⌜ (length (now «later_reads») ≡ statements (now numbers) + routines (now numbers)) × (length (now «later_writes») ≡ statements (now numbers) + routines (now numbers)) ⌝ }
-    ensures reads { λ _. ⌜ now («later_reads» .exit) ≡ futures (tableOf (now (numbers .entry))) (oneEach (tableOf (now (numbers .entry)))) (now (flow .entry)) (now (reads .entry)) false ⌝ }
-    ensures writes { λ _. ⌜ now («later_writes» .exit) ≡ futures (tableOf (now (numbers .entry))) (oneEach (tableOf (now (numbers .entry)))) (now (flow .entry)) (now (writes .entry)) true ⌝ }
+    requires { ⌜ now first ≡ firstStatements (now numbers) ⌝ }
+    requires { ⌜ 4 * statements (now numbers) ≤ length (now edges) ⌝ }
+    requires { ⌜ length (now later) ≡ 2 * (statements (now numbers) + routines (now numbers)) ⌝ }
+    ensures { λ _. ⌜ now (later .exit) ≡ futures (tableOf (now (numbers .entry))) (oneEach (tableOf (now (numbers .entry)))) (now (flow .entry)) (now (reads .entry)) false ++ futures (tableOf (now (numbers .entry))) (oneEach (tableOf (now (numbers .entry)))) (now (flow .entry)) (now (writes .entry)) true ⌝ }
 {
-    let n = edges::fill_future(numbers, first, handle, counts, from, to);
-    starts::fill_future(
-        numbers,
-        first,
-        handle,
-        counts,
-        flow,
-        reads,
-        false,
-        later_reads,
-    );
-    settle(later_reads, from, to, n, Order::LastToFirst);
-    starts::fill_future(
-        numbers,
-        first,
-        handle,
-        counts,
-        flow,
-        writes,
-        true,
-        later_writes,
-    );
-    settle(later_writes, from, to, n, Order::LastToFirst);
+    let n = edges::fill_future(numbers, first, edges);
+    let places = later.len() / 2;
+    later_sets(numbers, flow, reads, false, edges, n, &mut later[..places]);
+    later_sets(numbers, flow, writes, true, edges, n, &mut later[places..]);
 }

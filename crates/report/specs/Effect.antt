@@ -5,9 +5,10 @@ use Prim.Native.Nat.{ℕ}
 use mathlib.Core.Bool.{Bool}
 use mathlib.Core.List.{List, [], _∷_}
 use lib.ListN.{getD}
+use Rattle.sets.specs.Least.{Edge, least}
 use Rattle.table.specs.Table.{Table, routine, statement}
 use Rattle.table.specs.Tabulate.{tabulate}
-use Rattle.report.specs.Over.{joinedFrom, unionFrom, Edge, leastAlong}
+use Rattle.report.specs.Over.{joinedFrom, unionFrom}
 use Rattle.report.specs.Layout.{Layout}
 use Rattle.report.specs.Operations.{accessed, given, byNaming}
 use Rattle.report.specs.Flow.{flowAt}
@@ -32,12 +33,12 @@ callEdges t k = joinedFrom 0 (k .statements) (λ p. byNaming (upFrom k p ∷ [])
 -- the reads or the writes of each copy
 unfoldable pub effects : Table → Layout → List ℕ → Bool → List ℕ
 effects t k flow w =
-    leastAlong (namingEdges t k) (tabulate (k .copies) (λ c. overCopy t k (λ s. accessed w (flowAt k flow c) 0 (statement t s)) c))
+    least (namingEdges t k) (tabulate (k .copies) (λ c. overCopy t k (λ s. accessed w (flowAt k flow c) 0 (statement t s)) c))
 
 -- the locks that each copy may give up
 unfoldable pub gives : Table → Layout → List ℕ → List ℕ
 gives t k flow =
-    leastAlong (callEdges t k) (tabulate (k .copies) (λ c. overCopy t k (λ s. given (flowAt k flow c) (statement t s)) c))
+    least (callEdges t k) (tabulate (k .copies) (λ c. overCopy t k (λ s. given (flowAt k flow c) (statement t s)) c))
 
 -- the effect of statement s of copy c: its own reads or writes, or those of the routine that it names
 unfoldable pub effectOf : Table → Layout → List ℕ → List ℕ → Bool → ℕ → ℕ → ℕ

@@ -6,13 +6,13 @@ use mathlib.Core.List.{List, [], _∷_, List·Memᴰ, List·Memᴰ·head, List·
 use native.Mathlib.Omega.{arith}
 use lib.ListN.{getD}
 use Rattle.sets.specs.Set.{has}
-use Rattle.sets.specs.Least.{SetList}
+use Rattle.sets.specs.Least.{SetList, Edge, least}
+use Rattle.sets.specs.LeastLaws.{least-sets, least-holds-start, least-edge, least-induction}
 use Rattle.table.specs.Table.{Table, routine, statement}
 use Rattle.table.specs.Tabulate.{tabulate}
 use Rattle.table.specs.declared.Statement.{Statement}
 use Rattle.table.specs.declared.Statement.the-variants.{Read, Write, Set, Add, Take, Give, Point, Call, Start, Jump, JumpZero, Return}
-use Rattle.report.specs.Over.{Edge, leastAlong}
-use Rattle.report.specs.OverLaws.{Within, none-in, union-has, union-from, unionFrom-below, tabulate-sets, tabulate-has, tabulate-from, along-sets, along-start, along-edge, along-induction}
+use Rattle.report.specs.OverLaws.{Within, none-in, union-has, union-from, unionFrom-below, tabulate-sets, tabulate-has, tabulate-from}
 use Rattle.report.specs.Layout.{Layout}
 use Rattle.report.specs.Fits.{Fits, copiesOf}
 use Rattle.report.specs.Operations.{accessed, given, byNaming}
@@ -55,27 +55,27 @@ module _ (t : Table) (k : Layout) (fits : Fits t k) (own : ℕ → Statement →
   unfolding overCopy
   owns-sets = tabulate-sets (k .copies) _ (λ c. unionFrom-below _ _ _ (λ s. below c (statement t s)))
 
-  up-sets : SetList (k .copies) (leastAlong es owns)
-  up-sets = along-sets (k .copies) es owns owns-sets
+  up-sets : SetList (k .copies) (least es owns)
+  up-sets = least-sets (k .copies) es owns owns-sets
 
   own-has : (c s : ℕ) → Place (copiesOf fits) c s → (σ : Statement) → statement t s ≡ σ → (x : ℕ) → has (own c σ) x ≡ true
-      → has (getD (leastAlong es owns) c 0) x ≡ true
+      → has (getD (least es owns) c 0) x ≡ true
   unfolding overCopy
   own-has c s w σ e x h =
-      along-start (k .copies) es owns owns-sets c x
+      least-holds-start (k .copies) es owns owns-sets .at c x
       (tabulate-has (k .copies) (λ c. overCopy t k (λ s. own c (statement t s)) c) c x (w .there)
       (union-has _ _ (λ s. own c (statement t s)) s x (record { low = w .inside .low; high = w .inside .high }) (ap (λ (τ : Statement). has (own c τ) x) e ∙ h)))
 
   up-edge : (c s : ℕ) → c < k .copies → List·Memᴰ (record { from = k .leads c s; to = c }) es → (x : ℕ)
-      → has (getD (leastAlong es owns) (k .leads c s) 0) x ≡ true → has (getD (leastAlong es owns) c 0) x ≡ true
-  up-edge c s l m x h = along-edge (k .copies) es owns owns-sets (record { from = k .leads c s; to = c }) m l x h
+      → has (getD (least es owns) (k .leads c s) 0) x ≡ true → has (getD (least es owns) c 0) x ≡ true
+  up-edge c s l m x h = least-edge (k .copies) es owns owns-sets (record { from = k .leads c s; to = c }) m l x h
 
   up-induction : (P : ℕ → ℕ → Type 0) → ((e : Edge) → List·Memᴰ e es → (x : ℕ) → P (e .from) x → P (e .to) x)
       → ((c s : ℕ) → Place (copiesOf fits) c s → (x : ℕ) → has (own c (statement t s)) x ≡ true → P c x)
-      → (c x : ℕ) → has (getD (leastAlong es owns) c 0) x ≡ true → P c x
+      → (c x : ℕ) → has (getD (least es owns) c 0) x ≡ true → P c x
   unfolding overCopy
   up-induction P f g =
-      along-induction (k .copies) es owns owns-sets P (λ e m l x h. f e m x h)
+      least-induction (k .copies) es owns owns-sets P (λ e m l x h. f e m x h)
       (λ c x h.
       let r : (c < k .copies) × (has (overCopy t k (λ s. own c (statement t s)) c) x ≡ true) =
       tabulate-from (k .copies) (λ c. overCopy t k (λ s. own c (statement t s)) c) c x h in

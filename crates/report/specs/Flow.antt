@@ -6,12 +6,13 @@ use mathlib.Core.List.{List, [], _∷_}
 use lib.Dec.{eqb}
 use lib.ListN.{getD}
 use Rattle.sets.specs.Set.{one}
+use Rattle.sets.specs.Least.{Edge, least}
 use Rattle.table.specs.Table.{Table, declaration, routine, statement, passed}
 use Rattle.table.specs.Tabulate.{tabulate}
 use Rattle.table.specs.declared.Arguments.{Arguments}
 use Rattle.table.specs.declared.Statement.{Statement}
 use Rattle.table.specs.declared.Statement.the-variants.{Read, Write, Set, Add, Take, Give, Point, Call, Start, Jump, JumpZero, Return}
-use Rattle.report.specs.Over.{joinedFrom, Edge, leastAlong}
+use Rattle.report.specs.Over.{joinedFrom}
 use Rattle.report.specs.Layout.{Layout}
 
 -- the flow set of handle h of copy c
@@ -54,4 +55,4 @@ flowStarts t k = tabulate (k .handles) (λ p. startOf t (k .handleAt p))
 
 -- "Flow: the least sets" under the rules above
 unfoldable pub flowSets : Table → Layout → List ℕ
-flowSets t k = leastAlong (allFlowEdges t k) (flowStarts t k)
+flowSets t k = least (allFlowEdges t k) (flowStarts t k)

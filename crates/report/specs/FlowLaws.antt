@@ -10,14 +10,14 @@ use lib.ListN.{length, getD}
 use borrow.Author.Tests.{eqb-true, eq-eqb}
 use Rattle.sets.specs.Set.{has, one}
 use Rattle.sets.specs.SetLaws.{has-one, one-below}
-use Rattle.sets.specs.Least.{SetList}
+use Rattle.sets.specs.Least.{SetList, Edge}
+use Rattle.sets.specs.LeastLaws.{least-sets, least-holds-start, least-edge, least-induction}
 use Rattle.table.specs.Table.{Table, declaration, routine, statement, passed, OwnHandle}
 use Rattle.table.specs.Accepted.{Accepted, Operands, Passes, Names, HandleFacts}
 use Rattle.table.specs.declared.Arguments.{Arguments}
 use Rattle.table.specs.declared.Statement.{Statement}
 use Rattle.table.specs.declared.Statement.the-variants.{Read, Write, Set, Add, Take, Give, Point, Call, Start, Jump, JumpZero, Return}
-use Rattle.report.specs.Over.{Edge}
-use Rattle.report.specs.OverLaws.{Within, none-in, joined-has, joined-from, below-within, within-below, tabulate-sets, tabulate-has, tabulate-from, along-sets, along-start, along-edge, along-induction}
+use Rattle.report.specs.OverLaws.{Within, none-in, joined-has, joined-from, below-within, within-below, tabulate-sets, tabulate-has, tabulate-from}
 use Rattle.report.specs.Layout.{Layout}
 use Rattle.report.specs.Fits.{Fits, HandlePlaced, HandleThere, copiesOf}
 use Rattle.report.specs.Flow.{flowAt, startOf, passing, flowEdges, allFlowEdges, flowStarts, flowSets}
@@ -71,7 +71,7 @@ module _ (t : Table) (k : Layout) (acc : Accepted t) (fits : Fits t k) where
 
   pub flow-sets : SetList (k .handles) (flowSets t k)
   unfolding flowSets
-  flow-sets = along-sets (k .handles) (allFlowEdges t k) (flowStarts t k) starts-sets
+  flow-sets = least-sets (k .handles) (allFlowEdges t k) (flowStarts t k) starts-sets
 
   -- ---- the rules
 
@@ -80,7 +80,7 @@ module _ (t : Table) (k : Layout) (acc : Accepted t) (fits : Fits t k) where
         → has (getD (flowSets t k) (e .from) 0) x ≡ true → has (getD (flowSets t k) (e .to) 0) x ≡ true
     unfolding flowSets allFlowEdges
     carries σ q e m l x h =
-        along-edge (k .handles) (allFlowEdges t k) (flowStarts t k) starts-sets e
+        least-edge (k .handles) (allFlowEdges t k) (flowStarts t k) starts-sets e
         (among-all t k fits (λ p d z τ. flowEdges t k d z τ) e c s w σ q m) l x h
 
     parameter-placed : (q j : ℕ) → Names (statement t s) q → j < routine t q .parameters → HandlePlaced k (k .leads c s) (routine t q .handle + j)
@@ -120,7 +120,7 @@ module _ (t : Table) (k : Layout) (acc : Accepted t) (fits : Fits t k) where
   starts : (p : ℕ) → p < k .handles → (x : ℕ) → has (startOf t (k .handleAt p)) x ≡ true → has (getD (flowSets t k) p 0) x ≡ true
   unfolding flowSets flowStarts
   starts p l x h =
-      along-start (k .handles) (allFlowEdges t k) (flowStarts t k) starts-sets p x (tabulate-has (k .handles) (λ p. startOf t (k .handleAt p)) p x l h)
+      least-holds-start (k .handles) (allFlowEdges t k) (flowStarts t k) starts-sets .at p x (tabulate-has (k .handles) (λ p. startOf t (k .handleAt p)) p x l h)
 
   pub flow-rules : FlowRules (copiesOf fits) (FlowHas k (flowSets t k))
   flow-rules = record {
@@ -184,7 +184,7 @@ module _ (t : Table) (k : Layout) (acc : Accepted t) (fits : Fits t k) where
     everywhere : (p x : ℕ) → has (getD (flowSets t k) p 0) x ≡ true → At p x
     unfolding flowSets allFlowEdges flowStarts
     everywhere =
-        along-induction (k .handles) (allFlowEdges t k) (flowStarts t k) starts-sets At
+        least-induction (k .handles) (allFlowEdges t k) (flowStarts t k) starts-sets At
         (λ e m l x a.
         let r : (p : ℕ) × (p < k .statements) × List·Memᴰ e (flowEdges t k (k .statementCopy p) (k .statementAt p) (statement t (k .statementAt p))) =
         of-some t k fits (λ p d z τ. flowEdges t k d z τ) e m in

@@ -5,9 +5,10 @@ use Prim.Native.Nat.{ℕ, _+_}
 use mathlib.Core.Bool.{Bool, cond}
 use mathlib.Core.List.{List, [], _∷_, _++_, map}
 use lib.Dec.{ltb}
+use Rattle.sets.specs.Least.{Edge, least}
 use Rattle.table.specs.Table.{Table, statement}
 use Rattle.table.specs.Tabulate.{tabulate}
-use Rattle.report.specs.Over.{joinedFrom, unionAt, Edge, leastAlong}
+use Rattle.report.specs.Over.{joinedFrom, unionAt}
 use Rattle.report.specs.Layout.{Layout}
 use Rattle.report.specs.Operations.{nexts, byNaming}
 use Rattle.report.specs.Effect.{effectOf}
@@ -37,4 +38,4 @@ futureStarts t k flow effect w =
 
 -- the reads or the writes in the futures
 unfoldable pub futures : Table → Layout → List ℕ → List ℕ → Bool → List ℕ
-futures t k flow effect w = leastAlong (futureEdges t k) (futureStarts t k flow effect w)
+futures t k flow effect w = least (futureEdges t k) (futureStarts t k flow effect w)

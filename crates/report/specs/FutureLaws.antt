@@ -9,14 +9,15 @@ use lib.Dec.{ltb}
 use lib.ListN.{getD}
 use borrow.Author.Tests.{ltb-true, lt-ltb}
 use Rattle.sets.specs.Set.{has}
-use Rattle.sets.specs.Least.{SetList}
+use Rattle.sets.specs.Least.{SetList, Edge}
+use Rattle.sets.specs.LeastLaws.{least-sets, least-holds-start, least-edge, least-induction}
 use Rattle.table.specs.Table.{Table, statement}
 use Rattle.table.specs.Accepted.{Accepted}
 use Rattle.table.specs.declared.Arguments.{Arguments}
 use Rattle.table.specs.declared.Statement.{Statement}
 use Rattle.table.specs.declared.Statement.the-variants.{Read, Write, Set, Add, Take, Give, Point, Call, Start, Jump, JumpZero, Return}
-use Rattle.report.specs.Over.{Edge, unionAt}
-use Rattle.report.specs.OverLaws.{none-in, unionAt-has, unionAt-from, unionAt-below, tabulate-sets, tabulate-has, tabulate-from, along-sets, along-start, along-edge, along-induction}
+use Rattle.report.specs.Over.{unionAt}
+use Rattle.report.specs.OverLaws.{none-in, unionAt-has, unionAt-from, unionAt-below, tabulate-sets, tabulate-has, tabulate-from}
 use Rattle.report.specs.Layout.{Layout}
 use Rattle.report.specs.Fits.{Fits, StatementPlaced, copiesOf}
 use Rattle.report.specs.Operations.{nexts, byNaming}
@@ -57,7 +58,7 @@ module _ (t : Table) (k : Layout) (acc : Accepted t) (fits : Fits t k) (flow : L
 
   pub futures-sets : (w : Bool) → SetList (k .statements + k .copies) (futures t k flow (effect w) w)
   unfolding futures
-  futures-sets w = along-sets (k .statements + k .copies) (futureEdges t k) (futureStarts t k flow (effect w) w) (starts-sets w)
+  futures-sets w = least-sets (k .statements + k .copies) (futureEdges t k) (futureStarts t k flow (effect w) w) (starts-sets w)
 
   -- the edges that a statement makes
   abbrev nextEdges : ℕ → ℕ → ℕ → Statement → List Edge
@@ -74,7 +75,7 @@ module _ (t : Table) (k : Layout) (acc : Accepted t) (fits : Fits t k) (flow : L
       → has (getD (futures t k flow (effect w) w) (e .from) 0) x ≡ true → has (getD (futures t k flow (effect w) w) (e .to) 0) x ≡ true
   unfolding futures futureEdges
   along w c s v σ q e m l x h =
-      along-edge (k .statements + k .copies) (futureEdges t k) (futureStarts t k flow (effect w) w) (starts-sets w) e
+      least-edge (k .statements + k .copies) (futureEdges t k) (futureStarts t k flow (effect w) w) (starts-sets w) e
       (among-all t k fits edgesAt e c s v σ q m) l x h
 
   -- ---- the rules
@@ -89,7 +90,7 @@ module _ (t : Table) (k : Layout) (acc : Accepted t) (fits : Fits t k) (flow : L
       → Does (copiesOf fits) (FlowHas k flow) (EffectHas effect) c s′ (statement t s′) w x → Future c s w x
   unfolding futures futureStarts nextEffects effectOf
   at-next c s s′ w x v g d =
-      along-start (k .statements + k .copies) (futureEdges t k) (futureStarts t k flow (effect w) w) (starts-sets w) (k .statementPlace c s) x
+      least-holds-start (k .statements + k .copies) (futureEdges t k) (futureStarts t k flow (effect w) w) (starts-sets w) .at (k .statementPlace c s) x
       (tabulate-has (k .statements + k .copies) (startAt w) (k .statementPlace c s) x (place-below c s v)
       (rw (lt-ltb (k .statementPlace c s) (k .statements) (placed t k fits c s v .there))
       (at-placed t k fits (λ p b z τ. has (unionAt (nexts z τ) (effectOf t k flow (effect w) w b)) x ≡ true) c s v (statement t s) refl
@@ -222,7 +223,7 @@ module _ (t : Table) (k : Layout) (acc : Accepted t) (fits : Fits t k) (flow : L
     everywhere : (p x : ℕ) → has (getD (futures t k flow (effect w) w) p 0) x ≡ true → Ahead p x
     unfolding futures futureEdges futureStarts
     everywhere =
-        along-induction (k .statements + k .copies) (futureEdges t k) (futureStarts t k flow (effect w) w) (starts-sets w) Ahead
+        least-induction (k .statements + k .copies) (futureEdges t k) (futureStarts t k flow (effect w) w) (starts-sets w) Ahead
         (λ e m l x a.
         let r : (p : ℕ) × (p < k .statements) × List·Memᴰ e (edgesAt p (k .statementCopy p) (k .statementAt p) (statement t (k .statementAt p))) =
         of-some t k fits edgesAt e m in

@@ -1,9 +1,8 @@
--- Lists, sets and counts over a range of numbers, and edges between the places of a list of sets. Assumes nothing.
+-- Lists, sets and counts over a range of numbers. Assumes nothing.
 use Prim.Native.Nat.{ℕ, zero, suc, _+_}
 use mathlib.Core.Bool.{Bool, cond}
-use mathlib.Core.List.{List, [], _∷_, _++_, map}
+use mathlib.Core.List.{List, [], _∷_, _++_}
 use Rattle.sets.specs.Set.{union, inter}
-use Rattle.sets.specs.Least.{least}
 
 -- the lists of n numbers, `from` the first, one behind the other
 module _ {A : Type 0} where
@@ -30,19 +29,3 @@ countFrom from (suc n) test = cond (test from) 1 0 + countFrom (from + 1) n test
 unfoldable pub unionAt : List ℕ → (ℕ → ℕ) → ℕ
 unionAt [] f = 0
 unionAt (p ∷ ps) f = union (f p) (unionAt ps f)
-
--- an edge puts the set at one place into the set at another
-pub record Edge : Type 0 where
-  pub from : ℕ
-  pub to : ℕ
-
--- where the edges of a list come from, and where they lead to
-unfoldable pub froms : List Edge → List ℕ
-froms es = map (λ (e : Edge). e .from) es
-
-unfoldable pub tos : List Edge → List ℕ
-tos es = map (λ (e : Edge). e .to) es
-
--- the least list that holds s and is closed under the edges
-unfoldable pub leastAlong : List Edge → List ℕ → List ℕ
-leastAlong es s = least (froms es) (tos es) s

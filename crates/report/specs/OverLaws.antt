@@ -1,22 +1,20 @@
--- What lists, sets and counts over a range of numbers have in them, and the least sets along edges. Assumes nothing.
+-- What lists, sets and counts over a range of numbers have in them. Assumes nothing.
 use Prim.Native.Nat.{ℕ, zero, suc, _+_, _^_, _≤_, _<_}
 use mathlib.Core.Path.{_≡_, refl, sym, ap, _∙_, subst}
 use mathlib.Core.Bool.{Bool, true, false, _&&_}
 use mathlib.Core.Logic.{_⊎_, inl, inr}
 use mathlib.Core.List.{List, [], _∷_, _++_, List·Memᴰ, List·Memᴰ·head, List·Memᴰ·tail, Memᴰ·append-left, Memᴰ·append-right, List·Memᴰ·append-cases, append-nil, append-assoc}
-use native.Mathlib.Nat.{add-zero, le-refl, zero-lt-suc, le-of-suc-le-suc}
+use native.Mathlib.Nat.{add-zero, le-refl}
 use native.Mathlib.Omega.{arith}
 use lib.Dec.{eqb, ltb}
 use lib.ListN.{length, getD, List·getD-eq-default}
 use borrow.Author.Tests.{eqb-true, eqb-false, ltb-true, ltb-false}
 use Rattle.sets.specs.Set.{has}
 use Rattle.sets.specs.SetLaws.{has-union-left, has-union-right, union-cases, union-below, has-inter, has-empty}
-use Rattle.sets.specs.Least.{SetList, Inside, least, Held}
-use Rattle.sets.specs.InsideLaws.{inside-equal}
-use Rattle.sets.specs.LeastLaws.{least-sets, least-holds-start, least-closed, least-induction}
+use Rattle.sets.specs.Least.{SetList}
 use Rattle.table.specs.Tabulate.{tabulate}
 use Rattle.table.specs.TabulateLaws.{length-tabulate, getD-tabulate}
-use Rattle.report.specs.Over.{joinedFrom, unionFrom, interFrom, unionAt, Edge, froms, tos, leastAlong}
+use Rattle.report.specs.Over.{joinedFrom, unionFrom, interFrom, unionAt}
 
 -- ---- tests
 
@@ -196,62 +194,3 @@ pub unionAt-below : (ps : List ℕ) (f : ℕ → ℕ) → ((i : ℕ) → f i < 2
 unfolding unionAt
 unionAt-below [] f b = omega arith
 unionAt-below (p ∷ ps) f b = union-below 64 (b p) (unionAt-below ps f b)
-
--- ---- edges
-
--- an edge of the list by its place in the two lists
-edge-place : (es : List Edge) (e : Edge) → List·Memᴰ e es
-    → (k : ℕ) × (k < length (froms es)) × (k < length (tos es)) × (getD (froms es) k 0 ≡ e .from) × (getD (tos es) k 0 ≡ e .to)
-unfolding froms tos
-edge-place [] e m = elim m [ ]
-edge-place (d ∷ es) e (List·Memᴰ·head q) =
-    (0, zero-lt-suc _, zero-lt-suc _, ap (λ (x : Edge). x .from) (sym q), ap (λ (x : Edge). x .to) (sym q))
-edge-place (d ∷ es) e (List·Memᴰ·tail m) =
-    let r : (k : ℕ) × (k < length (froms es)) × (k < length (tos es)) × (getD (froms es) k 0 ≡ e .from) × (getD (tos es) k 0 ≡ e .to) = edge-place es e m in
-    (suc (r .0), omega arith, omega arith, r .3, r .4)
-
-place-edge : (es : List Edge) (k : ℕ) → k < length (froms es)
-    → (e : Edge) × List·Memᴰ e es × (getD (froms es) k 0 ≡ e .from) × (getD (tos es) k 0 ≡ e .to)
-unfolding froms tos
-place-edge [] k h = absurd (omega arith)
-place-edge (d ∷ es) zero h = (d, List·Memᴰ·head refl, refl, refl)
-place-edge (d ∷ es) (suc k) h =
-    let r : (e : Edge) × List·Memᴰ e es × (getD (froms es) k 0 ≡ e .from) × (getD (tos es) k 0 ≡ e .to) = place-edge es k (le-of-suc-le-suc h) in
-    (r .0, List·Memᴰ·tail (r .1), r .2, r .3)
-
-module _ (n : ℕ) (es : List Edge) (s : List ℕ) (sets : SetList n s) where
-  pub along-sets : SetList n (leastAlong es s)
-  unfolding leastAlong
-  along-sets = least-sets n (froms es) (tos es) s sets
-
-  pub along-start : (i x : ℕ) → has (getD s i 0) x ≡ true → has (getD (leastAlong es s) i 0) x ≡ true
-  unfolding leastAlong
-  along-start i x h = least-holds-start n (froms es) (tos es) s sets .at i x h
-
-  -- an edge puts what is at its one end into the other
-  pub along-edge : (e : Edge) → List·Memᴰ e es → e .to < n → (x : ℕ) → has (getD (leastAlong es s) (e .from) 0) x ≡ true
-      → has (getD (leastAlong es s) (e .to) 0) x ≡ true
-  unfolding leastAlong
-  along-edge e m l x h =
-      let r : (k : ℕ) × (k < length (froms es)) × (k < length (tos es)) × (getD (froms es) k 0 ≡ e .from) × (getD (tos es) k 0 ≡ e .to) = edge-place es e m in
-      let c : Held (least (froms es) (tos es) s) (getD (froms es) (r .0) 0) (getD (tos es) (r .0) 0) =
-      least-closed n (froms es) (tos es) s sets .edge (r .0) (r .1) (r .2) in
-      let d : Held (least (froms es) (tos es) s) (e .from) (e .to) = rw (r .3, r .4) at c in
-      d .carried (subst (λ (m : ℕ). e .to < m) (sym (least-sets n (froms es) (tos es) s sets .places)) l) x h
-
-  -- what holds at the start and goes along every edge holds at the end
-  pub along-induction : (P : ℕ → ℕ → Type 0) → ((e : Edge) → List·Memᴰ e es → e .to < n → (x : ℕ) → P (e .from) x → P (e .to) x)
-      → ((i x : ℕ) → has (getD s i 0) x ≡ true → P i x) → (i x : ℕ) → has (getD (leastAlong es s) i 0) x ≡ true → P i x
-  unfolding leastAlong
-  along-induction P f p i x h =
-      least-induction n (froms es) (tos es) s sets P
-      (λ k l m o y q.
-      let r : (e : Edge) × List·Memᴰ e es × (getD (froms es) k 0 ≡ e .from) × (getD (tos es) k 0 ≡ e .to) = place-edge es k l in
-      subst (λ (j : ℕ). P j y) (sym (r .3)) (f (r .0) (r .1) (subst (λ (j : ℕ). j < n) (r .3) o) y (subst (λ (j : ℕ). P j y) (r .2) q)))
-      p i x h
-
-  -- a list between the start and the least list that every edge leaves is the least list
-  pub along-is : (r : List ℕ) → SetList n r → Inside s r → Inside r (leastAlong es s)
-      → ((e : Edge) → List·Memᴰ e es → e .to < n → (x : ℕ) → has (getD r (e .from) 0) x ≡ true → has (getD r (e .to) 0) x ≡ true) → r ≡ leastAlong es s
-  along-is r h a b c =
-      inside-equal (h .places ∙ sym (along-sets .places)) b (record { at = along-induction (λ i x. has (getD r i 0) x ≡ true) c (a .at) })

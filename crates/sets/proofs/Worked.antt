@@ -1,22 +1,22 @@
 -- The definitions, computed: a chain listed backwards, a cycle, edges past the end; and sets of none, one and two elements. Assumes nothing.
 use mathlib.Core.Path.{_≡_, refl}
-use mathlib.Core.List.{List, [], _∷_}
+use mathlib.Core.List.{[], _∷_, map}
 use Prim.Native.Nat.{ℕ}
 use lib.Count.{onesIn, trailingZeros}
 use Rattle.sets.specs.Set.{union, minus, count, isSingle, only}
-use Rattle.sets.specs.Least.{same, room, settle, settled, putInto, along, passEdges, least}
+use Rattle.sets.specs.Least.{same, room, settle, settled, putInto, edgeOf, along, passEdges, least}
 use Rattle.sets.specs.declared.Which.the-variants.{Element, Nothing}
 
-chain : least (2 ∷ 1 ∷ 0 ∷ []) (3 ∷ 2 ∷ 1 ∷ []) (1 ∷ 2 ∷ 4 ∷ 8 ∷ []) ≡ 1 ∷ 3 ∷ 7 ∷ 15 ∷ []
-unfolding least settled settle room same passEdges along putInto union
+chain : least (map edgeOf (131075 ∷ 65538 ∷ 1 ∷ [])) (1 ∷ 2 ∷ 4 ∷ 8 ∷ []) ≡ 1 ∷ 3 ∷ 7 ∷ 15 ∷ []
+unfolding least settled settle room same passEdges along putInto edgeOf union
 chain = refl
 
-cycle : least (0 ∷ 1 ∷ 2 ∷ []) (1 ∷ 2 ∷ 0 ∷ []) (1 ∷ 2 ∷ 4 ∷ 8 ∷ []) ≡ 7 ∷ 7 ∷ 7 ∷ 8 ∷ []
-unfolding least settled settle room same passEdges along putInto union
+cycle : least (map edgeOf (1 ∷ 65538 ∷ 131072 ∷ [])) (1 ∷ 2 ∷ 4 ∷ 8 ∷ []) ≡ 7 ∷ 7 ∷ 7 ∷ 8 ∷ []
+unfolding least settled settle room same passEdges along putInto edgeOf union
 cycle = refl
 
-past-the-end : least (5 ∷ 0 ∷ 0 ∷ []) (0 ∷ 5 ∷ 1 ∷ []) (1 ∷ 2 ∷ []) ≡ 1 ∷ 3 ∷ []
-unfolding least settled settle room same passEdges along putInto union
+past-the-end : least (map edgeOf (327680 ∷ 5 ∷ 1 ∷ [])) (1 ∷ 2 ∷ []) ≡ 1 ∷ 3 ∷ []
+unfolding least settled settle room same passEdges along putInto edgeOf union
 past-the-end = refl
 
 only-of-none : only 0 ≡ Nothing

@@ -1,8 +1,8 @@
 -- Least closed lists of sets: passes over a list until nothing changes, and the passes that edges make. Assumes nothing.
 use mathlib.Core.Path.{_≡_}
 use mathlib.Core.Bool.{Bool, true, false, _&&_}
-use mathlib.Core.List.{List, [], _∷_}
-use Prim.Native.Nat.{ℕ, zero, suc, _+_, _-_, _^_, _<_}
+use mathlib.Core.List.{List, [], _∷_, List·Memᴰ}
+use Prim.Native.Nat.{ℕ, zero, suc, _+_, _-_, _/_, _%_, _^_, _<_}
 use lib.Dec.{eqb}
 use lib.ListN.{length, getD, set}
 use Rattle.sets.specs.Set.{has, union}
@@ -53,24 +53,32 @@ settled pass s = settle pass (room s) s
 unfoldable pub putInto : ℕ → ℕ → List ℕ → List ℕ
 putInto t x s = set s t (union (getD s t 0) x)
 
--- the edge from f to t puts the set at f into the set at t; past the end of the list it does nothing
-unfoldable pub along : ℕ → ℕ → List ℕ → List ℕ
-along f t s = putInto t (getD s f 0) s
+-- an edge puts the set at one place into the set at another
+pub record Edge : Type 0 where
+  pub from : ℕ
+  pub to : ℕ
 
--- every edge once, from the first to the last: edge k goes from the k-th number of the first list to the k-th of the second
-unfoldable pub passEdges : List ℕ → List ℕ → List ℕ → List ℕ
-passEdges [] to s = s
-passEdges (f ∷ from) [] s = s
-passEdges (f ∷ from) (t ∷ to) s = passEdges from to (along f t s)
+-- an edge in one number: 65,536 times where it comes from, and where it leads to
+unfoldable pub edgeOf : ℕ → Edge
+edgeOf n = record { from = n / 65536; to = n % 65536 }
+
+-- the edge puts the set at its one end into the set at its other; past the end of the list it does nothing
+unfoldable pub along : Edge → List ℕ → List ℕ
+along e s = putInto (e .to) (getD s (e .from) 0) s
+
+-- every edge once, from the first to the last
+unfoldable pub passEdges : List Edge → List ℕ → List ℕ
+passEdges [] s = s
+passEdges (e ∷ es) s = passEdges es (along e s)
 
 -- the least list that holds s and is closed under the edges
-unfoldable pub least : List ℕ → List ℕ → List ℕ → List ℕ
-least from to s = settled (passEdges from to) s
+unfoldable pub least : List Edge → List ℕ → List ℕ
+least es s = settled (passEdges es) s
 
--- the edge from f to t has nothing to put
-pub record Held (s : List ℕ) (f t : ℕ) : Type 0 where
-  pub carried : t < length s → (e : ℕ) → has (getD s f 0) e ≡ true → has (getD s t 0) e ≡ true
+-- the edge has nothing to put
+pub record Held (s : List ℕ) (e : Edge) : Type 0 where
+  pub carried : e .to < length s → (x : ℕ) → has (getD s (e .from) 0) x ≡ true → has (getD s (e .to) 0) x ≡ true
 
 -- s is closed under every edge
-pub record Closed (from to s : List ℕ) : Type 0 where
-  pub edge : (k : ℕ) → k < length from → k < length to → Held s (getD from k 0) (getD to k 0)
+pub record Closed (es : List Edge) (s : List ℕ) : Type 0 where
+  pub edge : (e : Edge) → List·Memᴰ e es → Held s e

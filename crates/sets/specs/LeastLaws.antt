@@ -1,184 +1,171 @@
 -- What edges come to: the least list is closed under every edge, holds the start, and is inside every other such list. Assumes nothing.
 use mathlib.Core.Path.{_≡_, refl, sym, ap, _∙_, subst}
 use mathlib.Core.Bool.{true}
-use mathlib.Core.List.{List, [], _∷_}
-use Prim.Native.Nat.{ℕ, zero, suc, _<_, suc-le-suc}
+use mathlib.Core.List.{List, [], _∷_, map, List·Memᴰ, List·Memᴰ·head, List·Memᴰ·tail}
+use Prim.Native.Nat.{ℕ, zero, suc, _+_, _*_, _/_, _%_, _<_, suc-le-suc}
 use native.Mathlib.Nat.{le-of-suc-le-suc, zero-lt-suc}
 use native.Mathlib.Omega.{arith}
 use lib.ListN.{length, getD}
 use Rattle.sets.specs.Set.{has}
-use Rattle.sets.specs.Least.{SetList, Inside, Steady, along, passEdges, least, Held, Closed}
+use Rattle.sets.specs.Least.{SetList, Inside, Steady, Edge, edgeOf, along, passEdges, least, Held, Closed}
 use Rattle.sets.specs.InsideLaws.{inside-refl, inside-trans, inside-equal}
-use Rattle.sets.specs.Rules.{put-length, put-elsewhere, put-grows, put-cases, put-puts, put-sets, put-still, still-put, put-inside, put-monotone}
-use Rattle.sets.specs.Settled.{settled-keeps, settled-sets, settled-closed, settled-holds-start, settled-inside, settled-induction}
+use Rattle.sets.specs.Rules.{put-length, put-grows, put-cases, put-sets, put-still, still-put, put-inside, put-monotone}
+use Rattle.sets.specs.Settled.{settled-sets, settled-closed, settled-holds-start, settled-inside, settled-induction}
+
+-- ---- an edge in one number
+
+pub edge-packed : (f t : ℕ) → t < 65536 → edgeOf (f * 65536 + t) ≡ record { from = f; to = t }
+unfolding edgeOf
+edge-packed f t h = let p : (f * 65536 + t) / 65536 ≡ f = omega arith in let q : (f * 65536 + t) % 65536 ≡ t = omega arith in rw (p, q)
+
+-- edge k of a list of numbers
+pub number-edge : (l : List ℕ) (k : ℕ) → k < length l → List·Memᴰ (edgeOf (getD l k 0)) (map edgeOf l)
+number-edge [] k h = absurd (omega arith)
+number-edge (x ∷ l) zero h = List·Memᴰ·head refl
+number-edge (x ∷ l) (suc k) h = List·Memᴰ·tail (number-edge l k (le-of-suc-le-suc h))
+
+tail-closed : {e : Edge} {es : List Edge} {s : List ℕ} → Closed (e ∷ es) s → Closed es s
+tail-closed c = record { edge = λ d m. c .edge d (List·Memᴰ·tail m) }
+
+both-closed : {e : Edge} {es : List Edge} {s : List ℕ} → Held s e → Closed es s → Closed (e ∷ es) s
+both-closed {e} {es} {s} h c = record { edge = go }
+  where
+    go : (d : Edge) → List·Memᴰ d (e ∷ es) → Held s d
+    go d (List·Memᴰ·head q) = subst (Held s) (sym q) h
+    go d (List·Memᴰ·tail m) = c .edge d m
+
+-- closed, edge by edge
+pub numbers-closed : (l s : List ℕ) → ((k : ℕ) → k < length l → Held s (edgeOf (getD l k 0))) → Closed (map edgeOf l) s
+numbers-closed [] s h = record { edge = λ d m. elim m [ ] }
+numbers-closed (x ∷ l) s h = both-closed (h 0 (zero-lt-suc (length l))) (numbers-closed l s (λ k b. h (suc k) (suc-le-suc b)))
 
 -- ---- one edge
 
-module _ (f t : ℕ) (s : List ℕ) where
-  pub along-length : length (along f t s) ≡ length s
+module _ (e : Edge) (s : List ℕ) where
+  pub along-length : length (along e s) ≡ length s
   unfolding along
-  along-length = put-length t (getD s f 0) s
+  along-length = put-length (e .to) (getD s (e .from) 0) s
 
-  -- every other place is kept
-  pub along-elsewhere : (i : ℕ) → (i ≡ t → ⊥) → getD (along f t s) i 0 ≡ getD s i 0
+  pub along-grows : Inside s (along e s)
   unfolding along
-  along-elsewhere = put-elsewhere t (getD s f 0) s
-
-  pub along-grows : Inside s (along f t s)
-  unfolding along
-  along-grows = put-grows t (getD s f 0) s
+  along-grows = put-grows (e .to) (getD s (e .from) 0) s
 
   -- an element that is there afterwards was there, or came along the edge
-  pub along-cases {ℓ} : {C : Type ℓ} (i e : ℕ) → (has (getD s i 0) e ≡ true → C) → (i ≡ t → t < length s → has (getD s f 0) e ≡ true → C)
-      → has (getD (along f t s) i 0) e ≡ true → C
+  along-cases {ℓ} : {C : Type ℓ} (i x : ℕ) → (has (getD s i 0) x ≡ true → C) → (i ≡ e .to → e .to < length s → has (getD s (e .from) 0) x ≡ true → C)
+      → has (getD (along e s) i 0) x ≡ true → C
   unfolding along
-  along-cases = put-cases t (getD s f 0) s
+  along-cases = put-cases (e .to) (getD s (e .from) 0) s
 
-  pub along-puts : t < length s → (e : ℕ) → has (getD s f 0) e ≡ true → has (getD (along f t s) t 0) e ≡ true
+  pub along-sets : (n : ℕ) → SetList n s → SetList n (along e s)
   unfolding along
-  along-puts = put-puts t (getD s f 0) s
-
-  pub along-sets : (n : ℕ) → SetList n s → SetList n (along f t s)
-  unfolding along
-  along-sets n h = put-sets t (getD s f 0) s n (h .below f) h
+  along-sets n h = put-sets (e .to) (getD s (e .from) 0) s n (h .below (e .from)) h
 
   -- an edge that has nothing to put changes nothing, and the other way round
-  pub held-still : Held s f t → along f t s ≡ s
+  held-still : Held s e → along e s ≡ s
   unfolding along
-  held-still h = put-still t (getD s f 0) s (h .carried)
+  held-still h = put-still (e .to) (getD s (e .from) 0) s (h .carried)
 
-  pub still-held : along f t s ≡ s → Held s f t
+  pub still-held : along e s ≡ s → Held s e
   unfolding along
-  still-held q = record { carried = still-put t (getD s f 0) s q }
+  still-held q = record { carried = still-put (e .to) (getD s (e .from) 0) s q }
 
   -- what is inside a list with nothing to put stays inside it
-  pub along-inside : (r : List ℕ) → length s ≡ length r → Held r f t → Inside s r → Inside (along f t s) r
+  pub along-inside : (r : List ℕ) → length s ≡ length r → Held r e → Inside s r → Inside (along e s) r
   unfolding along
-  along-inside r l h a = put-inside t (getD s f 0) s r l (λ m e b. h .carried m e (a .at f e b)) a
+  along-inside r l h a = put-inside (e .to) (getD s (e .from) 0) s r l (λ m x b. h .carried m x (a .at (e .from) x b)) a
 
-along-monotone : (f t : ℕ) (s r : List ℕ) → length s ≡ length r → Inside s r → Inside (along f t s) (along f t r)
+along-monotone : (e : Edge) (s r : List ℕ) → length s ≡ length r → Inside s r → Inside (along e s) (along e r)
 unfolding along
-along-monotone f t s r l a = put-monotone t (getD s f 0) (getD r f 0) s r l (a .at f) a
+along-monotone e s r l a = put-monotone (e .to) (getD s (e .from) 0) (getD r (e .from) 0) s r l (a .at (e .from)) a
 
 -- ---- a pass over the edges
 
-pass-sets : (n : ℕ) (from to s : List ℕ) → SetList n s → SetList n (passEdges from to s)
+pass-sets : (n : ℕ) (es : List Edge) (s : List ℕ) → SetList n s → SetList n (passEdges es s)
 unfolding passEdges
-pass-sets n [] to s h = h
-pass-sets n (f ∷ from) [] s h = h
-pass-sets n (f ∷ from) (t ∷ to) s h = pass-sets n from to (along f t s) (along-sets f t s n h)
+pass-sets n [] s h = h
+pass-sets n (e ∷ es) s h = pass-sets n es (along e s) (along-sets e s n h)
 
-pass-length : (from to s : List ℕ) → length (passEdges from to s) ≡ length s
+pass-grows : (es : List Edge) (s : List ℕ) → Inside s (passEdges es s)
 unfolding passEdges
-pass-length [] to s = refl
-pass-length (f ∷ from) [] s = refl
-pass-length (f ∷ from) (t ∷ to) s = pass-length from to (along f t s) ∙ along-length f t s
+pass-grows [] s = inside-refl s
+pass-grows (e ∷ es) s = inside-trans (along-grows e s) (pass-grows es (along e s))
 
-pass-grows : (from to s : List ℕ) → Inside s (passEdges from to s)
+pass-monotone : (es : List Edge) (s r : List ℕ) → length s ≡ length r → Inside s r → Inside (passEdges es s) (passEdges es r)
 unfolding passEdges
-pass-grows [] to s = inside-refl s
-pass-grows (f ∷ from) [] s = inside-refl s
-pass-grows (f ∷ from) (t ∷ to) s = inside-trans (along-grows f t s) (pass-grows from to (along f t s))
+pass-monotone [] s r l a = a
+pass-monotone (e ∷ es) s r l a =
+    pass-monotone es (along e s) (along e r) (along-length e s ∙ l ∙ sym (along-length e r)) (along-monotone e s r l a)
 
-pass-monotone : (from to s r : List ℕ) → length s ≡ length r → Inside s r → Inside (passEdges from to s) (passEdges from to r)
-unfolding passEdges
-pass-monotone [] to s r l a = a
-pass-monotone (f ∷ from) [] s r l a = a
-pass-monotone (f ∷ from) (t ∷ to) s r l a =
-    pass-monotone from to (along f t s) (along f t r) (along-length f t s ∙ l ∙ sym (along-length f t r)) (along-monotone f t s r l a)
-
-pub edges-steady : (n : ℕ) (from to : List ℕ) → Steady n (passEdges from to)
-edges-steady n from to = record {
-  keeps = λ s h. pass-sets n from to s h;
-  grows = λ s h. pass-grows from to s;
-  monotone = λ s t h k a. pass-monotone from to s t (h .places ∙ sym (k .places)) a;
+edges-steady : (n : ℕ) (es : List Edge) → Steady n (passEdges es)
+edges-steady n es = record {
+  keeps = λ s h. pass-sets n es s h;
+  grows = λ s h. pass-grows es s;
+  monotone = λ s t h k a. pass-monotone es s t (h .places ∙ sym (k .places)) a;
 }
 
 -- ---- a pass changes nothing just where every edge has nothing to put
 
-tail-closed : {f t : ℕ} {from to s : List ℕ} → Closed (f ∷ from) (t ∷ to) s → Closed from to s
-tail-closed c = record { edge = λ k h g. c .edge (suc k) (suc-le-suc h) (suc-le-suc g) }
-
-pub closed-still : (from to s : List ℕ) → Closed from to s → passEdges from to s ≡ s
+closed-still : (es : List Edge) (s : List ℕ) → Closed es s → passEdges es s ≡ s
 unfolding passEdges
-closed-still [] to s c = refl
-closed-still (f ∷ from) [] s c = refl
-closed-still (f ∷ from) (t ∷ to) s c =
-    ap (passEdges from to) (held-still f t s (c .edge 0 (zero-lt-suc (length from)) (zero-lt-suc (length to)))) ∙ closed-still from to s (tail-closed c)
+closed-still [] s c = refl
+closed-still (e ∷ es) s c = ap (passEdges es) (held-still e s (c .edge e (List·Memᴰ·head refl))) ∙ closed-still es s (tail-closed c)
 
-pub still-closed : (from to s : List ℕ) → passEdges from to s ≡ s → Closed from to s
+still-closed : (es : List Edge) (s : List ℕ) → passEdges es s ≡ s → Closed es s
 unfolding passEdges
-still-closed [] to s q = record { edge = λ k h g. absurd (omega arith) }
-still-closed (f ∷ from) [] s q = record { edge = λ k h g. absurd (omega arith) }
-still-closed (f ∷ from) (t ∷ to) s q =
-    let a : along f t s ≡ s =
-    inside-equal (along-length f t s) (subst (λ (r : List ℕ). Inside (along f t s) r) q (pass-grows from to (along f t s))) (along-grows f t s) in
-    let ih : Closed from to s = still-closed from to s (ap (passEdges from to) (sym a) ∙ q) in
-    record { edge = both (still-held f t s a) ih }
-  where
-    both : Held s f t → Closed from to s → (k : ℕ) → k < suc (length from) → k < suc (length to) → Held s (getD (f ∷ from) k 0) (getD (t ∷ to) k 0)
-    both h c zero l m = h
-    both h c (suc k) l m = c .edge k (le-of-suc-le-suc l) (le-of-suc-le-suc m)
+still-closed [] s q = record { edge = λ d m. elim m [ ] }
+still-closed (e ∷ es) s q =
+    let a : along e s ≡ s =
+    inside-equal (along-length e s) (subst (λ (r : List ℕ). Inside (along e s) r) q (pass-grows es (along e s))) (along-grows e s) in
+    both-closed (still-held e s a) (still-closed es s (ap (passEdges es) (sym a) ∙ q))
 
--- ---- what goes along the edges, and what no edge leads to
+-- ---- what goes along the edges
 
-pass-carries : (n : ℕ) (P : ℕ → ℕ → Type 0) (from to r : List ℕ) → SetList n r
-    → ((k : ℕ) → k < length from → k < length to → getD to k 0 < n → (e : ℕ) → P (getD from k 0) e → P (getD to k 0) e)
-    → ((i e : ℕ) → has (getD r i 0) e ≡ true → P i e)
-    → (i e : ℕ) → has (getD (passEdges from to r) i 0) e ≡ true → P i e
+pass-carries : (n : ℕ) (P : ℕ → ℕ → Type 0) (es : List Edge) (r : List ℕ) → SetList n r
+    → ((e : Edge) → List·Memᴰ e es → e .to < n → (x : ℕ) → P (e .from) x → P (e .to) x)
+    → ((i x : ℕ) → has (getD r i 0) x ≡ true → P i x)
+    → (i x : ℕ) → has (getD (passEdges es r) i 0) x ≡ true → P i x
 unfolding passEdges
-pass-carries n P [] to r k f q = q
-pass-carries n P (a ∷ from) [] r k f q = q
-pass-carries n P (a ∷ from) (b ∷ to) r k f q =
-    pass-carries n P from to (along a b r) (along-sets a b r n k) (λ j l m. f (suc j) (suc-le-suc l) (suc-le-suc m))
-    (λ i e. along-cases a b r i e (q i e)
-    (λ p l g. subst (λ (j : ℕ). P j e) (sym p) (f 0 (zero-lt-suc (length from)) (zero-lt-suc (length to)) (subst (λ (x : ℕ). b < x) (k .places) l) e (q a e g))))
-
-pass-leaves : (i : ℕ) (from to r : List ℕ) → ((k : ℕ) → k < length from → k < length to → getD to k 0 ≡ i → ⊥) → getD (passEdges from to r) i 0 ≡ getD r i 0
-unfolding passEdges
-pass-leaves i [] to r d = refl
-pass-leaves i (a ∷ from) [] r d = refl
-pass-leaves i (a ∷ from) (b ∷ to) r d =
-    pass-leaves i from to (along a b r) (λ k l m. d (suc k) (suc-le-suc l) (suc-le-suc m))
-    ∙ along-elsewhere a b r i (λ e. d 0 (zero-lt-suc (length from)) (zero-lt-suc (length to)) (sym e))
+pass-carries n P [] r k f q = q
+pass-carries n P (e ∷ es) r k f q =
+    pass-carries n P es (along e r) (along-sets e r n k) (λ d m. f d (List·Memᴰ·tail m))
+    (λ i x. along-cases e r i x (q i x)
+    (λ p l g. subst (λ (j : ℕ). P j x) (sym p) (f e (List·Memᴰ·head refl) (subst (λ (y : ℕ). e .to < y) (k .places) l) x (q (e .from) x g))))
 
 -- ---- the least list
 
-module _ (n : ℕ) (from to s : List ℕ) (h : SetList n s) where
-  pub least-sets : SetList n (least from to s)
+module _ (n : ℕ) (es : List Edge) (s : List ℕ) (h : SetList n s) where
+  pub least-sets : SetList n (least es s)
   unfolding least
-  least-sets = settled-sets n (passEdges from to) (edges-steady n from to) s h
+  least-sets = settled-sets n (passEdges es) (edges-steady n es) s h
 
-  pub least-holds-start : Inside s (least from to s)
+  pub least-holds-start : Inside s (least es s)
   unfolding least
-  least-holds-start = settled-holds-start n (passEdges from to) (edges-steady n from to) s h
+  least-holds-start = settled-holds-start n (passEdges es) (edges-steady n es) s h
 
-  pub least-closed : Closed from to (least from to s)
+  pub least-closed : Closed es (least es s)
   unfolding least
-  least-closed = still-closed from to (least from to s) (settled-closed n (passEdges from to) (edges-steady n from to) s h)
+  least-closed = still-closed es (least es s) (settled-closed n (passEdges es) (edges-steady n es) s h)
+
+  -- an edge puts what is at its one end into the other
+  pub least-edge : (e : Edge) → List·Memᴰ e es → e .to < n → (x : ℕ) → has (getD (least es s) (e .from) 0) x ≡ true
+      → has (getD (least es s) (e .to) 0) x ≡ true
+  least-edge e m l = least-closed .edge e m .carried (subst (λ (k : ℕ). e .to < k) (sym (least-sets .places)) l)
 
   -- inside every closed list that holds the start
-  pub least-inside : (r : List ℕ) → SetList n r → Inside s r → Closed from to r → Inside (least from to s) r
+  pub least-inside : (r : List ℕ) → SetList n r → Inside s r → Closed es r → Inside (least es s) r
   unfolding least
   least-inside r k a c =
-      settled-inside n (passEdges from to) (edges-steady n from to) s r h k a
-      (subst (λ (x : List ℕ). Inside x r) (sym (closed-still from to r c)) (inside-refl r))
+      settled-inside n (passEdges es) (edges-steady n es) s r h k a
+      (subst (λ (x : List ℕ). Inside x r) (sym (closed-still es r c)) (inside-refl r))
 
   -- a closed list between the start and the least list is the least list, whatever way it was come to
-  pub least-is : (r : List ℕ) → SetList n r → Inside s r → Inside r (least from to s) → Closed from to r → r ≡ least from to s
+  pub least-is : (r : List ℕ) → SetList n r → Inside s r → Inside r (least es s) → Closed es r → r ≡ least es s
   least-is r k a b c = inside-equal (k .places ∙ sym (least-sets .places)) b (least-inside r k a c)
 
   -- what holds of every element at the start, and goes along every edge, holds of every element of the least list
   pub least-induction : (P : ℕ → ℕ → Type 0)
-      → ((k : ℕ) → k < length from → k < length to → getD to k 0 < n → (e : ℕ) → P (getD from k 0) e → P (getD to k 0) e)
-      → ((i e : ℕ) → has (getD s i 0) e ≡ true → P i e)
-      → (i e : ℕ) → has (getD (least from to s) i 0) e ≡ true → P i e
+      → ((e : Edge) → List·Memᴰ e es → e .to < n → (x : ℕ) → P (e .from) x → P (e .to) x)
+      → ((i x : ℕ) → has (getD s i 0) x ≡ true → P i x)
+      → (i x : ℕ) → has (getD (least es s) i 0) x ≡ true → P i x
   unfolding least
-  least-induction P f p =
-      settled-induction n (passEdges from to) (edges-steady n from to) P
-      (λ r k q. pass-carries n P from to r k f q) s h p
-
-  -- a place that no edge leads to is kept
-  pub least-untouched : (i : ℕ) → ((k : ℕ) → k < length from → k < length to → getD to k 0 ≡ i → ⊥) → getD (least from to s) i 0 ≡ getD s i 0
-  unfolding least
-  least-untouched i d = settled-keeps (passEdges from to) (λ (r : List ℕ). getD r i 0 ≡ getD s i 0) (λ r q. pass-leaves i from to r d ∙ q) s refl
+  least-induction P f p = settled-induction n (passEdges es) (edges-steady n es) P (λ r k q. pass-carries n P es r k f q) s h p

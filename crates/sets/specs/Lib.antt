@@ -5,4 +5,3 @@ pub mod InsideLaws
 pub mod Rules
 pub mod Settled
 pub mod LeastLaws
-pub mod Pass

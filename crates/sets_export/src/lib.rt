@@ -1,20 +1,21 @@
 // The solver under C names, for programs in C and for the benchmark. Each slice is a pointer and a count.
 ghost use mathlib.Core.Path.{_≡_};
-ghost use Rattle.sets.specs.Least.{least};
-use sets::Order;
+ghost use mathlib.Core.List.{map};
+ghost use Rattle.sets.specs.Least.{edgeOf, least};
+use solver::Order;
 
-// `sets::solve` from the first edge to the last.
+// `solver::solve` from the first edge to the last.
 #[no_mangle]
-pub extern "C" fn sets_solve_up(sets: &mut [u64], from: &[u16], to: &[u16])
-    ensures { λ _. ⌜ now (sets .exit) ≡ least (now (from .entry)) (now (to .entry)) (now (sets .entry)) ⌝ }
+pub extern "C" fn sets_solve_up(sets: &mut [u64], edges: &[u32])
+    ensures { λ _. ⌜ now (sets .exit) ≡ least (map edgeOf (now (edges .entry))) (now (sets .entry)) ⌝ }
 {
-    sets::solve(sets, from, to, Order::FirstToLast);
+    solver::solve(sets, edges, Order::FirstToLast);
 }
 
-// `sets::solve` from the last edge to the first.
+// `solver::solve` from the last edge to the first.
 #[no_mangle]
-pub extern "C" fn sets_solve_down(sets: &mut [u64], from: &[u16], to: &[u16])
-    ensures { λ _. ⌜ now (sets .exit) ≡ least (now (from .entry)) (now (to .entry)) (now (sets .entry)) ⌝ }
+pub extern "C" fn sets_solve_down(sets: &mut [u64], edges: &[u32])
+    ensures { λ _. ⌜ now (sets .exit) ≡ least (map edgeOf (now (edges .entry))) (now (sets .entry)) ⌝ }
 {
-    sets::solve(sets, from, to, Order::LastToFirst);
+    solver::solve(sets, edges, Order::LastToFirst);
 }

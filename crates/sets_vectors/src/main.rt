@@ -1,6 +1,6 @@
 // Prints what the set operations and the solver give on chosen inputs, one to a line: what was asked, and the answer.
-use sets::Order;
 use sets::Which;
+use solver::Order;
 
 // Prints the label, the number and a line feed.
 fn number(label: &[u8], n: u64) {
@@ -110,56 +110,57 @@ fn found() {
 }
 
 // Solves the sets, and prints the label and what they have become.
-fn solved(label: &[u8], s: &mut [u64], from: &[u16], to: &[u16], order: Order) {
-    sets::solve(s, from, to, order);
+fn solved(label: &[u8], s: &mut [u64], edges: &[u32], order: Order) {
+    solver::solve(s, edges, order);
     list(label, s);
 }
 
 fn no_edges(order: Order) {
     let mut s = [1u64, 2, 4];
-    let none = [0u16; 0];
-    solved(b"no edges:", &mut s, &none, &none, order);
+    let edges = [0u32; 0];
+    solved(b"no edges:", &mut s, &edges, order);
 }
 
 fn cycle(order: Order) {
     let mut s = [1u64, 2, 4, 8];
-    let from = [0u16, 1, 2];
-    let to = [1u16, 2, 0];
-    solved(b"a cycle:", &mut s, &from, &to, order);
+    // 0 to 1, 1 to 2, 2 to 0
+    let edges = [1u32, 65538, 131072];
+    solved(b"a cycle:", &mut s, &edges, order);
 }
 
 fn backwards(order: Order) {
     let mut s = [1u64, 2, 4, 8];
-    let from = [2u16, 1, 0];
-    let to = [3u16, 2, 1];
-    solved(b"a chain listed backwards:", &mut s, &from, &to, order);
+    // 2 to 3, 1 to 2, 0 to 1
+    let edges = [131075u32, 65538, 1];
+    solved(b"a chain listed backwards:", &mut s, &edges, order);
 }
 
 fn forwards(order: Order) {
     let mut s = [1u64, 2, 4, 8];
-    let from = [0u16, 1, 2];
-    let to = [1u16, 2, 3];
-    solved(b"a chain listed forwards:", &mut s, &from, &to, order);
+    // 0 to 1, 1 to 2, 2 to 3
+    let edges = [1u32, 65538, 131075];
+    solved(b"a chain listed forwards:", &mut s, &edges, order);
 }
 
 fn to_itself(order: Order) {
     let mut s = [1u64, 2];
-    let here = [1u16];
-    solved(b"an edge to itself:", &mut s, &here, &here, order);
+    // 1 to 1
+    let edges = [65537u32];
+    solved(b"an edge to itself:", &mut s, &edges, order);
 }
 
 fn past_the_end(order: Order) {
     let mut s = [1u64, 2];
-    let from = [5u16, 0, 0];
-    let to = [0u16, 5, 1];
-    solved(b"edges past the end:", &mut s, &from, &to, order);
+    // 5 to 0, 0 to 5, 0 to 1
+    let edges = [327680u32, 5, 1];
+    solved(b"edges past the end:", &mut s, &edges, order);
 }
 
-fn two_lengths(order: Order) {
+fn into_one(order: Order) {
     let mut s = [1u64, 2, 0];
-    let from = [0u16, 1];
-    let to = [1u16];
-    solved(b"lists of two lengths:", &mut s, &from, &to, order);
+    // 0 to 2, 1 to 2
+    let edges = [2u32, 65538];
+    solved(b"two edges into one place:", &mut s, &edges, order);
 }
 
 fn solver(order: Order) {
@@ -169,7 +170,7 @@ fn solver(order: Order) {
     forwards(order);
     to_itself(order);
     past_the_end(order);
-    two_lengths(order);
+    into_one(order);
 }
 
 fn main() {

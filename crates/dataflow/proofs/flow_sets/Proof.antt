@@ -1,9 +1,12 @@
 -- `dataflow::flow_sets` meets its contract. Assumes nothing.
-use mathlib.Core.Path.{_∙_}
-use Rattle.dataflow.specs.Questions.{Flow}
-use Rattle.dataflow.specs.EdgeLaws.{solved}
-use Rattle.dataflow.specs.FitLaws.{ready-for}
-use Rattle.dataflow.specs.AnswerLaws.{flow-result}
+use Rattle.dataflow.specs.AnswerLaws.{count-there, answered}
+use Rattle.edges.specs.Equations.{Flow}
+use mathlib.Core.List.{[]}
+use mathlib.Core.Bool.{false}
+use mathlib.Core.Path.{ap, _∙_}
+use Prim.Native.Nat.{ℕ}
+use mathlib.Core.List.{List}
+use Rattle.sets.specs.Least.{least}
 use borrow.Author.Needs.{needs}
 use Rattle.dataflow.proofs.flow_sets.Statement.{statement}
 use Rattle.dataflow.proofs.flow_sets.Tie as tie
@@ -15,7 +18,7 @@ fill-flow-requires-2 : tie.Need-fill-flow-requires-2
 fill-flow-requires-2 c κs = search needs
 
 settle-requires : tie.Need-settle-requires
-settle-requires c κs = ((ready-for Flow _ (c .before .before .before .before .before .before .before .before .before .before .before .before .before .before .before .before .before .before .before .before .pre .1 .0) (c .before .before .before .before .before .before .before .before .before .before .before .before .before .before .before .before .before .before .before .before .pre .1 .1 .0) (c .before .before .before .before .before .before .before .before .before .before .before .fill-flow .ensures)) .from-room, (ready-for Flow _ (c .before .before .before .before .before .before .before .before .before .before .before .before .before .before .before .before .before .before .before .before .pre .1 .0) (c .before .before .before .before .before .before .before .before .before .before .before .before .before .before .before .before .before .before .before .before .pre .1 .1 .0) (c .before .before .before .before .before .before .before .before .before .before .before .fill-flow .ensures)) .to-room)
+settle-requires c κs = count-there Flow _ (c .before .before .before .before .before .before .before .before .before .before .before .before .before .before .pre .0) (c .before .before .before .before .before .before .before .before .before .before .before .before .before .before .pre .1 .1 .1 .0) (c .before .before .before .before .before .before .before .before .fill-flow .ensures)
 
 same-length : tie.Need-same-length
 same-length c = search needs
@@ -23,11 +26,8 @@ same-length c = search needs
 same-length-2 : tie.Need-same-length-2
 same-length-2 c = search needs
 
-same-length-3 : tie.Need-same-length-3
-same-length-3 c = search needs
-
 returns : tie.Need-returns
-returns c = flow-result _ _ _ (c .before .before .before .before .before .before .before .before .before .before .before .before .before .before .before .before .before .before .before .before .before .before .before .pre .1 .1 .1) (c .before .before .settle .ensures ∙ solved (ready-for Flow _ (c .before .before .before .before .before .before .before .before .before .before .before .before .before .before .before .before .before .before .before .before .before .before .before .pre .1 .0) (c .before .before .before .before .before .before .before .before .before .before .before .before .before .before .before .before .before .before .before .before .before .before .before .pre .1 .1 .0) (c .before .before .before .before .before .before .before .before .before .before .before .before .before .before .fill-flow .ensures)) (c .before .before .before .before .before .before .before .before .fill-flow2 .ensures))
+returns c = answered Flow _ (c .before .before .before .before .before .before .before .before .before .before .before .before .before .before .before .before .before .pre .0) (c .before .before .before .before .before .before .before .before .before .before .before .before .before .before .before .before .before .pre .1 .1 .1 .0) (c .before .before .before .before .before .before .before .before .before .before .before .fill-flow .ensures) false [] [] (c .before .before .before .before .before .before .before .before .before .before .before .before .before .before .before .before .before .pre .1 .1 .1 .1) (c .before .before .settle .ensures ∙ ap (least _) (c .before .before .before .before .before .before .before .fill-flow2 .ensures))
 
 pub flow-sets-spec : {M : Type 1} → statement M
 flow-sets-spec =
@@ -38,5 +38,4 @@ flow-sets-spec =
     settle-requires
     same-length
     same-length-2
-    same-length-3
     returns)

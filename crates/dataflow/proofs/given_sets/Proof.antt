@@ -1,21 +1,16 @@
 -- `dataflow::given_sets` meets its contract. Assumes nothing.
-use mathlib.Core.Path.{_∙_}
-use Rattle.dataflow.specs.Questions.{Gives}
-use Rattle.dataflow.specs.EdgeLaws.{solved}
-use Rattle.dataflow.specs.FitLaws.{ready-for}
-use Rattle.dataflow.specs.AnswerLaws.{given-result}
+use Rattle.dataflow.specs.AnswerLaws.{count-there, answered}
+use Rattle.edges.specs.Equations.{Gives}
+use mathlib.Core.List.{[]}
 use borrow.Author.Needs.{needs}
 use Rattle.dataflow.proofs.given_sets.Statement.{statement}
 use Rattle.dataflow.proofs.given_sets.Tie as tie
 
-fill-up-requires : tie.Need-fill-up-requires
-fill-up-requires c κs = search needs
+fill-naming-requires : tie.Need-fill-naming-requires
+fill-naming-requires c κs = search needs
 
-fill-own-requires : tie.Need-fill-own-requires
-fill-own-requires c κs = search needs
-
-settle-requires : tie.Need-settle-requires
-settle-requires c κs = ((ready-for Gives _ (c .before .before .before .before .before .before .before .before .before .before .before .before .before .before .before .before .before .before .before .before .before .pre .1 .0) (c .before .before .before .before .before .before .before .before .before .before .before .before .before .before .before .before .before .before .before .before .before .pre .1 .1 .0) (c .before .before .before .before .before .before .before .before .before .before .before .fill-up .ensures)) .from-room, (ready-for Gives _ (c .before .before .before .before .before .before .before .before .before .before .before .before .before .before .before .before .before .before .before .before .before .pre .1 .0) (c .before .before .before .before .before .before .before .before .before .before .before .before .before .before .before .before .before .before .before .before .before .pre .1 .1 .0) (c .before .before .before .before .before .before .before .before .before .before .before .fill-up .ensures)) .to-room)
+own-sets-requires : tie.Need-own-sets-requires
+own-sets-requires c κs = (c .before .before .before .before .before .before .before .before .before .before .pre .0, (c .before .before .before .before .before .before .before .before .before .before .pre .1 .0, (count-there Gives _ (c .before .before .before .before .before .before .before .before .before .before .pre .0) (c .before .before .before .before .before .before .before .before .before .before .pre .1 .1 .0) (c .before .before .before .before .fill-naming .ensures), c .before .before .before .before .before .before .before .before .before .before .pre .1 .1 .1)))
 
 same-length : tie.Need-same-length
 same-length c = search needs
@@ -23,20 +18,9 @@ same-length c = search needs
 same-length-2 : tie.Need-same-length-2
 same-length-2 c = search needs
 
-same-length-3 : tie.Need-same-length-3
-same-length-3 c = search needs
-
 returns : tie.Need-returns
-returns c = given-result _ _ _ _ _ (c .before .before .before .before .before .before .before .before .before .before .before .before .before .before .before .before .before .before .before .before .before .before .before .before .pre .1 .1 .1) (c .before .before .settle .ensures ∙ solved (ready-for Gives _ (c .before .before .before .before .before .before .before .before .before .before .before .before .before .before .before .before .before .before .before .before .before .before .before .before .pre .1 .0) (c .before .before .before .before .before .before .before .before .before .before .before .before .before .before .before .before .before .before .before .before .before .before .before .before .pre .1 .1 .0) (c .before .before .before .before .before .before .before .before .before .before .before .before .before .before .fill-up .ensures)) (c .before .before .before .before .before .before .before .before .fill-own .ensures))
+returns c = answered Gives _ (c .before .before .before .before .before .before .before .before .before .before .before .before .before .pre .0) (c .before .before .before .before .before .before .before .before .before .before .before .before .before .pre .1 .1 .0) (c .before .before .before .before .before .before .before .fill-naming .ensures) _ _ [] (c .before .before .before .before .before .before .before .before .before .before .before .before .before .pre .1 .1 .1) (c .before .before .own-sets .ensures)
 
 pub given-sets-spec : {M : Type 1} → statement M
 given-sets-spec =
-    tie.close
-    (tie.spec
-    fill-up-requires
-    fill-own-requires
-    settle-requires
-    same-length
-    same-length-2
-    same-length-3
-    returns)
+    tie.close (tie.spec fill-naming-requires own-sets-requires same-length same-length-2 returns)

@@ -6,10 +6,7 @@ use Rattle.dataflow.proofs.settle.Statement.{statement}
 use Rattle.dataflow.proofs.settle.Tie as tie
 
 slice-aggregate-solve : tie.Need-slice-aggregate-solve
-slice-aggregate-solve c = sym (length-take-le _ _ (c .before .before .before .before .before .pre .0))
-
-slice-aggregate-solve-2 : tie.Need-slice-aggregate-solve-2
-slice-aggregate-solve-2 c = sym (length-take-le _ _ (c .before .before .before .before .before .before .pre .1))
+slice-aggregate-solve c = sym (length-take-le _ _ (c .before .before .before .before .pre))
 
 solve-requires : tie.Need-solve-requires
 solve-requires c κs = search needs
@@ -21,6 +18,4 @@ returns : tie.Need-returns
 returns c = search needs
 
 pub settle-spec : {M : Type 1} → statement M
-settle-spec =
-    tie.close
-    (tie.spec slice-aggregate-solve slice-aggregate-solve-2 solve-requires same-length returns)
+settle-spec = tie.close (tie.spec slice-aggregate-solve solve-requires same-length returns)

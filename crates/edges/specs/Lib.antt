@@ -1,0 +1,5 @@
+pub mod Equations
+pub mod EdgeLaws
+pub mod RoomLaws
+pub mod LineLaws
+pub mod RoutineLaws

@@ -1,0 +1,246 @@
+// The edges of a dataflow equation, in the order of its definition. An edge is one number: 65,536 times the place that it comes from, and the place
+// that it leads to. Each function appends to a list that the caller lends; four places a statement are room enough.
+ghost use mathlib.Core.Path.{_≡_};
+ghost use mathlib.Core.List.{[], _∷_};
+ghost use Prim.Native.Nat.{_<_, _≤_, _+_, _^_};
+ghost use Rattle.table.specs.Header.{statements, statementLine};
+ghost use Rattle.table.specs.Table.{tableOf, statement};
+ghost use Rattle.table.specs.Layout.{firstStatements, firstHandles, parameterCounts};
+ghost use Rattle.table.specs.Accepted.{Accepted};
+ghost use Rattle.report.specs.Layout.{ownerOf};
+ghost use Rattle.edges.specs.Equations.{Flow, Futures, upwards, edge, edgesAt, upEdges, nextEdges, callEdges, edgesFor};
+ghost use Rattle.edges.specs.EdgeLaws.{Appended};
+ghost use Rattle.edges.specs.LineLaws.{Lined, passingFrom};
+ghost use Rattle.edges.specs.RoutineLaws.{Near};
+
+// The line of statement 0.
+pub fn first_line(numbers: &[i32]) -> usize
+    ensures is { λ r. ⌜ r ≡ statementLine (now (numbers .entry)) 0 ⌝ }
+    ensures small { λ r. ⌜ r < 2 ^ 33 ⌝ }
+{
+    1 + table::field_of(numbers, 0, 3) + table::field_of(numbers, 0, 4)
+}
+
+// The routine of statement `s`, where `r` is that of the statement before.
+fn owner_of(numbers: &[i32], first: &[usize], r: usize, s: usize) -> usize
+    requires { ⌜ now first ≡ firstStatements (now numbers) ⌝ }
+    requires { ⌜ Accepted (tableOf (now numbers)) ⌝ }
+    requires { ⌜ (s < statements (now numbers)) × Near (now numbers) r s ⌝ }
+    ensures is { λ q. ⌜ q ≡ ownerOf (tableOf (now (numbers .entry))) s ⌝ }
+    ensures near { λ q. ⌜ Near (now (numbers .entry)) q (s + 1) ⌝ }
+{
+    if lists::number_at(first, r + 1) <= s {
+        return r + 1;
+    }
+    r
+}
+
+// Appends the edge from `f` to `t` behind the first `n`, and returns how many there are then. Where there is no room, or a number is too
+// large, nothing changes.
+fn append(edges: &mut [u32], n: usize, f: usize, t: usize) -> usize
+    ensures { λ r. ⌜ Appended (now (edges .entry)) n (now (edges .exit)) r (edge f t ∷ []) ⌝ }
+{
+    if n < edges.len() {
+        if f < 65536 {
+            if t < 65536 {
+                edges[n] = (f * 65536 + t) as u32;
+                return n + 1;
+            }
+        }
+    }
+    n
+}
+
+// Appends the edges from the arguments of a CALL or START in `line` to `count` parameters from `begin` on.
+fn append_passing(
+    numbers: &[i32],
+    line: usize,
+    begin: usize,
+    count: usize,
+    edges: &mut [u32],
+    n: usize,
+) -> usize
+    requires { ⌜ (begin < 2 ^ 32) × (count ≤ 4) ⌝ }
+    ensures { λ r. ⌜ Appended (now (edges .entry)) n (now (edges .exit)) r (passingFrom (now (numbers .entry)) line begin count) ⌝ }
+{
+    let mut m = n;
+    let mut j = 0;
+    while j < count {
+        m = append(edges, m, table::field_of(numbers, line, 3 + j), begin + j);
+        j += 1;
+    }
+    m
+}
+
+// Appends what statement `s` puts into what; `base` is the line of statement 0.
+fn append_flow(
+    numbers: &[i32],
+    handle: &[usize],
+    counts: &[usize],
+    base: usize,
+    s: usize,
+    edges: &mut [u32],
+    n: usize,
+) -> usize
+    requires { ⌜ (now handle ≡ firstHandles (now numbers)) × (now counts ≡ parameterCounts (now numbers)) ⌝ }
+    requires { ⌜ Accepted (tableOf (now numbers)) ⌝ }
+    requires { ⌜ Lined (now numbers) base × (s < statements (now numbers)) ⌝ }
+    ensures { λ r. ⌜ Appended (now (edges .entry)) n (now (edges .exit)) r (edgesAt Flow (tableOf (now (numbers .entry))) s) ⌝ }
+{
+    let line = base + s;
+    let operation = table::field_of(numbers, line, 1);
+    if operation < 7 {
+        return n;
+    }
+    let a = table::field_of(numbers, line, 2);
+    if operation == 7 {
+        return append(edges, n, table::field_of(numbers, line, 3), a);
+    }
+    if operation < 10 {
+        let begin = lists::number_at(handle, a);
+        return append_passing(numbers, line, begin, lists::number_at(counts, a), edges, n);
+    }
+    n
+}
+
+// Fills the list with the edges of flow, from the front on, and returns how many there are.
+pub fn fill_flow(numbers: &[i32], handle: &[usize], counts: &[usize], edges: &mut [u32]) -> usize
+    requires { ⌜ (now handle ≡ firstHandles (now numbers)) × (now counts ≡ parameterCounts (now numbers)) ⌝ }
+    requires { ⌜ Accepted (tableOf (now numbers)) ⌝ }
+    ensures { λ r. ⌜ Appended (now (edges .entry)) 0 (now (edges .exit)) r (edgesFor Flow (tableOf (now (numbers .entry)))) ⌝ }
+{
+    let base = first_line(numbers);
+    let end = table::field_of(numbers, 0, 5);
+    let mut n = 0;
+    let mut s = 0;
+    while s < end {
+        n = append_flow(numbers, handle, counts, base, s, edges, n);
+        s += 1;
+    }
+    n
+}
+
+// Appends the edge up a CALL, or also up a START, from the routine that statement `s` names to the routine `c` that it stands in.
+fn append_naming(
+    numbers: &[i32],
+    base: usize,
+    s: usize,
+    starts: bool,
+    c: usize,
+    edges: &mut [u32],
+    n: usize,
+) -> usize
+    requires { ⌜ Lined (now numbers) base × (s < statements (now numbers)) ⌝ }
+    ensures { λ r. ⌜ Appended (now (edges .entry)) n (now (edges .exit)) r (upEdges starts c (statement (tableOf (now (numbers .entry))) s)) ⌝ }
+{
+    let line = base + s;
+    let operation = table::field_of(numbers, line, 1);
+    if operation == 8 {
+        return append(edges, n, table::field_of(numbers, line, 2), c);
+    }
+    if operation == 9 {
+        if starts {
+            return append(edges, n, table::field_of(numbers, line, 2), c);
+        }
+    }
+    n
+}
+
+// Fills the list with the edges up CALLs, or also up STARTs, and returns how many there are.
+pub fn fill_naming(numbers: &[i32], first: &[usize], starts: bool, edges: &mut [u32]) -> usize
+    requires { ⌜ now first ≡ firstStatements (now numbers) ⌝ }
+    requires { ⌜ Accepted (tableOf (now numbers)) ⌝ }
+    ensures { λ r. ⌜ Appended (now (edges .entry)) 0 (now (edges .exit)) r (edgesFor (upwards starts) (tableOf (now (numbers .entry)))) ⌝ }
+{
+    let base = first_line(numbers);
+    let end = table::field_of(numbers, 0, 5);
+    let mut n = 0;
+    let mut c = 0;
+    let mut s = 0;
+    while s < end {
+        c = owner_of(numbers, first, c, s);
+        n = append_naming(numbers, base, s, starts, c, edges, n);
+        s += 1;
+    }
+    n
+}
+
+// Appends the edges to statement `s` from what may come next.
+fn append_nexts(numbers: &[i32], base: usize, s: usize, edges: &mut [u32], n: usize) -> usize
+    requires { ⌜ Lined (now numbers) base × (s < statements (now numbers)) ⌝ }
+    ensures { λ r. ⌜ Appended (now (edges .entry)) n (now (edges .exit)) r (nextEdges s (statement (tableOf (now (numbers .entry))) s)) ⌝ }
+{
+    let line = base + s;
+    let operation = table::field_of(numbers, line, 1);
+    if operation == 0 {
+        return n;
+    }
+    if operation < 10 {
+        return append(edges, n, s + 1, s);
+    }
+    if 11 < operation {
+        return n;
+    }
+    let m = append(edges, n, table::field_of(numbers, line, 2), s);
+    if operation == 10 {
+        return m;
+    }
+    append(edges, m, s + 1, s)
+}
+
+// Appends the edge from a CALL, statement `s`, to the place of the CALLs of the routine that it names; these places stand from `end` on.
+fn append_call(
+    numbers: &[i32],
+    base: usize,
+    s: usize,
+    end: usize,
+    edges: &mut [u32],
+    n: usize,
+) -> usize
+    requires { ⌜ Lined (now numbers) base × (s < statements (now numbers)) × (end < 2 ^ 32) ⌝ }
+    ensures { λ r. ⌜ Appended (now (edges .entry)) n (now (edges .exit)) r (callEdges end s (statement (tableOf (now (numbers .entry))) s)) ⌝ }
+{
+    let line = base + s;
+    if table::field_of(numbers, line, 1) == 8 {
+        return append(edges, n, s, end + table::field_of(numbers, line, 2));
+    }
+    n
+}
+
+// Appends the edges that the future of statement `s` of routine `c` makes; `end` is the number of statements.
+fn append_future(
+    numbers: &[i32],
+    base: usize,
+    s: usize,
+    end: usize,
+    c: usize,
+    edges: &mut [u32],
+    n: usize,
+) -> usize
+    requires { ⌜ Lined (now numbers) base × (s < statements (now numbers)) ⌝ }
+    requires { ⌜ (end ≡ statements (now numbers)) × (c ≡ ownerOf (tableOf (now numbers)) s) × (c < 2 ^ 32) ⌝ }
+    ensures { λ r. ⌜ Appended (now (edges .entry)) n (now (edges .exit)) r (edgesAt Futures (tableOf (now (numbers .entry))) s) ⌝ }
+{
+    let m = append_nexts(numbers, base, s, edges, n);
+    let l = append(edges, m, end + c, s);
+    append_call(numbers, base, s, end, edges, l)
+}
+
+// Fills the list with the edges of futures, and returns how many there are.
+pub fn fill_future(numbers: &[i32], first: &[usize], edges: &mut [u32]) -> usize
+    requires { ⌜ now first ≡ firstStatements (now numbers) ⌝ }
+    requires { ⌜ Accepted (tableOf (now numbers)) ⌝ }
+    ensures { λ r. ⌜ Appended (now (edges .entry)) 0 (now (edges .exit)) r (edgesFor Futures (tableOf (now (numbers .entry)))) ⌝ }
+{
+    let base = first_line(numbers);
+    let end = table::field_of(numbers, 0, 5);
+    let mut n = 0;
+    let mut c = 0;
+    let mut s = 0;
+    while s < end {
+        c = owner_of(numbers, first, c, s);
+        n = append_future(numbers, base, s, end, c, edges, n);
+        s += 1;
+    }
+    n
+}

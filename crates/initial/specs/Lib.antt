@@ -1,0 +1,2 @@
+pub mod InitialLaws
+pub mod UnionLaws
