@@ -3,16 +3,17 @@ use mathlib.Core.Path.{_∙_}
 use Prim.Native.Nat.{_-_, _≤_}
 use native.Mathlib.Omega.{arith}
 use borrow.Author.Needs.{needs}
-use Rattle.lockset.specs.Rules.{setting, RoutinesBelow, Moved}
-use Rattle.lockset.proofs.MoveLaws.{part-as, routines-start, routines-next, routines-done}
+use Rattle.lock_rules.specs.Rules.{setting, Moved}
+use Rattle.lockset.specs.Passes.{RoutinesBelow}
+use Rattle.lockset.specs.PassLaws.{moved-or, routines-start, routines-next, routines-done, part-as}
 use Rattle.lockset.proofs.pass.Statement.{statement}
 use Rattle.lockset.proofs.pass.Tie as tie
 
 abbrev Inv-loop : tie.InvT-loop
-Inv-loop out₀ back₀ numbers first flow given all base marks₀ count changed₀ r₀ out back marks changed r = (r ≤ count) × Moved (setting numbers first flow given all base) (RoutinesBelow (setting numbers first flow given all base) r) out₀ back₀ out back changed₀ changed
+Inv-loop out₀ back₀ numbers first flow given fixed marks₀ count changed₀ r₀ out back marks changed r = (r ≤ count) × Moved (setting numbers first flow given fixed) (RoutinesBelow (setting numbers first flow given fixed) r) out₀ back₀ out back changed₀ changed
 
 abbrev μ-loop : tie.MeasureT-loop
-μ-loop out₀ back₀ numbers first flow given all base marks₀ count changed₀ r₀ out back marks changed r = count - r
+μ-loop out₀ back₀ numbers first flow given fixed marks₀ count changed₀ r₀ out back marks changed r = count - r
 
 field-of-requires : tie.Need-field-of-requires Inv-loop μ-loop
 field-of-requires c κs = search needs
@@ -33,22 +34,22 @@ number-at-requires-2 : tie.Need-number-at-requires-2 Inv-loop μ-loop
 number-at-requires-2 c κs = search needs
 
 go-range-requires : tie.Need-go-range-requires Inv-loop μ-loop
-go-range-requires c κs = (c .before .before .before .before .before .before .before .before .before .before .before .before .before .before .before .before .before .pre, record { there = omega (arith, c .before .before .before .before .before .loop-test .taken, c .before .before .before .before .before .before .before .before .before .before .before .field-of .ensures .0); low = omega (arith, c .before .before .before .before .number-at .ensures); high = omega (arith, c .before .before .before .number-at2 .ensures) })
+go-range-requires c κs = (c .before .before .before .before .before .before .before .before .before .before .before .before .before .before .before .before .pre, record { there = omega (arith, c .before .before .before .before .before .loop-test .taken, c .before .before .before .before .before .before .before .before .before .before .before .field-of .ensures .0); low = omega (arith, c .before .before .before .before .number-at .ensures); high = omega (arith, c .before .before .before .number-at2 .ensures) })
+
+either-requires : tie.Need-either-requires Inv-loop μ-loop
+either-requires c κs = search needs
 
 add-r : tie.Need-add-r Inv-loop μ-loop
-add-r c = omega (arith, c .before .before .before .before .before .before .before .before .before .before .loop-test .taken, c .before .before .before .before .before .before .before .before .before .before .before .before .before .before .before .before .field-of .ensures .1)
+add-r c = omega (arith, c .before .before .before .before .before .before .before .before .before .loop-test .taken, c .before .before .before .before .before .before .before .before .before .before .before .before .before .before .before .field-of .ensures .1)
 
 loop-less : tie.Need-loop-less Inv-loop μ-loop
 loop-less c = search needs
 
 loop-again : tie.Need-loop-again Inv-loop μ-loop
-loop-again c = (omega (arith, c .before .before .before .before .before .before .before .before .before .before .loop-test .taken), routines-next (c .before .before .before .before .before .before .before .before .before .before .before .loop .inv .1) (part-as (omega (arith, c .before .before .before .before .before .before .before .before .before .number-at .ensures)) (omega (arith, c .before .before .before .before .before .before .before .before .number-at2 .ensures)) (c .before .before .before .before .go-range .ensures)))
+loop-again c = (omega (arith, c .before .before .before .before .before .before .before .before .before .loop-test .taken), routines-next (c .before .before .before .before .before .before .before .before .before .before .loop .inv .1) (moved-or (c .either .ensures) (part-as (omega (arith, c .before .before .before .before .before .before .before .before .number-at .ensures)) (omega (arith, c .before .before .before .before .before .before .before .number-at2 .ensures)) (c .before .before .before .go-range .ensures))))
 
 same-length : tie.Need-same-length Inv-loop μ-loop
 same-length c = c .before .loop .inv .1 .kept .long ∙ c .before .before .before .before .narrow-to .ensures .long
-
-same-length-2 : tie.Need-same-length-2 Inv-loop μ-loop
-same-length-2 c = c .before .loop .inv .1 .kept .back-long
 
 returns : tie.Need-returns Inv-loop μ-loop
 returns c = routines-done (omega (arith, c .loop-test .left, c .before .loop .inv .0, c .before .before .before .before .before .before .field-of .ensures .0)) (c .before .before .before .before .narrow-to .ensures) (c .before .loop .inv .1)
@@ -66,9 +67,9 @@ pass-spec =
     add-number-at
     number-at-requires-2
     go-range-requires
+    either-requires
     add-r
     loop-less
     loop-again
     same-length
-    same-length-2
     returns)

@@ -3,8 +3,8 @@ use native.Mathlib.Omega.{arith}
 use borrow.Author.Needs.{needs}
 use lib.ListN.{length}
 use Prim.Native.Nat.{_-_}
-use Rattle.lockset.specs.Steps.{Turned}
-use Rattle.lockset.proofs.StepLaws.{turned-start, turned-next, turned-done}
+use Rattle.lockset.specs.Passes.{Turned}
+use Rattle.lockset.specs.PassLaws.{turned-start, turned-next, turned-done}
 use Rattle.lockset.proofs.turn_round.Statement.{statement}
 use Rattle.lockset.proofs.turn_round.Tie as tie
 
