@@ -39,7 +39,7 @@ slice-aggregate-flow-sets-3 c = let f = now (c .before .before .before .before .
 flow-sets-requires : tie.Need-flow-sets-requires
 flow-sets-requires c κs = let f = now (c .before .before .before .before .before .before .before .before .before .before .args .numbers) in
     let few : c .before .before .before .before .field-of .result ≤ 128 = omega (arith, c .before .before .before .before .field-of .ensures .0, handles-few f (c .before .before .before .before .before .before .before .before .before .before .pre .0)) in
-    (c .before .before .before .before .before .before .before .before .before .before .pre .0, (c .before .before .before .before .before .before .first-handles .ensures, (c .before .before .before .before .before .parameter-counts .ensures, (c .before .before .before .before .before .before .before .before .before .before .pre .1 .edges-long, (sym (cut-long {A = ℕ} _ 128 0 few) ∙ c .before .before .before .before .field-of .ensures .0, ?)))))
+    (c .before .before .before .before .before .before .before .before .before .before .pre .0, (c .before .before .before .before .before .before .first-handles .ensures, (c .before .before .before .before .before .parameter-counts .ensures, (c .before .before .before .before .before .before .before .before .before .before .pre .1 .edges-long, sym (cut-long {A = ℕ} _ 128 0 few) ∙ c .before .before .before .before .field-of .ensures .0))))
 
 array-share-prefix-flow : tie.Need-array-share-prefix-flow
 array-share-prefix-flow c = let f = now (c .before .before .before .before .before .before .before .before .before .before .before .before .before .before .args .numbers) in

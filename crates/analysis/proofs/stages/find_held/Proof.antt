@@ -26,7 +26,7 @@ slice-aggregate-given-sets c = let f = now (c .before .before .before .before .b
 given-sets-requires : tie.Need-given-sets-requires
 given-sets-requires c κs = let f = now (c .before .before .before .before .before .before .before .args .numbers) in
     let r : c .before .before .field-of .result ≤ 32 = omega (arith, c .before .before .field-of .ensures .0, routines-few f (c .before .before .before .before .before .before .before .pre .0)) in
-    (c .before .before .before .before .before .before .before .pre .0, (c .before .before .before .before .before .before .before .pre .1 .0, (c .before .before .before .before .before .before .before .pre .1 .1 .1 .1, (sym (cut-long {A = ℕ} _ 32 0 r) ∙ c .before .before .field-of .ensures .0, ?))))
+    (c .before .before .before .before .before .before .before .pre .0, (c .before .before .before .before .before .before .before .pre .1 .0, (c .before .before .before .before .before .before .before .pre .1 .1 .1 .1, (sym (cut-long {A = ℕ} _ 32 0 r) ∙ c .before .before .field-of .ensures .0))))
 
 array-share-prefix-given : tie.Need-array-share-prefix-given
 array-share-prefix-given c = let f = now (c .before .before .before .before .before .before .before .before .before .before .before .args .numbers) in
@@ -41,7 +41,7 @@ slice-aggregate-held-sets c = let f = now (c .before .before .before .before .be
     front-long 32 (c .before .before .before .before .given-sets .last .1 .1 .1 .1 .0) long
 
 held-sets-requires : tie.Need-held-sets-requires
-held-sets-requires c κs = (c .before .before .before .before .before .before .before .before .before .before .before .before .before .pre .0, (c .before .before .before .before .before .before .before .before .before .before .before .before .before .pre .1 .0, (c .before .before .before .before .before .before .before .before .before .before .before .before .before .pre .1 .1 .1 .0, ?)))
+held-sets-requires c κs = (c .before .before .before .before .before .before .before .before .before .before .before .before .before .pre .0, (c .before .before .before .before .before .before .before .before .before .before .before .before .before .pre .1 .0, c .before .before .before .before .before .before .before .before .before .before .before .before .before .pre .1 .1 .1 .0))
 
 same-length : tie.Need-same-length
 same-length c = search needs

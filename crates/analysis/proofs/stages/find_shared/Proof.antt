@@ -38,7 +38,7 @@ effect-sets-requires c κs = let f = now (c .before .before .before .before .bef
     let r : c .before .before .before .field-of .result ≤ 32 = omega (arith, c .before .before .before .field-of .ensures .0, routines-few f (c .before .before .before .before .before .before .before .before .pre .0)) in
     let p = c .before .before .before .before .before .before .before .before .pre in
     let long = sym (cut-long {A = ℕ} _ 32 0 r) ∙ c .before .before .before .field-of .ensures .0 in
-    (p .0, (p .1 .0, (p .1 .1 .1 .1, ((long, long), ?))))
+    (p .0, (p .1 .0, (p .1 .1 .1 .1, (long, long))))
 
 array-share-prefix-reads : tie.Need-array-share-prefix-reads
 array-share-prefix-reads c = let f = now (c .before .before .before .before .before .before .before .before .before .before .before .before .before .args .numbers) in

@@ -9,7 +9,7 @@ use Rattle.analysis.proofs.stages.shared_from.Statement.{statement}
 use Rattle.analysis.proofs.stages.shared_from.Tie as tie
 
 future-sets-requires : tie.Need-future-sets-requires
-future-sets-requires c κs = let p = c .before .before .before .before .before .before .before .before .pre in (p .0, (p .1 .0, (p .1 .1 .1 .1 .1 .1, (p .1 .1 .1 .1 .1 .0, ?))))
+future-sets-requires c κs = let p = c .before .before .before .before .before .before .before .before .pre in (p .0, (p .1 .0, (p .1 .1 .1 .1 .1 .1, p .1 .1 .1 .1 .1 .0)))
 
 shared-cells-requires : tie.Need-shared-cells-requires
 shared-cells-requires c κs = search needs
