@@ -1,11 +1,5 @@
 pub mod Reported
-pub mod Steps
-pub mod FoldLaws
-pub mod NoteLaws
-pub mod LineLaws
-pub mod PrintLaws
-pub mod Found
-pub mod FoundLaws
+pub mod Lent
 pub mod SetsLaws
 pub mod ReportedLaws
-pub mod LoadLaws
+pub mod SmallLaws

@@ -1,17 +1,18 @@
--- What `report` answers of a text and leaves in the lent buffer, and what `may_load` says. Assumes nothing.
+-- What `report` answers of a text and leaves in the lent buffer, and when a table may be loaded. Assumes nothing.
 use Prim.Native.Nat.{ℕ}
-use mathlib.Core.Bool.{Bool, false, cond, _&&_}
-use mathlib.Core.List.{List, _++_}
-use lib.Dec.{eqb, ltb}
-use lib.IntN.{ℤ, pos, negsuc}
-use lib.ListN.{length, drop}
+use mathlib.Core.Bool.{Bool, false, cond}
+use mathlib.Core.List.{List}
+use lib.Dec.{ltb}
+use lib.ListN.{length}
 use Rattle.lines.specs.Line.{numbersOf}
 use Rattle.table.specs.Table.{Table, tableOf}
 use Rattle.table.specs.Verdict.{verdict}
 use Rattle.table.specs.declared.Verdict.{Verdict}
 use Rattle.table.specs.declared.Verdict.the-variants.{Accepted, Refused}
-use Rattle.report.specs.Report.{reportText, unguardedTotal, strayTotal}
+use Rattle.report.specs.Report.{reportText}
+use Rattle.report_printer.specs.Printed.{printedOver, countsNothing}
 use Rattle.analysis.specs.declared.Answer.{Answer}
+use Rattle.analysis.specs.declared.Examined.{Examined}
 
 -- the table that a text says
 abbrev pub tableIn : List ℕ → Table
@@ -34,10 +35,6 @@ answerBy (Refused number line) report room = turnedDown number line
 unfoldable pub reportAnswer : List ℕ → ℕ → Answer
 reportAnswer text room = answerBy (verdict text) (reportText (tableIn text)) room
 
--- the report from the first place on, the places behind it as they were; a buffer that is too short stays as it is
-abbrev pub printedOver : List ℕ → List ℕ → List ℕ
-printedOver report out = cond (ltb (length out) (length report)) out (report ++ drop (length report) out)
-
 -- "1 to 13 return the number and line and change no buffer"
 abbrev pub writtenBy : Verdict → List ℕ → List ℕ → List ℕ
 writtenBy Accepted report out = printedOver report out
@@ -47,15 +44,6 @@ writtenBy (Refused number line) report out = out
 unfoldable pub reportedInto : List ℕ → List ℕ → List ℕ
 reportedInto text out = writtenBy (verdict text) (reportText (tableIn text)) out
 
--- a total is 0
-abbrev pub isNone : ℤ → Bool
-isNone (pos n) = eqb n 0
-isNone (negsuc n) = false
-
--- both totals in line 59 are 0
-unfoldable pub countsNothing : Table → Bool
-countsNothing t = isNone (unguardedTotal t) && isNone (strayTotal t)
-
 -- accepted, and both totals are 0
 abbrev pub loadableBy : Verdict → Table → Bool
 loadableBy Accepted t = countsNothing t
@@ -63,3 +51,10 @@ loadableBy (Refused number line) t = false
 
 unfoldable pub loadable : List ℕ → Bool
 loadable text = loadableBy (verdict text) (tableIn text)
+
+-- the answer, and whether the table may be loaded
+abbrev pub withClean : Answer → Bool → Examined
+withClean a b = record { number = a .number; line = a .line; bytes = a .bytes; clean = b }
+
+unfoldable pub examinedIn : List ℕ → ℕ → Examined
+examinedIn text room = withClean (reportAnswer text room) (loadable text)

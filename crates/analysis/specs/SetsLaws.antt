@@ -1,67 +1,27 @@
--- The sets of a table, each computed out of those before it, in lent lists. Assumes nothing.
+-- The sets of a table, each computed out of those before it, and how many there are of each. Assumes nothing.
 use mathlib.Core.Path.{_≡_, sym, ap, ap₂, _∙_}
 use mathlib.Core.Bool.{true, false}
-use mathlib.Core.List.{List}
-use Prim.Native.Nat.{ℕ, zero, suc, _+_, _*_, _^_, _≤_, _<_, zero-le}
+use mathlib.Core.List.{List, _++_}
+use Prim.Native.Nat.{ℕ, _-_, _≤_}
 use native.Mathlib.Omega.{arith}
-use lib.IntN.{ℤ, pos, negsuc}
-use borrow.Author.Tests.{ltb-true}
-use Rattle.lines.specs.Field.{inField}
-use lib.ListN.{length, take, replicate, length-replicate}
-use Rattle.table.specs.Fields.{field, plain}
+use lib.IntN.{ℤ}
+use lib.ListN.{length, take, drop, replicate, length-append, length-take, length-drop}
+use lib.Seq.{take-at, drop-at}
+use borrow.Rule.Slice.PartMut.{putMid, take-put}
 use Rattle.table.specs.Header.{handles, routines, statements}
-use Rattle.table.specs.Layout.{firstStatements, firstHandles, parameterCounts}
-use Rattle.table.specs.Routines.{firstOf, countOf}
-use Rattle.table.specs.CutLaws.{take-replicate, cut-long}
-use Rattle.table.specs.TabulateLaws.{length-tabulate}
-use Rattle.table.specs.Table.{Table, tableOf, countsOf}
-use Rattle.table.specs.LookupLaws.{handles-length, routines-length, statements-length}
-use Rattle.table.specs.LayoutLaws.{Laid}
+use Rattle.table.specs.Table.{Table, tableOf}
 use Rattle.table.specs.Accepted.{Accepted}
-use Rattle.table.specs.declared.Counts.{Counts}
+use Rattle.table.specs.CutLaws.{take-replicate}
+use Rattle.table.specs.LookupLaws.{handles-length, routines-length, statements-length}
+use Rattle.table.specs.TabulateLaws.{length-tabulate}
 use Rattle.report.specs.Layout.{Layout, oneEach}
-use Rattle.report.specs.Greatest.{greatest, leaving, leftOut}
-use Rattle.report.specs.Held.{heldSets, allLocks, allWays}
+use Rattle.report.specs.Greatest.{greatest}
 use Rattle.report.specs.Flow.{flowSets}
 use Rattle.report.specs.Effect.{effects, gives}
+use Rattle.report.specs.Held.{heldSets}
 use Rattle.report.specs.Future.{futures}
 use Rattle.report.specs.Findings.{setsOf}
-use Rattle.analysis.specs.Found.{setsIn, Base, AcceptedNumbers, Lent}
-
--- ---- the three lists
-
-plain-small : (z : ℤ) → inField z ≡ true → plain z < 2 ^ 31
-unfolding plain
-plain-small (pos n) e = omega (arith, ltb-true n 1000000 e)
-plain-small (negsuc n) e = omega arith
-
-module _ (f : List ℤ) (read : AcceptedNumbers f) where
-  first-most : (k : ℕ) → firstOf f k ≤ k * 2 ^ 31
-  unfolding firstOf
-  first-most zero = zero-le
-  first-most (suc k) =
-      let ih : firstOf f k ≤ k * 2 ^ 31 = first-most k in
-      let c : countOf f k < 2 ^ 31 = plain-small _ (read .in-field _) in
-      omega arith
-
-  pub base : (first handle counts : List ℕ) → first ≡ firstStatements f → handle ≡ firstHandles f
-      → counts ≡ parameterCounts f → Base f first handle counts
-  base first handle counts a b c =
-      let acc = read .accepted in
-      let h : length (tableOf f .handles) ≤ 128 = acc .handles-most in
-      let r : length (tableOf f .routines) ≤ 32 = acc .routines-most in
-      let s : length (tableOf f .statements) ≤ 512 = acc .statements-most in
-      let count : routines f ≤ 32 = omega (arith, routines-length f) in
-      let few : Laid f first handle counts = record {
-        handles-most = omega (arith, handles-length f);
-        routines-most = omega (arith, routines-length f);
-        statements-most = omega (arith, statements-length f);
-        first-small = λ k l. let m : firstOf f k ≤ k * 2 ^ 31 = first-most k in omega arith;
-        first-is = a;
-        handle-is = b;
-        counts-is = c;
-      } in
-      record { laid = few; accepted = acc }
+use Rattle.findings.specs.Found.{setsIn}
 
 -- ---- the sets, each out of those before it
 
@@ -90,13 +50,12 @@ module _ (t : Table) where
     unfolding setsOf
     held-known given a g e = e ∙ ap₂ {C = List ℕ} (heldSets t one) is g
 
-    pub later-reads-known : (reads a : List ℕ) → reads ≡ setsIn t .reads → a ≡ futures t one flow reads false → a ≡ setsIn t .futureReads
+    pub later-known : (reads writes a : List ℕ) → reads ≡ setsIn t .reads → writes ≡ setsIn t .writes
+        → a ≡ futures t one flow reads false ++ futures t one flow writes true → a ≡ setsIn t .futureReads ++ setsIn t .futureWrites
     unfolding setsOf
-    later-reads-known reads a g e = e ∙ ap₂ {C = List ℕ} (λ (l m : List ℕ). futures t one l m false) is g
-
-    pub later-writes-known : (writes a : List ℕ) → writes ≡ setsIn t .writes → a ≡ futures t one flow writes true → a ≡ setsIn t .futureWrites
-    unfolding setsOf
-    later-writes-known writes a g e = e ∙ ap₂ {C = List ℕ} (λ (l m : List ℕ). futures t one l m true) is g
+    later-known reads writes a r w e =
+        e ∙ ap₂ {C = List ℕ} (λ (x y : List ℕ). x ++ y) (ap₂ {C = List ℕ} (λ (l m : List ℕ). futures t one l m false) is r)
+        (ap₂ {C = List ℕ} (λ (l m : List ℕ). futures t one l m true) is w)
 
 -- the held sets of a table are as many as its statements
 pub held-length : (f : List ℤ) (held : List ℕ) → held ≡ setsIn (tableOf f) .held → length held ≡ statements f
@@ -105,45 +64,46 @@ held-length f held e = ap length e ∙ length-tabulate (length (tableOf f .state
 
 -- ---- how many there are of each
 
-module _ (f : List ℤ) (acc : Accepted (tableOf f)) (k : Counts) (e : k ≡ countsOf f) where
-  pub handles-are : k .handles ≡ handles f
-  unfolding countsOf
-  handles-are = ap (λ (x : Counts). x .handles) e
+module _ (f : List ℤ) (acc : Accepted (tableOf f)) where
+  pub handles-few : handles f ≤ 128
+  handles-few = let h : length (tableOf f .handles) ≤ 128 = acc .handles-most in omega (arith, handles-length f)
 
-  pub routines-are : k .routines ≡ routines f
-  unfolding countsOf
-  routines-are = ap (λ (x : Counts). x .routines) e
+  pub routines-few : routines f ≤ 32
+  routines-few = let h : length (tableOf f .routines) ≤ 32 = acc .routines-most in omega (arith, routines-length f)
 
-  pub statements-are : k .statements ≡ statements f
-  unfolding countsOf
-  statements-are = ap (λ (x : Counts). x .statements) e
+  pub statements-few : statements f ≤ 512
+  statements-few = let h : length (tableOf f .statements) ≤ 512 = acc .statements-most in omega (arith, statements-length f)
 
-  pub handles-few : k .handles ≤ 128
-  handles-few = let h : length (tableOf f .handles) ≤ 128 = acc .handles-most in omega (arith, handles-are, handles-length f)
+-- ---- the first places of a list of zeros, filled anew
 
-  pub routines-few : k .routines ≤ 32
-  routines-few = let h : length (tableOf f .routines) ≤ 32 = acc .routines-most in omega (arith, routines-are, routines-length f)
+module _ (m : ℕ) (a : List ℕ) {n : ℕ} (e : length a ≡ n) where
+  abbrev filled : List ℕ
+  filled = a ++ drop n (replicate m 0)
 
-  pub statements-few : k .statements ≤ 512
-  statements-few = let h : length (tableOf f .statements) ≤ 512 = acc .statements-most in omega (arith, statements-are, statements-length f)
+  pub front-fits : n ≤ length filled
+  front-fits = omega (arith, length-append a (drop n (replicate m 0)))
 
--- ---- lists of zeros, cut to what the header says
+  pub front-is : take n filled ≡ a
+  front-is = take-at a (drop n (replicate m 0)) n e
 
-module _ (f : List ℤ) (acc : Accepted (tableOf f)) (k : Counts) (e : k ≡ countsOf f) (held later edges : ℕ) where
-  pub lent : k .statements ≤ held → k .statements + k .routines ≤ later → 4 * k .statements ≤ edges
-      → Lent f (take (k .statements) (replicate held 0)) (take (k .statements + k .routines) (replicate later 0))
-      (take (k .statements + k .routines) (replicate later 0)) (replicate edges 0) (replicate edges 0)
-  lent a b c =
-      let s = statements-are f acc k e in
-      let r = routines-are f acc k e in
-      let long : length (take (k .statements + k .routines) (replicate {A = ℕ} later 0)) ≡ statements f + routines f =
-      sym (cut-long (k .statements + k .routines) later 0 b) ∙ omega arith in
-      record {
-        held-is = take-replicate (k .statements) held 0 a ∙ ap (λ (n : ℕ). replicate {A = ℕ} n 0) s;
-        working = record {
-          later-reads-long = long;
-          later-writes-long = long;
-          from-long = omega (arith, length-replicate {A = ℕ} edges 0);
-          to-long = omega (arith, length-replicate {A = ℕ} edges 0);
-        };
-      }
+  pub front-long : n ≡ length (take n filled)
+  front-long = sym (ap length front-is ∙ e)
+
+-- the front of a list of zeros
+pub zeros-front : (n : ℕ) (work : List ℕ) → work ≡ replicate (length work) 0 → n ≤ length work → take n work ≡ replicate n 0
+zeros-front n work z h = ap (take n) z ∙ take-replicate n (length work) 0 h
+
+-- ---- the held sets in the first places of the lent list, the futures behind them
+
+module _ (n : ℕ) (work held : List ℕ) (fits : n ≤ length work) (e : length held ≡ length (take n work)) where
+  held-long : length held ≡ n
+  held-long = e ∙ length-take n work ∙ omega arith
+
+  pub behind-long : (end : ℕ) → n ≤ end → end ≤ length work → length (take (end - n) (drop n (held ++ drop n work))) ≡ end - n
+  behind-long end low high =
+      ap (λ (l : List ℕ). length (take (end - n) l)) (drop-at held (drop n work) n held-long)
+      ∙ length-take (end - n) (drop n work) ∙ omega (arith, length-drop n work)
+
+  pub held-kept : (k : ℕ) (later : List ℕ) → take n (putMid n k (held ++ drop n work) later) ≡ held
+  held-kept k later =
+      take-put n k (held ++ drop n work) later (omega (arith, length-append held (drop n work), held-long)) ∙ take-at held (drop n work) n held-long

@@ -1,336 +1,151 @@
-// What is found of a table: its sets, each out of those before it, and what the report says of them, all in lent lists.
+// The report of an accepted table: its sets, each out of those before it, what is found with them, and its lines. Flow and held sets stay as they
+// are found.
 ghost use mathlib.Core.Path.{_≡_};
+ghost use Prim.Native.Nat.{_+_, _*_, _≤_};
 ghost use lib.ListN.{length, replicate};
-ghost use Rattle.table.specs.Header.{handles, routines, statements};
+ghost use Rattle.table.specs.Header.{routines, statements};
+ghost use Rattle.table.specs.Layout.{firstStatements};
 ghost use Rattle.table.specs.Table.{tableOf};
-ghost use Rattle.analysis.specs.Found.{setsIn, Base, Working, Lent, Known, Found, AcceptedNumbers};
-use crate::findings;
+ghost use Rattle.table.specs.Accepted.{Accepted};
+ghost use Rattle.report.specs.Layout.{oneEach};
+ghost use Rattle.report.specs.Findings.{sharedCells};
+ghost use Rattle.report.specs.Report.{reportText};
+ghost use Rattle.findings.specs.Found.{setsIn};
+ghost use Rattle.report_printer.specs.Printed.{bytesIn, printedOver, countsNothing};
+ghost use Rattle.analysis.specs.Lent.{Lent};
+use report_printer::Printed;
 
-// What is found with these sets: the shared cells; in `held` 1 for each stray GIVE, 0 for every other statement; and for each cell its common
-// locks, and how many statements read and write it.
-fn find_from(
-    numbers: &[i32],
-    flow: &[u64],
-    reads: &[u64],
-    writes: &[u64],
-    held: &mut [u64],
-    later_reads: &[u64],
-    later_writes: &[u64],
-    common: &mut [u64; 64],
-    reading: &mut [usize; 64],
-    writing: &mut [usize; 64],
-) -> u64
-    requires { ⌜ Known (now numbers) (now flow) (now reads) (now writes) (now held) (now «later_reads») (now «later_writes») ⌝ }
-    requires { ⌜ AcceptedNumbers (now numbers) × (length (now held) ≡ statements (now numbers)) ⌝ }
-    requires { ⌜ (length (now common) ≡ 64) × (now reading ≡ replicate 64 0) × (now writing ≡ replicate 64 0) ⌝ }
-    ensures { λ r. ⌜ Found (tableOf (now (numbers .entry))) r (now (common .exit)) (now (reading .exit)) (now (writing .exit)) (now (held .exit)) ⌝ }
-{
-    let size = table::counts_of(numbers);
-    let count = size.statements;
-    let all = sets::firsts(size.locks);
-    let shared = findings::shared_cells(numbers, reads, writes, later_reads, later_writes, count);
-    findings::note_accesses(numbers, flow, held, all, count, common, reading, writing);
-    findings::mark_strays(numbers, flow, held);
-    shared
-}
-
-// With all sets but the futures: these, and what is found.
-fn with_held(
+// Leaves in `held` what is held at each statement.
+fn find_held(
     numbers: &[i32],
     first: &[usize],
-    handle: &[usize],
-    counts: &[usize],
+    flow: &[u64],
+    held: &mut [u64],
+    edges: &mut [u32],
+)
+    requires { ⌜ Accepted (tableOf (now numbers)) ⌝ }
+    requires { ⌜ now first ≡ firstStatements (now numbers) ⌝ }
+    requires { ⌜ now flow ≡ setsIn (tableOf (now numbers)) .flow ⌝ }
+    requires { ⌜ now held ≡ replicate (statements (now numbers)) 0 ⌝ }
+    requires { ⌜ 4 * statements (now numbers) ≤ length (now edges) ⌝ }
+    ensures { λ _. ⌜ now (held .exit) ≡ setsIn (tableOf (now (numbers .entry))) .held ⌝ }
+{
+    let routines = table::field_of(numbers, 0, 4);
+    let mut given = [0u64; 32];
+    dataflow::given_sets(numbers, first, flow, edges, &mut given[..routines]);
+    lockset::held_sets(numbers, first, flow, &given[..routines], held);
+}
+
+// The shared cells, from the effects; `later` lends the room for the futures.
+fn shared_from(
+    numbers: &[i32],
+    first: &[usize],
     flow: &[u64],
     reads: &[u64],
     writes: &[u64],
-    held: &mut [u64],
-    later_reads: &mut [u64],
-    later_writes: &mut [u64],
-    from: &mut [u16],
-    to: &mut [u16],
-    common: &mut [u64; 64],
-    reading: &mut [usize; 64],
-    writing: &mut [usize; 64],
+    later: &mut [u64],
+    edges: &mut [u32],
 ) -> u64
-    requires { ⌜ AcceptedNumbers (now numbers) × Base (now numbers) (now first) (now handle) (now counts) ⌝ }
+    requires { ⌜ Accepted (tableOf (now numbers)) ⌝ }
+    requires { ⌜ now first ≡ firstStatements (now numbers) ⌝ }
     requires { ⌜ now flow ≡ setsIn (tableOf (now numbers)) .flow ⌝ }
     requires { ⌜ now reads ≡ setsIn (tableOf (now numbers)) .reads ⌝ }
     requires { ⌜ now writes ≡ setsIn (tableOf (now numbers)) .writes ⌝ }
-    requires { ⌜ now held ≡ setsIn (tableOf (now numbers)) .held ⌝ }
-    requires { ⌜ Working (now numbers) (now «later_reads») (now «later_writes») (now from) (now to) ⌝ }
-    requires { ⌜ (length (now common) ≡ 64) × (now reading ≡ replicate 64 0) × (now writing ≡ replicate 64 0) ⌝ }
-    ensures { λ r. ⌜ Found (tableOf (now (numbers .entry))) r (now (common .exit)) (now (reading .exit)) (now (writing .exit)) (now (held .exit)) ⌝ }
+    requires { ⌜ length (now later) ≡ 2 * (statements (now numbers) + routines (now numbers)) ⌝ }
+    requires { ⌜ 4 * statements (now numbers) ≤ length (now edges) ⌝ }
+    ensures { λ r. ⌜ r ≡ sharedCells (tableOf (now (numbers .entry))) (oneEach (tableOf (now (numbers .entry)))) (setsIn (tableOf (now (numbers .entry)))) ⌝ }
 {
-    dataflow::future_sets(
-        numbers,
-        first,
-        handle,
-        counts,
-        flow,
-        reads,
-        writes,
-        from,
-        to,
-        later_reads,
-        later_writes,
-    );
-    find_from(
-        numbers,
-        flow,
-        reads,
-        writes,
-        held,
-        later_reads,
-        later_writes,
-        common,
-        reading,
-        writing,
-    )
+    dataflow::future_sets(numbers, first, flow, reads, writes, edges, later);
+    findings::shared_cells(numbers, reads, writes, later)
 }
 
-// With the locks that routines give up: the held sets, and what is found.
-fn with_given(
+// The shared cells; `later` lends the room for the futures.
+fn find_shared(
     numbers: &[i32],
     first: &[usize],
-    handle: &[usize],
-    counts: &[usize],
     flow: &[u64],
-    reads: &[u64],
-    writes: &[u64],
-    given: &[u64],
-    held: &mut [u64],
-    later_reads: &mut [u64],
-    later_writes: &mut [u64],
-    from: &mut [u16],
-    to: &mut [u16],
-    common: &mut [u64; 64],
-    reading: &mut [usize; 64],
-    writing: &mut [usize; 64],
+    later: &mut [u64],
+    edges: &mut [u32],
 ) -> u64
-    requires { ⌜ AcceptedNumbers (now numbers) × Base (now numbers) (now first) (now handle) (now counts) ⌝ }
+    requires { ⌜ Accepted (tableOf (now numbers)) ⌝ }
+    requires { ⌜ now first ≡ firstStatements (now numbers) ⌝ }
     requires { ⌜ now flow ≡ setsIn (tableOf (now numbers)) .flow ⌝ }
-    requires { ⌜ now reads ≡ setsIn (tableOf (now numbers)) .reads ⌝ }
-    requires { ⌜ now writes ≡ setsIn (tableOf (now numbers)) .writes ⌝ }
-    requires { ⌜ now given ≡ setsIn (tableOf (now numbers)) .given ⌝ }
-    requires { ⌜ Lent (now numbers) (now held) (now «later_reads») (now «later_writes») (now from) (now to) ⌝ }
-    requires { ⌜ (length (now common) ≡ 64) × (now reading ≡ replicate 64 0) × (now writing ≡ replicate 64 0) ⌝ }
-    ensures { λ r. ⌜ Found (tableOf (now (numbers .entry))) r (now (common .exit)) (now (reading .exit)) (now (writing .exit)) (now (held .exit)) ⌝ }
+    requires { ⌜ length (now later) ≡ 2 * (statements (now numbers) + routines (now numbers)) ⌝ }
+    requires { ⌜ 4 * statements (now numbers) ≤ length (now edges) ⌝ }
+    ensures { λ r. ⌜ r ≡ sharedCells (tableOf (now (numbers .entry))) (oneEach (tableOf (now (numbers .entry)))) (setsIn (tableOf (now (numbers .entry)))) ⌝ }
 {
-    lockset::held_sets(numbers, first, handle, counts, flow, given, held);
-    with_held(
-        numbers,
-        first,
-        handle,
-        counts,
-        flow,
-        reads,
-        writes,
-        held,
-        later_reads,
-        later_writes,
-        from,
-        to,
-        common,
-        reading,
-        writing,
-    )
-}
-
-// With the effects: the locks that routines give up, and what is found.
-fn with_effects(
-    numbers: &[i32],
-    first: &[usize],
-    handle: &[usize],
-    counts: &[usize],
-    flow: &[u64],
-    reads: &[u64],
-    writes: &[u64],
-    given: &mut [u64],
-    held: &mut [u64],
-    later_reads: &mut [u64],
-    later_writes: &mut [u64],
-    from: &mut [u16],
-    to: &mut [u16],
-    common: &mut [u64; 64],
-    reading: &mut [usize; 64],
-    writing: &mut [usize; 64],
-) -> u64
-    requires { ⌜ AcceptedNumbers (now numbers) × Base (now numbers) (now first) (now handle) (now counts) ⌝ }
-    requires { ⌜ now flow ≡ setsIn (tableOf (now numbers)) .flow ⌝ }
-    requires { ⌜ now reads ≡ setsIn (tableOf (now numbers)) .reads ⌝ }
-    requires { ⌜ now writes ≡ setsIn (tableOf (now numbers)) .writes ⌝ }
-    requires { ⌜ length (now given) ≡ routines (now numbers) ⌝ }
-    requires { ⌜ Lent (now numbers) (now held) (now «later_reads») (now «later_writes») (now from) (now to) ⌝ }
-    requires { ⌜ (length (now common) ≡ 64) × (now reading ≡ replicate 64 0) × (now writing ≡ replicate 64 0) ⌝ }
-    ensures { λ r. ⌜ Found (tableOf (now (numbers .entry))) r (now (common .exit)) (now (reading .exit)) (now (writing .exit)) (now (held .exit)) ⌝ }
-{
-    dataflow::given_sets(numbers, first, handle, counts, flow, from, to, given);
-    with_given(
-        numbers,
-        first,
-        handle,
-        counts,
-        flow,
-        reads,
-        writes,
-        given,
-        held,
-        later_reads,
-        later_writes,
-        from,
-        to,
-        common,
-        reading,
-        writing,
-    )
-}
-
-// With the flow sets: the effects, and what is found.
-fn with_flow(
-    numbers: &[i32],
-    first: &[usize],
-    handle: &[usize],
-    counts: &[usize],
-    flow: &[u64],
-    reads: &mut [u64],
-    writes: &mut [u64],
-    given: &mut [u64],
-    held: &mut [u64],
-    later_reads: &mut [u64],
-    later_writes: &mut [u64],
-    from: &mut [u16],
-    to: &mut [u16],
-    common: &mut [u64; 64],
-    reading: &mut [usize; 64],
-    writing: &mut [usize; 64],
-) -> u64
-    requires { ⌜ AcceptedNumbers (now numbers) × Base (now numbers) (now first) (now handle) (now counts) ⌝ }
-    requires { ⌜ now flow ≡ setsIn (tableOf (now numbers)) .flow ⌝ }
-    requires { ⌜ (length (now reads) ≡ routines (now numbers)) × (length (now writes) ≡ routines (now numbers)) × (length (now given) ≡ routines (now numbers)) ⌝ }
-    requires { ⌜ Lent (now numbers) (now held) (now «later_reads») (now «later_writes») (now from) (now to) ⌝ }
-    requires { ⌜ (length (now common) ≡ 64) × (now reading ≡ replicate 64 0) × (now writing ≡ replicate 64 0) ⌝ }
-    ensures { λ r. ⌜ Found (tableOf (now (numbers .entry))) r (now (common .exit)) (now (reading .exit)) (now (writing .exit)) (now (held .exit)) ⌝ }
-{
+    let routines = table::field_of(numbers, 0, 4);
+    let mut reads = [0u64; 32];
+    let mut writes = [0u64; 32];
     dataflow::effect_sets(
         numbers,
         first,
-        handle,
-        counts,
         flow,
-        from,
-        to,
-        reads,
-        writes,
-    );
-    with_effects(
-        numbers,
-        first,
-        handle,
-        counts,
-        flow,
-        reads,
-        writes,
-        given,
-        held,
-        later_reads,
-        later_writes,
-        from,
-        to,
-        common,
-        reading,
-        writing,
-    )
-}
-
-// The sets of a table, and what is found.
-fn find_with(
-    numbers: &[i32],
-    first: &[usize],
-    handle: &[usize],
-    counts: &[usize],
-    flow: &mut [u64],
-    reads: &mut [u64],
-    writes: &mut [u64],
-    given: &mut [u64],
-    held: &mut [u64],
-    later_reads: &mut [u64],
-    later_writes: &mut [u64],
-    from: &mut [u16],
-    to: &mut [u16],
-    common: &mut [u64; 64],
-    reading: &mut [usize; 64],
-    writing: &mut [usize; 64],
-) -> u64
-    requires { ⌜ AcceptedNumbers (now numbers) × Base (now numbers) (now first) (now handle) (now counts) ⌝ }
-    requires { ⌜ (length (now flow) ≡ handles (now numbers)) × (length (now reads) ≡ routines (now numbers)) × (length (now writes) ≡ routines (now numbers)) × (length (now given) ≡ routines (now numbers)) ⌝ }
-    requires { ⌜ Lent (now numbers) (now held) (now «later_reads») (now «later_writes») (now from) (now to) ⌝ }
-    requires { ⌜ (length (now common) ≡ 64) × (now reading ≡ replicate 64 0) × (now writing ≡ replicate 64 0) ⌝ }
-    ensures { λ r. ⌜ Found (tableOf (now (numbers .entry))) r (now (common .exit)) (now (reading .exit)) (now (writing .exit)) (now (held .exit)) ⌝ }
-{
-    dataflow::flow_sets(numbers, first, handle, counts, from, to, flow);
-    with_flow(
-        numbers,
-        first,
-        handle,
-        counts,
-        flow,
-        reads,
-        writes,
-        given,
-        held,
-        later_reads,
-        later_writes,
-        from,
-        to,
-        common,
-        reading,
-        writing,
-    )
-}
-
-// What is found of an accepted table, as find_from leaves it.
-pub fn summary_of(
-    numbers: &[i32],
-    held: &mut [u64],
-    later_reads: &mut [u64],
-    later_writes: &mut [u64],
-    from: &mut [u16],
-    to: &mut [u16],
-    common: &mut [u64; 64],
-    reading: &mut [usize; 64],
-    writing: &mut [usize; 64],
-) -> u64
-    requires { ⌜ AcceptedNumbers (now numbers) ⌝ }
-    requires { ⌜ Lent (now numbers) (now held) (now «later_reads») (now «later_writes») (now from) (now to) ⌝ }
-    requires { ⌜ (length (now common) ≡ 64) × (now reading ≡ replicate 64 0) × (now writing ≡ replicate 64 0) ⌝ }
-    ensures { λ r. ⌜ Found (tableOf (now (numbers .entry))) r (now (common .exit)) (now (reading .exit)) (now (writing .exit)) (now (held .exit)) ⌝ }
-{
-    let first = table::first_statements(numbers);
-    let handle = table::first_handles(numbers);
-    let counts = table::parameter_counts(numbers);
-    let size = table::counts_of(numbers);
-    let handles = size.handles;
-    let routines = size.routines;
-    let mut flow = [0u64; 128];
-    let mut reads = [0u64; 32];
-    let mut writes = [0u64; 32];
-    let mut given = [0u64; 32];
-    find_with(
-        numbers,
-        &first[..],
-        &handle[..],
-        &counts[..],
-        &mut flow[..handles],
+        edges,
         &mut reads[..routines],
         &mut writes[..routines],
-        &mut given[..routines],
-        held,
-        later_reads,
-        later_writes,
-        from,
-        to,
-        common,
-        reading,
-        writing,
+    );
+    shared_from(
+        numbers,
+        first,
+        flow,
+        &reads[..routines],
+        &writes[..routines],
+        later,
+        edges,
     )
+}
+
+// Writes the report, from the flow and held sets and the shared cells.
+fn print_found(numbers: &[i32], flow: &[u64], held: &[u64], shared: u64, out: &mut [u8]) -> Printed
+    requires { ⌜ Accepted (tableOf (now numbers)) ⌝ }
+    requires { ⌜ now flow ≡ setsIn (tableOf (now numbers)) .flow ⌝ }
+    requires { ⌜ now held ≡ setsIn (tableOf (now numbers)) .held ⌝ }
+    requires { ⌜ shared ≡ sharedCells (tableOf (now numbers)) (oneEach (tableOf (now numbers))) (setsIn (tableOf (now numbers))) ⌝ }
+    ensures bytes { λ r. ⌜ r .bytes ≡ bytesIn (reportText (tableOf (now (numbers .entry)))) (length (now (out .entry))) ⌝ }
+    ensures clean { λ r. ⌜ r .clean ≡ countsNothing (tableOf (now (numbers .entry))) ⌝ }
+    ensures buffer { λ _. ⌜ now (out .exit) ≡ printedOver (reportText (tableOf (now (numbers .entry)))) (now (out .entry)) ⌝ }
+{
+    let mut noted = [0u64; 192];
+    findings::note_accesses(numbers, flow, held, &mut noted);
+    report_printer::print_report(numbers, flow, held, shared, &noted[..], out)
+}
+
+// Writes the report, from the flow sets. The held sets go into the first places of `work`, the futures behind them.
+fn with_flow(
+    numbers: &[i32],
+    flow: &[u64],
+    work: &mut [u64],
+    edges: &mut [u32],
+    out: &mut [u8],
+) -> Printed
+    requires { ⌜ Accepted (tableOf (now numbers)) ⌝ }
+    requires { ⌜ now flow ≡ setsIn (tableOf (now numbers)) .flow ⌝ }
+    requires { ⌜ Lent (now numbers) (now work) (now edges) ⌝ }
+    ensures bytes { λ r. ⌜ r .bytes ≡ bytesIn (reportText (tableOf (now (numbers .entry)))) (length (now (out .entry))) ⌝ }
+    ensures clean { λ r. ⌜ r .clean ≡ countsNothing (tableOf (now (numbers .entry))) ⌝ }
+    ensures buffer { λ _. ⌜ now (out .exit) ≡ printedOver (reportText (tableOf (now (numbers .entry)))) (now (out .entry)) ⌝ }
+{
+    let first = table::first_statements(numbers);
+    let count = table::field_of(numbers, 0, 5);
+    let end = count + 2 * (count + table::field_of(numbers, 0, 4));
+    find_held(numbers, &first[..], flow, &mut work[..count], edges);
+    let shared = find_shared(numbers, &first[..], flow, &mut work[count..end], edges);
+    print_found(numbers, flow, &work[..count], shared, out)
+}
+
+// Writes the report of an accepted table to the start of `out`, the places behind it stay; if it does not fit, no byte is written.
+pub fn examine(numbers: &[i32], work: &mut [u64], edges: &mut [u32], out: &mut [u8]) -> Printed
+    requires { ⌜ Accepted (tableOf (now numbers)) ⌝ }
+    requires { ⌜ Lent (now numbers) (now work) (now edges) ⌝ }
+    ensures bytes { λ r. ⌜ r .bytes ≡ bytesIn (reportText (tableOf (now (numbers .entry)))) (length (now (out .entry))) ⌝ }
+    ensures clean { λ r. ⌜ r .clean ≡ countsNothing (tableOf (now (numbers .entry))) ⌝ }
+    ensures buffer { λ _. ⌜ now (out .exit) ≡ printedOver (reportText (tableOf (now (numbers .entry)))) (now (out .entry)) ⌝ }
+{
+    let handle = table::first_handles(numbers);
+    let counts = table::parameter_counts(numbers);
+    let handles = table::field_of(numbers, 0, 3);
+    let mut flow = [0u64; 128];
+    dataflow::flow_sets(numbers, &handle[..], &counts[..], edges, &mut flow[..handles]);
+    with_flow(numbers, &flow[..handles], work, edges, out)
 }

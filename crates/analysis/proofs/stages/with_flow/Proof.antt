@@ -1,61 +1,113 @@
 -- `analysis::stages::with_flow` meets its contract. Assumes nothing.
-use Rattle.table.specs.Table.{tableOf}
-use Rattle.analysis.specs.SetsLaws.{reads-known, writes-known}
+use mathlib.Core.Path.{_≡_, sym, ap, _∙_}
+use Prim.Native.Nat.{ℕ, _+_, _-_, _*_, _≤_}
+use native.Mathlib.Omega.{arith}
+use lib.ListN.{length, replicate, length-take}
+use Rattle.table.specs.Header.{statements, routines}
+use Rattle.analysis.specs.SetsLaws.{zeros-front, behind-long, held-kept}
 use denote.Ref.{now}
 use borrow.Author.Needs.{needs}
 use Rattle.analysis.proofs.stages.with_flow.Statement.{statement}
 use Rattle.analysis.proofs.stages.with_flow.Tie as tie
-use Rattle.analysis.proofs.stages.with_flow.Reads as reads
-use Rattle.analysis.proofs.stages.with_flow.Lts as lts
-use Rattle.analysis.proofs.stages.with_effects.Reads as with-effects-reads
-use Rattle.dataflow.proofs.effect_sets.Reads as effect-sets-reads
 
--- src/stages.rt:238:5
-effect-sets-requires : tie.Need-effect-sets-requires
-effect-sets-requires c κs = let p = c .before .before .before .before .before .before .before .before .before .before .before .before .before .before .before .before .pre in
-    let w = p .1 .1 .1 .0 .working in
-    (p .0 .1 .laid, (p .0 .1 .accepted, ((w .from-long, w .to-long), (p .1 .1 .0 .0, p .1 .1 .0 .1))))
+first-statements-requires : tie.Need-first-statements-requires
+first-statements-requires c κs = search needs
 
--- src/stages.rt:249:5
-with-effects-requires : tie.Need-with-effects-requires
-with-effects-requires c κs = let p = c .before .before .before .before .before .before .before .before .before .before .before .before .before .before .before .before .before .before .before .before .before .before .before .before .before .before .before .before .before .before .before .before .before .before .before .before .pre in
-    let t = tableOf (now (c .before .before .before .before .before .before .before .before .before .before .before .before .before .before .before .before .before .before .before .before .before .before .before .before .before .before .before .before .before .before .before .before .before .before .before .before .args .numbers)) in
-    let l = p .1 .1 .1 .0 in
-    (p .0, (p .1 .0, (reads-known t _ (p .1 .0) _ (c .before .before .before .before .before .before .before .before .before .before .before .before .before .before .before .before .before .before .before .effect-sets .ensures .0), (writes-known t _ (p .1 .0) _ (c .before .before .before .before .before .before .before .before .before .before .before .before .before .before .before .before .before .before .before .effect-sets .ensures .1), (p .1 .1 .0 .2, (record { held-is = l .held-is; working = record { later-reads-long = l .working .later-reads-long; later-writes-long = l .working .later-writes-long; from-long = search (needs, l .working .from-long); to-long = search (needs, l .working .to-long) } }, p .1 .1 .1 .1))))))
+field-of-requires : tie.Need-field-of-requires
+field-of-requires c κs = search needs
 
--- src/stages.rt:213:1
+field-of-requires-2 : tie.Need-field-of-requires-2
+field-of-requires-2 c κs = search needs
+
+add-end : tie.Need-add-end
+add-end c = search needs
+
+mul-end : tie.Need-mul-end
+mul-end c = search needs
+
+add-end-2 : tie.Need-add-end-2
+add-end-2 c = search needs
+
+slice-aggregate-find-held : tie.Need-slice-aggregate-find-held
+slice-aggregate-find-held c = search needs
+
+slice-relend-prefix-find-held : tie.Need-slice-relend-prefix-find-held
+slice-relend-prefix-find-held c = search needs
+
+slice-aggregate-find-held-2 : tie.Need-slice-aggregate-find-held-2
+slice-aggregate-find-held-2 c = let start = c .before .before .before .before .before .before .before .before .before in
+    let f = now (start .args .numbers) in
+    let work = now (start .args .work) in
+    let lent = start .pre .1 .1 in
+    let count : c .before .before .before .field-of .result ≡ statements f = c .before .before .before .field-of .ensures .0 in
+    let fits : c .before .before .before .field-of .result ≤ length work = omega (arith, lent .work-long) in
+    sym (length-take (c .before .before .before .field-of .result) work ∙ omega arith)
+
+find-held-requires : tie.Need-find-held-requires
+find-held-requires c κs = let start = c .before .before .before .before .before .before .before .before .before .before in
+    let f = now (start .args .numbers) in
+    let work = now (start .args .work) in
+    let lent = start .pre .1 .1 in
+    let count : c .before .before .before .before .field-of .result ≡ statements f = c .before .before .before .before .field-of .ensures .0 in
+    let fits : c .before .before .before .before .field-of .result ≤ length work = omega (arith, lent .work-long) in
+    (start .pre .0, (c .before .before .before .before .before .first-statements .ensures, (start .pre .1 .0, (zeros-front _ work (lent .zeros) fits ∙ ap (λ (n : ℕ). replicate {A = ℕ} n 0) count, lent .edges-long))))
+
+slice-aggregate-find-shared : tie.Need-slice-aggregate-find-shared
+slice-aggregate-find-shared c = search needs
+
+mul-find-shared : tie.Need-mul-find-shared
+mul-find-shared c = search needs
+
+sub-find-shared : tie.Need-sub-find-shared
+sub-find-shared c = search needs
+
+part-find-shared-start : tie.Need-part-find-shared-start
+part-find-shared-start c = search needs
+
+part-find-shared-end : tie.Need-part-find-shared-end
+part-find-shared-end c = search needs
+
+find-shared-requires : tie.Need-find-shared-requires
+find-shared-requires c κs = let start = c .before .before .before .before .before .before .before .before .before .before .before .before .before .before .before .before .before .before in
+    let f = now (start .args .numbers) in
+    let work = now (start .args .work) in
+    let lent = start .pre .1 .1 in
+    let count : c .before .before .before .before .before .before .before .before .before .before .before .before .field-of .result ≡ statements f = c .before .before .before .before .before .before .before .before .before .before .before .before .field-of .ensures .0 in
+    let fits : c .before .before .before .before .before .before .before .before .before .before .before .before .field-of .result ≤ length work = omega (arith, lent .work-long) in
+    let routines-are : c .before .before .before .before .before .before .before .before .before .before .before .field-of2 .result ≡ routines f = c .before .before .before .before .before .before .before .before .before .before .before .field-of2 .ensures .0 in
+    (start .pre .0, (c .before .before .before .before .before .before .before .before .before .before .before .before .before .first-statements .ensures, (start .pre .1 .0, (behind-long _ work (c .before .before .before .before .before .before .before .find-held .last .1 .1 .1 .0) fits (c .before .before .before .before .before .before .before .find-held .kept .1 .1 .1 .0) _ (omega arith) (omega (arith, lent .work-long)) ∙ omega arith, omega (arith, lent .edges-long, c .before .before .before .before .before .before .before .find-held .kept .1 .1 .1 .1 .0)))))
+
+slice-reshare-prefix-print-found : tie.Need-slice-reshare-prefix-print-found
+slice-reshare-prefix-print-found c = search needs
+
+slice-aggregate-print-found : tie.Need-slice-aggregate-print-found
+slice-aggregate-print-found c = let start = c .before .before .before .before .before .before .before .before .before .before .before .before .before .before .before .before .before .before .before .before .before .before .before .before in
+    let f = now (start .args .numbers) in
+    let work = now (start .args .work) in
+    let lent = start .pre .1 .1 in
+    let count : c .before .before .before .before .before .before .before .before .before .before .before .before .before .before .before .before .before .before .field-of .result ≡ statements f = c .before .before .before .before .before .before .before .before .before .before .before .before .before .before .before .before .before .before .field-of .ensures .0 in
+    let fits : c .before .before .before .before .before .before .before .before .before .before .before .before .before .before .before .before .before .before .field-of .result ≤ length work = omega (arith, lent .work-long) in
+    let kept = c .before .before .before .before .before .before .before .before .before .before .before .before .before .find-held .kept .1 .1 .1 .0 in
+    sym (ap length (held-kept _ work (c .before .before .before .before .before .before .before .before .before .before .before .before .before .find-held .last .1 .1 .1 .0) fits (c .before .before .before .before .before .before .before .before .before .before .before .before .before .find-held .kept .1 .1 .1 .0) (c .before .before .before .before .before .before .before .before .before .before .before .before .before .before .before .before .before .before .field-of .result + 2 * (c .before .before .before .before .before .before .before .before .before .before .before .before .before .before .before .before .before .before .field-of .result + c .before .before .before .before .before .before .before .before .before .before .before .before .before .before .before .before .before .field-of2 .result) - c .before .before .before .before .before .before .before .before .before .before .before .before .before .before .before .before .before .before .field-of .result) (c .before .before .before .before .before .find-shared .last .1 .1 .1 .0)) ∙ kept ∙ length-take (c .before .before .before .before .before .before .before .before .before .before .before .before .before .before .before .before .before .before .field-of .result) work ∙ omega arith)
+
+print-found-requires : tie.Need-print-found-requires
+print-found-requires c κs = let start = c .before .before .before .before .before .before .before .before .before .before .before .before .before .before .before .before .before .before .before .before .before .before .before .before .before in
+    let f = now (start .args .numbers) in
+    let work = now (start .args .work) in
+    let lent = start .pre .1 .1 in
+    let count : c .before .before .before .before .before .before .before .before .before .before .before .before .before .before .before .before .before .before .before .field-of .result ≡ statements f = c .before .before .before .before .before .before .before .before .before .before .before .before .before .before .before .before .before .before .before .field-of .ensures .0 in
+    let fits : c .before .before .before .before .before .before .before .before .before .before .before .before .before .before .before .before .before .before .before .field-of .result ≤ length work = omega (arith, lent .work-long) in
+    (start .pre .0, (start .pre .1 .0, (held-kept _ work (c .before .before .before .before .before .before .before .before .before .before .before .before .before .before .find-held .last .1 .1 .1 .0) fits (c .before .before .before .before .before .before .before .before .before .before .before .before .before .before .find-held .kept .1 .1 .1 .0) (c .before .before .before .before .before .before .before .before .before .before .before .before .before .before .before .before .before .before .before .field-of .result + 2 * (c .before .before .before .before .before .before .before .before .before .before .before .before .before .before .before .before .before .before .before .field-of .result + c .before .before .before .before .before .before .before .before .before .before .before .before .before .before .before .before .before .before .field-of2 .result) - c .before .before .before .before .before .before .before .before .before .before .before .before .before .before .before .before .before .before .before .field-of .result) (c .before .before .before .before .before .before .find-shared .last .1 .1 .1 .0) ∙ c .before .before .before .before .before .before .before .before .before .before .before .before .before .before .find-held .ensures, c .before .before .before .before .before .before .find-shared .ensures)))
+
 same-length : tie.Need-same-length
 same-length c = search needs
 
--- src/stages.rt:213:1
 same-length-2 : tie.Need-same-length-2
 same-length-2 c = search needs
 
--- src/stages.rt:213:1
 same-length-3 : tie.Need-same-length-3
 same-length-3 c = search needs
 
--- src/stages.rt:213:1
-same-length-4 : tie.Need-same-length-4
-same-length-4 c = search needs
-
--- src/stages.rt:213:1
-same-length-5 : tie.Need-same-length-5
-same-length-5 c = search needs
-
--- src/stages.rt:213:1
-same-length-6 : tie.Need-same-length-6
-same-length-6 c = search needs
-
--- src/stages.rt:213:1
-same-length-7 : tie.Need-same-length-7
-same-length-7 c = search needs
-
--- src/stages.rt:213:1
-same-length-8 : tie.Need-same-length-8
-same-length-8 c = search needs
-
--- src/stages.rt:213:1
 returns : tie.Need-returns
 returns c = search needs
 
@@ -63,14 +115,26 @@ pub with-flow-spec : {M : Type 1} → statement M
 with-flow-spec =
     tie.close
     (tie.spec
-    effect-sets-requires
-    with-effects-requires
+    first-statements-requires
+    field-of-requires
+    field-of-requires-2
+    add-end
+    mul-end
+    add-end-2
+    slice-aggregate-find-held
+    slice-relend-prefix-find-held
+    slice-aggregate-find-held-2
+    find-held-requires
+    slice-aggregate-find-shared
+    mul-find-shared
+    sub-find-shared
+    part-find-shared-start
+    part-find-shared-end
+    find-shared-requires
+    slice-reshare-prefix-print-found
+    slice-aggregate-print-found
+    print-found-requires
     same-length
     same-length-2
     same-length-3
-    same-length-4
-    same-length-5
-    same-length-6
-    same-length-7
-    same-length-8
     returns)

@@ -1,0 +1,24 @@
+-- The lists that are lent for a table's sets and edges: how long they are. Assumes nothing.
+use mathlib.Core.Path.{_≡_}
+use mathlib.Core.List.{List}
+use native.Mathlib.Omega.{arith}
+use Prim.Native.Nat.{ℕ, _+_, _*_, _≤_, min}
+use lib.IntN.{ℤ}
+use lib.ListN.{length, replicate}
+use Rattle.table.specs.Header.{routines, statements}
+
+-- for the sets of a table zeros, and for its edges
+pub record Lent (f : List ℤ) (work edges : List ℕ) : Type 0 where
+  pub zeros : work ≡ replicate (length work) 0
+  pub work-long : statements f + 2 * (statements f + routines f) ≤ length work
+  pub edges-long : 4 * statements f ≤ length edges
+
+-- the edges may change
+pub lent-edges : {f : List ℤ} {work edges : List ℕ} (edges′ : List ℕ) → Lent f work edges → length edges′ ≡ length edges → Lent f work edges′
+lent-edges edges′ l e = record { zeros = l .zeros; work-long = l .work-long; edges-long = omega (arith, l .edges-long) }
+
+-- for every table of so many lines
+pub record Room (lines : ℕ) (work edges : List ℕ) : Type 0 where
+  pub zeros : work ≡ replicate (length work) 0
+  pub work-long : min 1600 (3 * lines) ≤ length work
+  pub edges-long : min 2048 (4 * lines) ≤ length edges

@@ -1,0 +1,6 @@
+pub mod Steps
+pub mod FoldLaws
+pub mod NoteLaws
+pub mod LineLaws
+pub mod Found
+pub mod FoundLaws

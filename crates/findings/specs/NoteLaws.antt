@@ -1,0 +1,335 @@
+-- Accesses noted cell by cell, statement by statement: how many read and write each cell, and which locks all of them hold. Assumes nothing.
+use mathlib.Core.Path.{_≡_, refl, sym, ap, _∙_, subst}
+use mathlib.Core.Bool.{Bool, true, false, cond, not, _&&_, _||_}
+use mathlib.Core.List.{List}
+use Prim.Native.Nat.{ℕ, zero, suc, _+_, _-_, _^_, _≤_, _<_}
+use native.Mathlib.Omega.{arith}
+use native.Mathlib.Nat.{zero-add}
+use native.Mathlib.Decide.{decLt}
+use lib.Dec.{eqb}
+use lib.IntN.{ℤ}
+use lib.ListN.{length, getD, set, length-set, List·getD-eq-default}
+use lib.Seq.{getD-set-same, getD-set-other}
+use borrow.Author.Tests.{eqb-true, eqb-false, eq-eqb}
+use Rattle.sets.specs.Set.{has, inter, minus, one, count, lowest, firsts}
+use Rattle.sets.specs.declared.Which.the-variants.{Element}
+use Rattle.sets.specs.SetLaws.{has-minus, has-one, has-empty, has-inter, same-elements, minus-below, count-inside-less, has-beyond, lowest-is}
+use Rattle.table.specs.Header.{locks, statements}
+use Rattle.table.specs.TabulateLaws.{Begun}
+use Rattle.report.specs.Over.{interFrom, countFrom}
+use Rattle.report.specs.Operations.{reading, writing}
+use Rattle.report.specs.Report.{bit}
+use Rattle.findings.specs.Steps.{foldFrom, ownBy, accesses, heldAt}
+use Rattle.findings.specs.FoldLaws.{Folding, folding-start, folding-next, folding-done, fold-inter, fold-count}
+
+-- where the statements that read, or write, a cell are counted: so many places behind its common locks
+abbrev pub countPlace : Bool → ℕ
+countPlace w = cond w 128 64
+
+-- what is noted of all statements: for each cell the locks common to all its accesses, and how many statements read and write it
+pub record Noted (f : List ℤ) (flow held noted : List ℕ) : Type 0 where
+  pub long : length noted ≡ 192
+  pub common-is : (x : ℕ) → x < 64 → getD noted x 0 ≡ interFrom (firsts (locks f)) 0 (statements f) (heldAt f flow held x)
+  pub counts-is : (w : Bool) (x : ℕ) → x < 64 → getD noted (countPlace w + x) 0 ≡ countFrom 0 (statements f) (accesses f flow w x)
+
+-- ---- the cells of one set
+
+bit-few : (b : Bool) → bit b ≤ 1
+bit-few true = omega arith
+bit-few false = omega arith
+
+-- each cell of a set is counted once more, and its common locks are held too; no other place changes
+pub record Marked (cells held from : ℕ) (noted₀ noted : List ℕ) : Type 0 where
+  pub long : length noted ≡ 192
+  pub common-is : (x : ℕ) → x < 64 → getD noted x 0 ≡ cond (has cells x) (inter held (getD noted₀ x 0)) (getD noted₀ x 0)
+  pub counts-is : (x : ℕ) → x < 64 → getD noted (from + x) 0 ≡ bit (has cells x) + getD noted₀ (from + x) 0
+  pub before : (i : ℕ) → 64 ≤ i → i < from → getD noted i 0 ≡ getD noted₀ i 0
+  pub behind : (i : ℕ) → from + 64 ≤ i → getD noted i 0 ≡ getD noted₀ i 0
+
+-- all cells of a set but `rest`
+pub record Marking (cells held from : ℕ) (noted₀ noted : List ℕ) (rest : ℕ) : Type 0 where
+  pub below : rest < 2 ^ 64
+  pub within : (i : ℕ) → has rest i ≡ true → has cells i ≡ true
+  pub marked : Marked (minus cells rest) held from noted₀ noted
+
+-- the same cells
+same-marked : {a b held from : ℕ} {noted₀ noted : List ℕ} → ((i : ℕ) → has a i ≡ has b i) → Marked a held from noted₀ noted → Marked b held from noted₀ noted
+same-marked {a} {b} {held} {from} {noted₀} {noted} e m = subst (λ (s : ℕ). Marked s held from noted₀ noted) (same-elements a b e) m
+
+-- nothing is noted of no cell
+nothing-marked : (held from : ℕ) (noted : List ℕ) → length noted ≡ 192 → Marked 0 held from noted noted
+nothing-marked held from noted long = record {
+  long = long;
+  common-is = λ x l. rw (has-empty x);
+  counts-is = λ x l. rw (has-empty x) (sym (zero-add (getD noted (from + x) 0)));
+  before = λ i l h. refl;
+  behind = λ i h. refl;
+}
+
+pub marking-start : (cells held from : ℕ) (noted : List ℕ) → cells < 2 ^ 64 → length noted ≡ 192 → Marking cells held from noted noted cells
+marking-start cells held from noted below long = record {
+  below = below;
+  within = λ i h. h;
+  marked = same-marked (λ i. has-empty i ∙ sym (has-minus cells cells i ∙ no-both (has cells i))) (nothing-marked held from noted long);
+}
+  where
+    no-both : (b : Bool) → (b && not b) ≡ false
+    no-both true = refl
+    no-both false = refl
+
+-- two places change, all others stay
+two-set : (l : List ℕ) (i j v w k : ℕ) → (k ≡ i → ⊥) → (k ≡ j → ⊥) → getD (set (set l i v) j w) k 0 ≡ getD l k 0
+two-set l i j v w k a b = getD-set-other (set l i v) j k w 0 b ∙ getD-set-other l i k v 0 a
+
+module _ {cells held from : ℕ} {noted₀ noted : List ℕ} {rest : ℕ} (low : 64 ≤ from) (high : from ≤ 128) (m : Marking cells held from noted₀ noted rest) where
+  -- one cell more
+  module _ (e : ℕ) (there : has rest e ≡ true) (few : e < 64) where
+    abbrev left : ℕ
+    left = inter held (getD noted e 0)
+
+    abbrev counted : ℕ
+    counted = getD (set noted e left) (from + e) 0 + 1
+
+    abbrev noted′ : List ℕ
+    noted′ = set (set noted e left) (from + e) counted
+
+    fewer : (i : ℕ) → has (minus rest (one e)) i ≡ true → has rest i ≡ true
+    fewer i h = go (has rest i) refl
+      where
+        go : (b : Bool) → has rest i ≡ b → has rest i ≡ true
+        go true k = k
+        go false k = let z : true ≡ false = sym h ∙ has-minus rest (one e) i ∙ ap (λ (b : Bool). b && not (has (one e) i)) k in absurd (let w : _≡_ {A = ℕ} 0 1 = cc in omega arith)
+
+    -- whether a cell is among those marked now
+    marked-now : (x : ℕ) → (b : Bool) → eqb x e ≡ b → has (minus cells (minus rest (one e))) x ≡ cond b true (has (minus cells rest) x)
+    marked-now x true k =
+        let q : x ≡ e = eqb-true x e k in
+        rw (has-minus cells (minus rest (one e)) x, has-minus rest (one e) x, has-one e x few, k, q, m .within e there, there)
+    marked-now x false k =
+        rw (has-minus cells (minus rest (one e)) x, has-minus rest (one e) x, has-one e x few, k, has-minus cells rest x) (other (has cells x) (has rest x))
+      where
+        other : (a b : Bool) → (a && not (b && true)) ≡ (a && not b)
+        other true true = refl
+        other true false = refl
+        other false true = refl
+        other false false = refl
+
+    -- the cell was not marked before
+    unmarked : has (minus cells rest) e ≡ false
+    unmarked = has-minus cells rest e ∙ rw (there, m .within e there)
+
+    apart : e ≡ from + e → ⊥
+    apart q = omega arith
+
+    counts-now : (x : ℕ) → x < 64 → (b : Bool) → eqb x e ≡ b
+        → getD noted′ (from + x) 0 ≡ bit (has (minus cells (minus rest (one e))) x) + getD noted₀ (from + x) 0
+    counts-now x l true k =
+        let q : x ≡ e = eqb-true x e k in
+        let was : getD noted (from + e) 0 ≡ getD noted₀ (from + e) 0 = m .marked .counts-is e few ∙ rw unmarked (zero-add (getD noted₀ (from + e) 0)) in
+        let long : length (set noted e left) ≡ 192 = length-set noted e left ∙ m .marked .long in
+        let at : getD noted′ (from + e) 0 ≡ counted = getD-set-same (set noted e left) (from + e) counted 0 (omega arith) in
+        let kept : getD (set noted e left) (from + e) 0 ≡ getD noted (from + e) 0 = getD-set-other noted e (from + e) left 0 (λ p. apart (sym p)) in
+        let at-x : getD noted′ (from + x) 0 ≡ getD noted′ (from + e) 0 = ap (λ (i : ℕ). getD noted′ (from + i) 0) q in
+        let base : getD noted₀ (from + x) 0 ≡ getD noted₀ (from + e) 0 = ap (λ (i : ℕ). getD noted₀ (from + i) 0) q in
+        let one-more : bit (has (minus cells (minus rest (one e))) x) ≡ 1 = ap bit (marked-now x true k) in
+        omega arith
+    counts-now x l false k =
+        two-set noted e (from + e) left counted (from + x) (λ q. omega arith) (λ q. eqb-false x e k (omega arith))
+        ∙ m .marked .counts-is x l ∙ ap (λ (b : Bool). bit b + getD noted₀ (from + x) 0) (sym (marked-now x false k))
+
+    common-now : (x : ℕ) → x < 64 → (b : Bool) → eqb x e ≡ b
+        → getD noted′ x 0 ≡ cond (has (minus cells (minus rest (one e))) x) (inter held (getD noted₀ x 0)) (getD noted₀ x 0)
+    common-now x l true k =
+        let q : x ≡ e = eqb-true x e k in
+        let was : getD noted e 0 ≡ getD noted₀ e 0 = m .marked .common-is e few ∙ rw unmarked in
+        ap (λ (i : ℕ). getD noted′ i 0) q
+        ∙ getD-set-other (set noted e left) (from + e) e counted 0 apart
+        ∙ getD-set-same noted e left 0 (omega (arith, m .marked .long))
+        ∙ ap (inter held) (was ∙ ap (λ (i : ℕ). getD noted₀ i 0) (sym q))
+        ∙ sym (ap (λ (b : Bool). cond b (inter held (getD noted₀ x 0)) (getD noted₀ x 0)) (marked-now x true k))
+    common-now x l false k =
+        two-set noted e (from + e) left counted x (λ q. eqb-false x e k q) (λ q. omega arith)
+        ∙ m .marked .common-is x l
+        ∙ ap (λ (b : Bool). cond b (inter held (getD noted₀ x 0)) (getD noted₀ x 0)) (sym (marked-now x false k))
+
+    pub marking-next : Marking cells held from noted₀ noted′ (minus rest (one e))
+    marking-next = record {
+      below = minus-below 64 (one e) (m .below);
+      within = λ i h. m .within i (fewer i h);
+      marked = record {
+        long = length-set (set noted e left) (from + e) counted ∙ length-set noted e left ∙ m .marked .long;
+        common-is = λ x l. common-now x l (eqb x e) refl;
+        counts-is = λ x l. counts-now x l (eqb x e) refl;
+        before = λ i l h. two-set noted e (from + e) left counted i (λ q. omega arith) (λ q. omega arith) ∙ m .marked .before i l h;
+        behind = λ i h. two-set noted e (from + e) left counted i (λ q. omega arith) (λ q. omega arith) ∙ m .marked .behind i h;
+      };
+    }
+
+    -- the count goes up by one from what it was
+    pub marking-few : (bound : ℕ) → getD noted₀ (from + e) 0 < bound → getD (set noted e left) (from + e) 0 ≤ bound
+    marking-few bound h =
+        let kept : getD (set noted e left) (from + e) 0 ≡ getD noted (from + e) 0 = getD-set-other noted e (from + e) left 0 (λ p. apart (sym p)) in
+        omega (arith, m .marked .counts-is e few, bit-few (has (minus cells rest) e))
+
+    -- fewer are left
+    pub marking-less : count (minus rest (one e)) < count rest
+    marking-less =
+        count-inside-less (minus rest (one e)) rest e fewer few
+        (has-minus rest (one e) e ∙ rw (has-one e e few, there, same-number e)) there
+      where
+        same-number : (n : ℕ) → eqb n n ≡ true
+        same-number n = eq-eqb n n refl
+
+  pub marking-done : rest ≡ 0 → Marked cells held from noted₀ noted
+  marking-done z = same-marked (λ i. has-minus cells rest i ∙ rw (z, has-empty i) (all (has cells i))) (m .marked)
+    where
+      all : (b : Bool) → (b && true) ≡ b
+      all true = refl
+      all false = refl
+
+-- ---- one statement
+
+-- a statement that itself reads and writes these cells, holding these locks, is noted
+pub record NotedAt (own : Bool → ℕ) (held : ℕ) (noted₀ noted : List ℕ) : Type 0 where
+  pub long : length noted ≡ 192
+  pub common-is : (x : ℕ) → x < 64 → getD noted x 0 ≡ cond (has (own reading) x || has (own writing) x) (inter held (getD noted₀ x 0)) (getD noted₀ x 0)
+  pub counts-is : (w : Bool) (x : ℕ) → x < 64 → getD noted (countPlace w + x) 0 ≡ bit (has (own w) x) + getD noted₀ (countPlace w + x) 0
+
+or-false : (b : Bool) → (b || false) ≡ b
+or-false true = refl
+or-false false = refl
+
+module _ {own : Bool → ℕ} {held : ℕ} {noted₀ noted : List ℕ} where
+  pub noted-read : {cells : ℕ} → own reading ≡ cells → own writing ≡ 0 → Marked cells held 64 noted₀ noted → NotedAt own held noted₀ noted
+  noted-read {cells} a b m = record {
+    long = m .long;
+    common-is = λ x l. m .common-is x l ∙ rw (a, b, has-empty x, or-false (has cells x));
+    counts-is = counts;
+  }
+    where
+      counts : (w : Bool) (x : ℕ) → x < 64 → getD noted (countPlace w + x) 0 ≡ bit (has (own w) x) + getD noted₀ (countPlace w + x) 0
+      counts false x l = m .counts-is x l ∙ rw a
+      counts true x l = m .behind (128 + x) (omega arith) ∙ rw (b, has-empty x) (sym (zero-add (getD noted₀ (128 + x) 0)))
+
+  pub noted-write : {cells : ℕ} → own reading ≡ 0 → own writing ≡ cells → Marked cells held 128 noted₀ noted → NotedAt own held noted₀ noted
+  noted-write {cells} a b m = record {
+    long = m .long;
+    common-is = λ x l. m .common-is x l ∙ rw (a, b, has-empty x);
+    counts-is = counts;
+  }
+    where
+      counts : (w : Bool) (x : ℕ) → x < 64 → getD noted (countPlace w + x) 0 ≡ bit (has (own w) x) + getD noted₀ (countPlace w + x) 0
+      counts true x l = m .counts-is x l ∙ rw b
+      counts false x l = m .before (64 + x) (omega arith) (omega arith) ∙ rw (a, has-empty x) (sym (zero-add (getD noted₀ (64 + x) 0)))
+
+pub noted-none : (own : Bool → ℕ) (held : ℕ) (noted : List ℕ) → length noted ≡ 192 → ((w : Bool) → own w ≡ 0) → NotedAt own held noted noted
+noted-none own held noted long none-own = record {
+  long = long;
+  common-is = λ x l. rw (none-own reading, none-own writing, has-empty x);
+  counts-is = λ w x l. rw (none-own w, has-empty x) (sym (zero-add (getD noted (countPlace w + x) 0)));
+}
+
+-- ---- all statements, from the last to the first
+
+pub record Noting (f : List ℤ) (flow held noted : List ℕ) (s : ℕ) : Type 0 where
+  pub long : length noted ≡ 192
+  pub common-is : (x : ℕ) → x < 64 → Folding inter (firsts (locks f)) (statements f) (heldAt f flow held x) (getD noted x 0) s
+  pub counts-is : (w : Bool) (x : ℕ) → x < 64 → Folding _+_ 0 (statements f) (λ p. bit (accesses f flow w x p)) (getD noted (countPlace w + x) 0) s
+  pub counts-few : (w : Bool) (x : ℕ) → x < 64 → getD noted (countPlace w + x) 0 + s ≤ statements f
+  pub few : s ≤ statements f
+
+-- the intersection with all changes nothing
+fold-within : (all : ℕ) (from n : ℕ) (g : ℕ → ℕ) (i : ℕ) → has (foldFrom inter all from n g) i ≡ true → has all i ≡ true
+unfolding foldFrom
+fold-within all from zero g i h = h
+fold-within all from (suc n) g i h =
+    fold-within all (from + 1) n g i (second (has (g from) i) (has (foldFrom inter all (from + 1) n g) i) (sym (has-inter (g from) (foldFrom inter all (from + 1) n g) i) ∙ h))
+  where
+    second : (a b : Bool) → (a && b) ≡ true → b ≡ true
+    second true b e = e
+    second false b e = absurd (let w : _≡_ {A = ℕ} 0 1 = cc in omega arith)
+
+inter-all : (all acc : ℕ) → ((i : ℕ) → has acc i ≡ true → has all i ≡ true) → inter all acc ≡ acc
+inter-all all acc h = same-elements (inter all acc) acc (λ i. has-inter all acc i ∙ both (has all i) (has acc i) (h i))
+  where
+    both : (a b : Bool) → (b ≡ true → a ≡ true) → (a && b) ≡ b
+    both a true k = rw (k refl)
+    both true false k = refl
+    both false false k = refl
+
+count-behind : (w : Bool) (x : ℕ) → 64 ≤ countPlace w + x
+count-behind true x = omega arith
+count-behind false x = omega arith
+
+pub noting-start : (f : List ℤ) (flow held noted : List ℕ) (n : ℕ) → n ≡ statements f → Begun (λ x. firsts (locks f)) noted 192 64 → Noting f flow held noted n
+noting-start f flow held noted n z b =
+    subst (λ (s : ℕ). Noting f flow held noted s) (sym z)
+    (record {
+      long = b .filled .long;
+      common-is = λ x l.
+          subst (λ (c : ℕ). Folding inter (firsts (locks f)) (statements f) (heldAt f flow held x) c (statements f)) (sym (b .filled .holds x l))
+          (folding-start inter (firsts (locks f)) (statements f) (heldAt f flow held x));
+      counts-is = λ w x l.
+          subst (λ (c : ℕ). Folding _+_ 0 (statements f) (λ p. bit (accesses f flow w x p)) c (statements f)) (sym (b .behind (countPlace w + x) (count-behind w x)))
+          (folding-start _+_ 0 (statements f) (λ p. bit (accesses f flow w x p)));
+      counts-few = λ w x l. omega (arith, b .behind (countPlace w + x) (count-behind w x));
+      few = omega arith;
+    })
+
+module _ {f : List ℤ} {flow held noted : List ℕ} {s : ℕ} (n : Noting f flow held noted s) where
+  -- a count is small
+  pub noting-few : statements f ≤ 512 → (i : ℕ) → 64 ≤ i → getD noted i 0 < 2 ^ 32
+  noting-few most i low = go (decLt i 128) (decLt i 192)
+    where
+      at : (w : Bool) (x : ℕ) → x < 64 → i ≡ countPlace w + x → getD noted i 0 < 2 ^ 32
+      at w x l e = omega (arith, n .counts-few w x l, ap (λ (k : ℕ). getD noted k 0) e)
+
+      go : Dec (i < 128) → Dec (i < 192) → getD noted i 0 < 2 ^ 32
+      go (yes a) b = at reading (i - 64) (omega arith) (omega arith)
+      go (no a) (yes b) = at writing (i - 128) (omega arith) (omega arith)
+      go (no a) (no b) = omega (arith, List·getD-eq-default noted 0 {n = i} (omega (arith, n .long)))
+
+  module _ {noted′ : List ℕ} (p : 0 < s) (at : NotedAt (λ w. ownBy f flow w (s - 1)) (getD held (s - 1) 0) noted noted′) where
+    common-next : (x : ℕ) → x < 64 → (b : Bool) → (has (ownBy f flow reading (s - 1)) x || has (ownBy f flow writing (s - 1)) x) ≡ b
+        → getD noted′ x 0 ≡ inter (heldAt f flow held x (s - 1)) (getD noted x 0)
+    unfolding heldAt accesses
+    common-next x l true e = at .common-is x l ∙ rw e
+    common-next x l false e =
+        at .common-is x l ∙ rw e
+        (sym (inter-all (firsts (locks f)) (getD noted x 0)
+        (λ i h. fold-within (firsts (locks f)) s (statements f - s) (heldAt f flow held x) i (sym (ap (λ (m : ℕ). has m i) (n .common-is x l .joined)) ∙ h))))
+
+    pub noting-next : Noting f flow held noted′ (s - 1)
+    unfolding accesses
+    noting-next = record {
+      long = at .long;
+      common-is = λ x l.
+          subst (λ (m : ℕ). Folding inter (firsts (locks f)) (statements f) (heldAt f flow held x) m (s - 1)) (sym (common-next x l _ refl))
+          (folding-next inter (firsts (locks f)) (statements f) (heldAt f flow held x) (getD noted x 0) s (n .common-is x l) p);
+      counts-is = λ w x l.
+          subst (λ (m : ℕ). Folding _+_ 0 (statements f) (λ q. bit (accesses f flow w x q)) m (s - 1)) (sym (at .counts-is w x l))
+          (folding-next _+_ 0 (statements f) (λ q. bit (accesses f flow w x q)) (getD noted (countPlace w + x) 0) s (n .counts-is w x l) p);
+      counts-few = λ w x l. omega (arith, at .counts-is w x l, n .counts-few w x l, bit-few (has (ownBy f flow w (s - 1)) x));
+      few = omega (arith, n .few);
+    }
+
+  pub noting-done : s ≤ 0 → Noted f flow held noted
+  noting-done z = record {
+    long = n .long;
+    common-is = λ x l.
+        folding-done inter (firsts (locks f)) (statements f) (heldAt f flow held x) (getD noted x 0) s (n .common-is x l) z
+        ∙ fold-inter (firsts (locks f)) 0 (statements f) (heldAt f flow held x);
+    counts-is = λ w x l.
+        folding-done _+_ 0 (statements f) (λ p. bit (accesses f flow w x p)) (getD noted (countPlace w + x) 0) s (n .counts-is w x l) z
+        ∙ fold-count 0 (statements f) (accesses f flow w x);
+  }
+
+-- ---- the lowest element
+
+pub lowest-there : (s i : ℕ) → s < 2 ^ 64 → lowest s ≡ Element i → (has s i ≡ true) × (i < 64)
+lowest-there s i h e = let there = lowest-is s i h e .0 in (there, go there (decLt i 64))
+  where
+    go : has s i ≡ true → Dec (i < 64) → i < 64
+    go there (yes l) = l
+    go there (no n) =
+        let z : true ≡ false = sym there ∙ has-beyond 64 i h (omega arith) in absurd (let w : _≡_ {A = ℕ} 0 1 = cc in omega arith)

@@ -1,0 +1,45 @@
+-- What each step of the findings computes, over the numbers of a table and lists of sets. FoundLaws shows that together they are the report's.
+-- Assumes nothing.
+use Prim.Native.Nat.{ℕ, zero, suc, _+_}
+use mathlib.Core.Bool.{Bool, cond, _||_}
+use mathlib.Core.List.{List}
+use lib.IntN.{ℤ}
+use lib.ListN.{getD}
+use Rattle.sets.specs.Set.{has, firsts}
+use Rattle.table.specs.Header.{locks}
+use Rattle.table.specs.Table.{statementOf}
+use Rattle.report.specs.Layout.{named}
+use Rattle.report.specs.Operations.{reading, writing, accessed, byNaming}
+use Rattle.report.specs.Findings.{clash, strayBy, isUnguarded}
+
+-- the values of n numbers, `from` the first, joined by an operation to the last value
+unfoldable pub foldFrom : (ℕ → ℕ → ℕ) → ℕ → ℕ → ℕ → (ℕ → ℕ) → ℕ
+foldFrom op last from zero f = last
+foldFrom op last from (suc n) f = op (f from) (foldFrom op last (from + 1) n f)
+
+-- the cells that statement s reads, or writes, itself
+unfoldable pub ownBy : List ℤ → List ℕ → Bool → ℕ → ℕ
+ownBy f flow w s = accessed w (λ h. getD flow h 0) 0 (statementOf f s)
+
+-- statement s reads, or writes, cell x itself
+unfoldable pub accesses : List ℤ → List ℕ → Bool → ℕ → ℕ → Bool
+accesses f flow w x s = has (ownBy f flow w s) x
+
+-- what statement s leaves of the locks common to all accesses of cell x
+unfoldable pub heldAt : List ℤ → List ℕ → List ℕ → ℕ → ℕ → ℕ
+heldAt f flow held x s = cond (accesses f flow reading x s || accesses f flow writing x s) (getD held s 0) (firsts (locks f))
+
+-- the cells shared at statement s, from the effects and from the futures, of which those that are written stand `half` places behind
+unfoldable pub sharedBy : List ℤ → List ℕ → List ℕ → List ℕ → ℕ → ℕ → ℕ
+sharedBy f reads writes later half s =
+    byNaming 0
+    (clash (getD reads (named (statementOf f s)) 0) (getD writes (named (statementOf f s)) 0) (getD later s 0) (getD later (half + s) 0))
+    0 (statementOf f s)
+
+-- statement s is a stray GIVE
+unfoldable pub strayIn : List ℤ → List ℕ → List ℕ → ℕ → Bool
+strayIn f flow held s = strayBy (λ h. getD flow h 0) (getD held s 0) (statementOf f s)
+
+-- cell x is unguarded
+unfoldable pub unguardedIn : ℕ → List ℕ → ℕ → Bool
+unguardedIn shared noted x = isUnguarded shared (getD noted x 0) x

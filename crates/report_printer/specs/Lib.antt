@@ -1,0 +1,4 @@
+pub mod Printed
+pub mod Lines
+pub mod WriteLaws
+pub mod ReportedLaws
