@@ -37,7 +37,7 @@ fn report_within(
     ensures answer { λ r. ⌜ r ≡ examinedIn (now (text .entry)) (length (now (out .entry))) ⌝ }
     ensures buffer { λ _. ⌜ now (out .exit) ≡ reportedInto (now (text .entry)) (now (out .entry)) ⌝ }
 {
-    let verdict = table::read_into(text, numbers);
+    let verdict = reader::read_into(text, numbers);
     match verdict {
         Verdict::Accepted => {
             let printed = stages::examine(numbers, work, edges, out);
@@ -108,7 +108,7 @@ fn report_sized(text: &[u8], out: &mut [u8]) -> Examined
     ensures answer { λ r. ⌜ r ≡ examinedIn (now (text .entry)) (length (now (out .entry))) ⌝ }
     ensures buffer { λ _. ⌜ now (out .exit) ≡ reportedInto (now (text .entry)) (now (out .entry)) ⌝ }
 {
-    if !table::has_length(text.len()) {
+    if !reader::has_length(text.len()) {
         return Examined {
             number: 1,
             line: 0,

@@ -126,7 +126,7 @@ fn with_flow(
     ensures clean { λ r. ⌜ r .clean ≡ countsNothing (tableOf (now (numbers .entry))) ⌝ }
     ensures buffer { λ _. ⌜ now (out .exit) ≡ printedOver (reportText (tableOf (now (numbers .entry)))) (now (out .entry)) ⌝ }
 {
-    let first = table::first_statements(numbers);
+    let first = declarations::first_statements(numbers);
     let count = table::field_of(numbers, 0, 5);
     let end = count + 2 * (count + table::field_of(numbers, 0, 4));
     find_held(numbers, &first[..], flow, &mut work[..count], edges);
@@ -142,8 +142,8 @@ pub fn examine(numbers: &[i32], work: &mut [u64], edges: &mut [u32], out: &mut [
     ensures clean { λ r. ⌜ r .clean ≡ countsNothing (tableOf (now (numbers .entry))) ⌝ }
     ensures buffer { λ _. ⌜ now (out .exit) ≡ printedOver (reportText (tableOf (now (numbers .entry)))) (now (out .entry)) ⌝ }
 {
-    let handle = table::first_handles(numbers);
-    let counts = table::parameter_counts(numbers);
+    let handle = declarations::first_handles(numbers);
+    let counts = declarations::parameter_counts(numbers);
     let handles = table::field_of(numbers, 0, 3);
     let mut flow = [0u64; 128];
     dataflow::flow_sets(numbers, &handle[..], &counts[..], edges, &mut flow[..handles]);

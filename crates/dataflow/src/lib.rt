@@ -1,5 +1,5 @@
 // Flow, effects, given-up locks and futures of an accepted table, each the least sets along the edges of its equation, by the one solver.
-// `first`, `handle` and `counts` are the lists of table::first_statements, first_handles and parameter_counts. `edges` lends the room for the edges,
+// `first`, `handle` and `counts` are the lists of declarations::first_statements, first_handles and parameter_counts. `edges` lends the room for the edges,
 // four a statement; what stands in it before does not matter, and what is left in it says nothing.
 ghost use mathlib.Core.Path.{_≡_};
 ghost use mathlib.Core.Bool.{true, false};

@@ -24,8 +24,8 @@ fn run_accepted(numbers: &[i32], schedule: &[u8], answers: &mut [u8], cells: &mu
     ensures { λ _. ⌜ now (answers .exit) ≡ answersOf (tableOf (now (numbers .entry))) (start (tableOf (now (numbers .entry)))) (now (schedule .entry)) ++ drop (length (now (schedule .entry))) (now (answers .entry)) ⌝ }
     ensures { λ _. ⌜ now (cells .exit) ≡ engineRun (tableOf (now (numbers .entry))) (start (tableOf (now (numbers .entry)))) (now (schedule .entry)) .cells ⌝ }
 {
-    let first = table::first_statements(numbers);
-    let handle = table::first_handles(numbers);
+    let first = declarations::first_statements(numbers);
+    let handle = declarations::first_handles(numbers);
     let sizes = run_state::sizes_of(numbers);
     let mut words = [0u16; 545];
     let mut values = [0u8; 4096];
@@ -58,7 +58,7 @@ fn run_in(
     ensures answered { λ _. ⌜ now (answers .exit) ≡ answersLeft (now (text .entry)) (now (schedule .entry)) (now (answers .entry)) (now (cells .entry)) ⌝ }
     ensures left { λ _. ⌜ now (cells .exit) ≡ cellsLeft (now (text .entry)) (now (schedule .entry)) (now (answers .entry)) (now (cells .entry)) ⌝ }
 {
-    let verdict = table::read_into(text, numbers);
+    let verdict = reader::read_into(text, numbers);
     match verdict {
         Verdict::Refused { number, line } => Outcome { number, line },
         Verdict::Accepted => {

@@ -10,7 +10,7 @@ use lib.ListN.{length, drop}
 use borrow.Author.Tests.{lt-ltb, le-ltb, le-leb, lt-leb, ltb-true, leb-true}
 use Rattle.lines.specs.Line.{lineText, allInField}
 use Rattle.lines.specs.LineLaws.{all-none, all-good, line-text-length}
-use Rattle.lines.specs.Print.{printedAt}
+use Rattle.line_printer.specs.Print.{printedAt}
 use Rattle.refusal.specs.Refusal.{refusalLine, refusalText, refusalIn, over}
 
 good : (n : ℕ) (zs : List ℤ) → n < 1000000 → allInField zs ≡ true → allInField (pos n ∷ zs) ≡ true

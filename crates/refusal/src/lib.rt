@@ -20,6 +20,6 @@ pub fn print_refusal(out: &mut [u8], number: u32, line: usize) -> usize
     }
     let first = number as i32;
     let second = line as i32;
-    lines::print_line(out, 0, [50, first, second, 0, 0, 0, 0, 0]);
+    line_printer::print_line(out, 0, [50, first, second, 0, 0, 0, 0, 0]);
     49
 }

@@ -12,7 +12,7 @@ use lib.Seq.{take-length, take-paste, drop-paste, drop-drop, paste}
 use borrow.Author.Tests.{le-leb, ltb-true}
 use Rattle.lines.specs.Line.{lineText, allInField}
 use Rattle.lines.specs.LineLaws.{all-at, line-text-length}
-use Rattle.lines.specs.Print.{printedAt}
+use Rattle.line_printer.specs.Print.{printedAt}
 use Rattle.report.specs.Over.{joinedFrom}
 use Rattle.report.specs.Report.{textOf, strayLine}
 use Rattle.report.specs.ReportTextLaws.{Line8}

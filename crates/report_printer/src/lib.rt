@@ -70,7 +70,7 @@ fn print_cells(out: &mut [u8], at: usize, shared: u64, noted: &[u64], count: usi
             shared,
             lists::set_at(noted, x),
         );
-        lines::print_line(out, place, line);
+        line_printer::print_line(out, place, line);
         place += 49;
         x += 1;
     }
@@ -91,7 +91,7 @@ fn print_strays(out: &mut [u8], at: usize, numbers: &[i32], flow: &[u64], held: 
         let here = s;
         s += 1;
         if findings::is_stray(numbers, here, base + here, flow, lists::set_at(held, here)) {
-            lines::print_line(out, place, [52, as_field(here as u64), 0, 0, 0, 0, 0, 0]);
+            line_printer::print_line(out, place, [52, as_field(here as u64), 0, 0, 0, 0, 0, 0]);
             place += 49;
         }
     }
@@ -103,7 +103,7 @@ fn print_total(out: &mut [u8], at: usize, unguarded: usize, strays: usize)
     requires { ⌜ Line8 (totalNumbers unguarded strays) × (at + 49 ≤ length (now out)) ⌝ }
     ensures { λ _. ⌜ now (out .exit) ≡ putAt (now (out .entry)) at (lineText (map pos (totalNumbers unguarded strays))) ⌝ }
 {
-    lines::print_line(
+    line_printer::print_line(
         out,
         at,
         [

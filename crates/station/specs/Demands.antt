@@ -4,7 +4,7 @@
 -- proved safe and ending; `reportedInto`, `answersLeft` and `cellsLeft` leave every buffer of a refused call as it was.
 -- Demand 2: their results and buffers are equal to `reportAnswer` and `reportedInto`, `outcomeOf`, `answersLeft` and `cellsLeft`, which are the report's and the machine's
 -- definitions. The engine's steps are the machine's, as the first law below says.
--- Demand 3: the second and third law; the first of them is also in `analysis::may_load`'s contract.
+-- Demand 3: the second and third law; the first of them is also in `loader::may_load`'s contract.
 use mathlib.Core.Path.{_≡_, sym, subst}
 use mathlib.Core.Bool.{true}
 use mathlib.Core.List.{List}
@@ -15,7 +15,7 @@ use Rattle.machine.specs.Engine.{engineRun}
 use Rattle.machine.specs.EngineLaws.{unlimited, engine-runs-as-machine}
 use Rattle.machine.specs.Words.{Safe}
 use Rattle.analysis.specs.Reported.{tableIn, loadable}
-use Rattle.analysis.specs.LoadLaws.{loadable-safe}
+use Rattle.loader.specs.LoadLaws.{loadable-safe}
 
 -- after any schedule the engine's state is the machine's after the same schedule without the steps answered 18 and 19
 pub engine-is-machine : (text ns : List ℕ)

@@ -3,16 +3,7 @@ ghost use mathlib.Core.Path.{_≡_};
 ghost use lib.ListN.{length};
 ghost use Rattle.analysis.specs.Reported.{reportAnswer, reportedInto, loadable};
 ghost use Rattle.engine.specs.Run.{outcomeOf, answersLeft, cellsLeft};
-ghost use Rattle.station.specs.Packed.{packed, packedAnswer, packedOutcome};
-
-// A number, a line and a count of bytes in one number.
-fn pack(number: u32, line: usize, bytes: usize) -> u64
-    ensures { λ r. ⌜ r ≡ packed number line bytes ⌝ }
-{
-    number as u64 % 65_536 * 281_474_976_710_656
-        + line as u64 % 65_536 * 4_294_967_296
-        + bytes as u64 % 4_294_967_296
-}
+ghost use Rattle.station.specs.Packed.{packedAnswer, packedOutcome};
 
 // The report of a table text into `out`: `analysis::report`.
 #[no_mangle]
@@ -21,7 +12,7 @@ pub extern "C" fn station_report_packed(text: &[u8], out: &mut [u8]) -> u64
     ensures buffer { λ _. ⌜ now (out .exit) ≡ reportedInto (now (text .entry)) (now (out .entry)) ⌝ }
 {
     let answer = analysis::report(text, out);
-    pack(answer.number, answer.line, answer.bytes)
+    packing::pack(answer.number, answer.line, answer.bytes)
 }
 
 // A run of a table text by a schedule: `engine::run`.
@@ -37,13 +28,13 @@ pub extern "C" fn station_run_packed(
     ensures left { λ _. ⌜ now (cells .exit) ≡ cellsLeft (now (text .entry)) (now (schedule .entry)) (now (answers .entry)) (now (cells .entry)) ⌝ }
 {
     let outcome = engine::run(text, schedule, answers, cells);
-    pack(outcome.number, outcome.line, 0)
+    packing::pack(outcome.number, outcome.line, 0)
 }
 
-// Whether a table text may be loaded: `analysis::may_load`.
+// Whether a table text may be loaded: `loader::may_load`.
 #[no_mangle]
 pub extern "C" fn station_may_load_text(text: &[u8]) -> bool
     ensures { λ r. ⌜ r ≡ loadable (now (text .entry)) ⌝ }
 {
-    analysis::may_load(text)
+    loader::may_load(text)
 }

@@ -2,16 +2,15 @@
 // table text, the second a file with the schedule, each byte a thread number.
 use libc::STDOUT_FILENO;
 
-// Prints the line that begins with these three numbers.
-fn print_three(first: i32, second: i32, third: i32) {
-    let mut out = [0u8; 49];
-    lines::print_line(&mut out[..], 0, [first, second, third, 0, 0, 0, 0, 0]);
-    io::write_all(STDOUT_FILENO, &out[..]);
-}
-
 // One step: its thread and its answer.
 fn print_step(thread: u8, answer: u8) {
-    print_three(55, thread as i32, answer as i32);
+    let mut out = [0u8; 49];
+    line_printer::print_line(
+        &mut out[..],
+        0,
+        [55, thread as i32, answer as i32, 0, 0, 0, 0, 0],
+    );
+    io::write_all(STDOUT_FILENO, &out[..]);
 }
 
 fn print_steps(schedule: &[u8], answers: &[u8]) {
@@ -25,10 +24,9 @@ fn print_steps(schedule: &[u8], answers: &[u8]) {
 }
 
 fn print_refusal(number: u32, line: usize) {
-    if number < 100 {
-        if line < 1000 {
-            print_three(50, number as i32, line as i32);
-        }
+    let mut out = [0u8; 49];
+    if refusal::print_refusal(&mut out[..], number, line) == 49 {
+        io::write_all(STDOUT_FILENO, &out[..]);
     }
 }
 

@@ -1,11 +1,10 @@
--- A verdict in one number. Assumes nothing.
-use Prim.Native.Nat.{ℕ, _+_, _*_}
-use mathlib.Core.Bool.{cond}
-use lib.Dec.{ltb}
+-- What is said of a text, in one number. Assumes nothing.
+use Prim.Native.Nat.{ℕ}
 use Rattle.table.specs.declared.Verdict.{Verdict}
 use Rattle.table.specs.declared.Verdict.the-variants.{Accepted, Refused}
+use Rattle.packing.specs.Packed.{packed}
 
--- 0 if accepted, else the refusal's number times 1,000 and its line (no text has 1,000 lines)
-unfoldable pub packed : Verdict → ℕ
-packed Accepted = 0
-packed (Refused number line) = cond (ltb line 1000) (number * 1000 + line) (number * 1000 + 999)
+-- 0 if it is accepted, else the number and the line of the refusal
+abbrev pub packedVerdict : Verdict → ℕ
+packedVerdict Accepted = 0
+packedVerdict (Refused number line) = packed number line 0

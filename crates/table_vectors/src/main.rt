@@ -4,16 +4,9 @@ use table::Verdict;
 
 // Prints line 50: the number and the line of a refusal.
 fn print_refusal(number: u32, line: usize) {
-    if line < 1000 {
-        if number < 100 {
-            let mut out = [0u8; 49];
-            lines::print_line(
-                &mut out[..],
-                0,
-                [50, number as i32, line as i32, 0, 0, 0, 0, 0],
-            );
-            io::write_all(STDOUT_FILENO, &out[..]);
-        }
+    let mut out = [0u8; 49];
+    if refusal::print_refusal(&mut out[..], number, line) == 49 {
+        io::write_all(STDOUT_FILENO, &out[..]);
     }
 }
 

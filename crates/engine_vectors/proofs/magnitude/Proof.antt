@@ -7,7 +7,7 @@ use lib.Signed.{ltZ, natAbs-le}
 use mir.Syntax.{w32, w64}
 use mir.Val.{toZ, ofZ}
 use mir.Facts.{toZ-ofZ}
-use Rattle.lines.specs.PrintLoops.{minus-abs, plus-abs}
+use Rattle.line_printer.specs.PrintLoops.{minus-abs, plus-abs}
 use borrow.Author.Needs.{needs}
 use Rattle.engine_vectors.proofs.magnitude.Statement.{statement}
 use Rattle.engine_vectors.proofs.magnitude.Tie as tie

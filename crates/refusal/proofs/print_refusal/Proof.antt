@@ -9,7 +9,7 @@ use native.Mathlib.Omega.{arith}
 use lib.IntN.{pos}
 use lib.ListN.{length}
 use denote.Ref.{now}
-use Rattle.lines.specs.Print.{printedAt}
+use Rattle.line_printer.specs.Print.{printedAt}
 use Rattle.refusal.specs.Refusal.{refusalLine}
 use Rattle.refusal.specs.RefusalLaws.{refusal-long, refusal-said, refusal-printed, no-number, no-line, no-room, nothing-said}
 use borrow.Author.Needs.{needs}

@@ -7,21 +7,17 @@ use Rattle.station.proofs.station_report_packed.Tie as tie
 use Rattle.station.proofs.station_report_packed.Reads as reads
 use Rattle.station.proofs.station_report_packed.Lts as lts
 use Rattle.analysis.proofs.report.Reads as report-reads
-use Rattle.station.proofs.pack.Reads as pack-reads
+use Rattle.packing.proofs.pack.Reads as pack-reads
 
--- src/lib.rt:23:9
 report-requires : tie.Need-report-requires
 report-requires c κs = search needs
 
--- src/lib.rt:24:5
 pack-requires : tie.Need-pack-requires
 pack-requires c κs = search needs
 
--- src/lib.rt:18:1
 same-length : tie.Need-same-length
 same-length c = search needs
 
--- src/lib.rt:18:1
 returns : tie.Need-returns
 returns c = (c .pack .ensures ∙ ap packedAnswer (c .before .before .before .report .ensures .0), c .before .before .before .report .ensures .1)
 

@@ -7,25 +7,20 @@ use Rattle.station.proofs.station_run_packed.Tie as tie
 use Rattle.station.proofs.station_run_packed.Reads as reads
 use Rattle.station.proofs.station_run_packed.Lts as lts
 use Rattle.engine.proofs.run.Reads as run-reads
-use Rattle.station.proofs.pack.Reads as pack-reads
+use Rattle.packing.proofs.pack.Reads as pack-reads
 
--- src/lib.rt:39:9
 run-requires : tie.Need-run-requires
 run-requires c κs = search needs
 
--- src/lib.rt:40:5
 pack-requires : tie.Need-pack-requires
 pack-requires c κs = search needs
 
--- src/lib.rt:28:1
 same-length : tie.Need-same-length
 same-length c = search needs
 
--- src/lib.rt:28:1
 same-length-2 : tie.Need-same-length-2
 same-length-2 c = search needs
 
--- src/lib.rt:28:1
 returns : tie.Need-returns
 returns c = (c .pack .ensures ∙ ap packedOutcome (c .before .before .before .before .run .ensures .0), c .before .before .before .before .run .ensures .1)
 

@@ -2,7 +2,7 @@
 use mathlib.Core.Path.{_≡_, sym, ap, _∙_}
 use Rattle.table.specs.declared.Reading.{Reading}
 use Rattle.table.specs.Verdict.{readingOf}
-use Rattle.table_export.specs.Packed.{packed}
+use Rattle.table_export.specs.Packed.{packedVerdict}
 use borrow.Author.Needs.{needs}
 use Rattle.table_export.proofs.table_verdict.Statement.{statement}
 use Rattle.table_export.proofs.table_verdict.Tie as tie
@@ -20,12 +20,12 @@ pack-requires : tie.Need-pack-requires
 pack-requires c κs = search needs
 
 returns : tie.Need-returns
-unfolding packed readingOf
-returns c = ap packed (sym (sym (ap (λ r. r .verdict) (c .before .before .read .ensures)) ∙ c .enum-told .given .1))
+unfolding readingOf
+returns c = ap packedVerdict (sym (sym (ap (λ r. r .verdict) (c .before .before .read .ensures)) ∙ c .enum-told .given .1))
 
 returns-2 : tie.Need-returns-2
 unfolding readingOf
-returns-2 c = c .pack .ensures ∙ ap packed (sym (sym (ap (λ r. r .verdict) (c .before .before .before .before .read .ensures)) ∙ c .before .before .verdict .given .1))
+returns-2 c = c .pack .ensures ∙ ap packedVerdict (sym (sym (ap (λ r. r .verdict) (c .before .before .before .before .read .ensures)) ∙ c .before .before .verdict .given .1))
 
 pub table-verdict-spec : {M : Type 1} → statement M
 table-verdict-spec =
