@@ -10,8 +10,8 @@ use native.Mathlib.Omega.{arith}
 use borrow.Author.Tests.{ltb-true, ltb-false, lt-ltb}
 use lib.Dec.{ltb}
 use lib.IntN.{ℤ}
-use lib.ListN.{length, getD, replicate, length-replicate, getD-replicate, List·getD-eq-default}
-use Rattle.sets.specs.Set.{has, firsts, union, minus, isSingle}
+use lib.ListN.{length, getD, replicate, length-replicate, getD-replicate}
+use Rattle.sets.specs.Set.{has, union, minus, isSingle}
 use Rattle.sets.specs.SetLaws.{has-union-left, has-union-right, union-cases, has-firsts, inside-both}
 use Rattle.sets.specs.Least.{Inside}
 use Rattle.table.specs.Header.{handles, routines, statements, statementLine}

@@ -1,13 +1,13 @@
 -- Steps one after another, and what they keep, from a set put into one place on. Assumes nothing.
-use mathlib.Core.Path.{_≡_, refl, sym, _∙_, subst}
+use mathlib.Core.Path.{refl, sym, _∙_, subst}
 use mathlib.Core.Bool.{Bool}
 use mathlib.Core.List.{List}
 use mathlib.Core.Logic.{inl, inr, ⊎-elim}
-use Prim.Native.Nat.{ℕ, _+_, _≤_, _<_}
+use Prim.Native.Nat.{ℕ}
 use native.Mathlib.Nat.{le-refl, lt-of-lt-of-le, lt-of-le-of-lt}
 use native.Mathlib.Omega.{arith}
 use Rattle.sets.specs.Set.{minus}
-use Rattle.sets.specs.Least.{Inside, room, putInto}
+use Rattle.sets.specs.Least.{Inside, putInto}
 use Rattle.sets.specs.Rules.{put-inside, still-put}
 use Rattle.lock_rules.specs.Steps.{Became}
 use Rattle.lock_rules.specs.Rules.{Setting, Lost, Closed, Kept, Moved}

@@ -3,7 +3,7 @@ use mathlib.Core.Path.{_≡_, refl, sym, ap, ap₂, _∙_}
 use mathlib.Core.Bool.{Bool, true, false, cond}
 use mathlib.Core.List.{List}
 use mathlib.Core.Logic.{inl, inr}
-use Prim.Native.Nat.{ℕ, _+_, _^_, _≤_, _<_, zero-le}
+use Prim.Native.Nat.{ℕ, _^_, _≤_, _<_, zero-le}
 use native.Mathlib.Nat.{le-refl}
 use native.Mathlib.Omega.{arith}
 use borrow.Author.Tests.{ne-eqb}
@@ -52,17 +52,20 @@ eleven op h l d = let k : 10 < op = lt-of-le-ne l (λ e. d (sym e)) in omega ari
 -- ---- what a statement brings
 
 module _ (f : List ℤ) (flow given : List ℕ) (held handed : ℕ → ℕ) (line s op : ℕ) where
-  pub behind-take : op ≡ 5 → union (held s) (onlyLock (getD flow (field f line 2) 0)) ≡ behind f flow given held handed line s op
+  pub behind-take : {h q x l r : ℕ} → op ≡ 5 → h ≡ held s → q ≡ field f line 2 → x ≡ getD flow q 0 → l ≡ onlyLock x → r ≡ union h l
+      → r ≡ behind f flow given held handed line s op
   unfolding behind
-  behind-take e = rw e
+  behind-take e h q x l r = rw e (r ∙ ap₂ union h (l ∙ ap onlyLock (x ∙ ap (λ (i : ℕ). getD flow i 0) q)))
 
-  pub behind-give : op ≡ 6 → minus (held s) (getD flow (field f line 2) 0) ≡ behind f flow given held handed line s op
+  pub behind-give : {h q x r : ℕ} → op ≡ 6 → h ≡ held s → q ≡ field f line 2 → x ≡ getD flow q 0 → r ≡ minus h x
+      → r ≡ behind f flow given held handed line s op
   unfolding behind
-  behind-give e = rw e
+  behind-give e h q x r = rw e (r ∙ ap₂ minus h (x ∙ ap (λ (i : ℕ). getD flow i 0) q))
 
-  pub behind-call : op ≡ 8 → union (handed (field f line 2)) (minus (held s) (getD given (field f line 2) 0)) ≡ behind f flow given held handed line s op
+  pub behind-call : {h q x k b r : ℕ} → op ≡ 8 → h ≡ held s → q ≡ field f line 2 → x ≡ getD given q 0 → k ≡ minus h x → b ≡ handed q → r ≡ union b k
+      → r ≡ behind f flow given held handed line s op
   unfolding behind
-  behind-call e = rw e
+  behind-call e h q x k b r = rw e (r ∙ ap₂ union (b ∙ ap handed q) (k ∙ ap₂ minus h (x ∙ ap (λ (i : ℕ). getD given i 0) q)))
 
   pub behind-other : (op ≡ 5 → ⊥) → (op ≡ 6 → ⊥) → (op ≡ 8 → ⊥) → held s ≡ behind f flow given held handed line s op
   unfolding behind

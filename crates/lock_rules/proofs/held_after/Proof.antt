@@ -21,7 +21,7 @@ union-requires : tie.Need-union-requires
 union-requires c κs = search needs
 
 returns : tie.Need-returns
-returns c = (cc) ∙ behind-take _ _ _ _ _ _ _ _ (c .before .before .before .before .if1 .taken)
+returns c = behind-take _ _ _ _ _ _ _ _ (c .before .before .before .before .if1 .taken) (c .before .before .before .before .before .held-at .ensures) (c .before .before .before .field-of .ensures .0) (c .before .before .set-at .ensures) (c .before .only-lock .ensures) (c .union .ensures)
 
 field-of-requires-2 : tie.Need-field-of-requires-2
 field-of-requires-2 c κs = search needs
@@ -33,7 +33,7 @@ difference-requires : tie.Need-difference-requires
 difference-requires c κs = search needs
 
 returns-2 : tie.Need-returns-2
-returns-2 c = (cc) ∙ behind-give _ _ _ _ _ _ _ _ (c .before .before .before .if2 .taken)
+returns-2 c = behind-give _ _ _ _ _ _ _ _ (c .before .before .before .if2 .taken) (c .before .before .before .before .before .held-at .ensures) (c .before .before .field-of2 .ensures .0) (c .before .set-at2 .ensures) (c .difference .ensures)
 
 field-of-requires-3 : tie.Need-field-of-requires-3
 field-of-requires-3 c κs = search needs
@@ -51,7 +51,7 @@ union-requires-2 : tie.Need-union-requires-2
 union-requires-2 c κs = search needs
 
 returns-3 : tie.Need-returns-3
-returns-3 c = (cc) ∙ behind-call _ _ _ _ _ _ _ _ (c .before .before .before .before .before .before .if3 .taken)
+returns-3 c = behind-call _ _ _ _ _ _ _ _ (c .before .before .before .before .before .before .if3 .taken) (c .before .before .before .before .before .before .before .before .before .held-at .ensures) (c .before .before .before .before .before .field-of3 .ensures .0) (c .before .before .before .before .set-at3 .ensures) (c .before .before .before .difference2 .ensures) (c .before .held-at2 .ensures) (c .union2 .ensures)
 
 returns-4 : tie.Need-returns-4
 returns-4 c = c .before .before .before .held-at .ensures ∙ behind-other _ _ _ _ _ _ _ _ (c .before .before .if1 .left) (c .before .if2 .left) (c .if3 .left)
