@@ -1,11 +1,10 @@
 -- The loops that note down where the routines' statements and handles stand: their invariants. Assumes nothing.
-use mathlib.Core.Path.{_≡_, refl, sym, ap, ap₂, _∙_, subst, subst⁻¹}
+use mathlib.Core.Path.{_≡_, refl, sym, ap, ap₂, _∙_}
 use mathlib.Core.List.{List}
 use Prim.Native.Nat.{ℕ, suc, _+_, _-_, _*_, _^_, _≤_, _<_, zero-le}
 use native.Mathlib.Omega.{arith}
 use lib.ListN.{set, replicate, length-replicate}
-use lib.Dec.{eqb, lit<}
-use borrow.Author.Count.{below-more}
+use lib.Dec.{eqb}
 use lib.IntN.{ℤ}
 use Rattle.table.specs.Until.{until}
 use Rattle.table.specs.Fields.{field}

@@ -1,6 +1,8 @@
 // The handle lines: their rule.
 ghost use mathlib.Core.Path.{_≡_};
 ghost use Prim.Native.Nat.{_<_, _^_, _-_};
+ghost use Rattle.table.specs.Until.{until};
+ghost use Rattle.table.specs.Header.{handles};
 ghost use Rattle.table.specs.Handles.{things, handleFieldsOk, sameAbove, handleOrderOk, parameterOk, handleOk};
 use crate::header::is_within;
 use table::field_of;
@@ -71,9 +73,24 @@ fn parameter_ok(numbers: &[i32], h: usize) -> bool
 }
 
 // Refusal 6's rule at handle `h`.
-pub fn handle_ok(numbers: &[i32], h: usize) -> bool
+fn handle_ok(numbers: &[i32], h: usize) -> bool
     requires { ⌜ h < 2 ^ 32 ⌝ }
     ensures { λ r. ⌜ r ≡ handleOk (now (numbers .entry)) h ⌝ }
 {
     handle_fields_ok(numbers, h) & handle_order_ok(numbers, h) & parameter_ok(numbers, h)
+}
+
+// The lowest handle that breaks refusal 6's rule, or the number of handles.
+pub fn bad_handle(numbers: &[i32]) -> usize
+    ensures { λ r. ⌜ r ≡ until (handleOk (now (numbers .entry))) 0 (handles (now (numbers .entry))) ⌝ }
+{
+    let count = field_of(numbers, 0, 3);
+    let mut h = 0;
+    while h < count {
+        if !handle_ok(numbers, h) {
+            return h;
+        }
+        h += 1;
+    }
+    h
 }

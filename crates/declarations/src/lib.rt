@@ -4,51 +4,16 @@ pub mod header;
 pub mod routines;
 
 ghost use mathlib.Core.Path.{_≡_};
-ghost use Prim.Native.Nat.{_<_, _^_, _≤_, _+_, _-_, min};
+ghost use Prim.Native.Nat.{_≤_, _+_, _-_, min};
 ghost use lib.Dec.{eqb};
 ghost use Rattle.table.specs.Until.{until};
 ghost use Rattle.table.specs.Fields.{field};
 ghost use Rattle.table.specs.Header.{routines, handleLine};
 ghost use Rattle.table.specs.Routines.{sumOk};
 ghost use Rattle.table.specs.Layout.{firstStatements, firstHandles, parameterCounts};
-ghost use Rattle.declarations.specs.Rules.{holdsAt};
-use handles::handle_ok;
 use lists::number_at;
 use routines::count_at;
-use routines::routine_ok;
 use table::field_of;
-
-// A rule that is tested at one place after another: at a handle (6) or at a routine (7).
-pub enum Rule {
-    Handle,
-    Routine,
-}
-
-// Whether `rule` holds at place `i`.
-fn holds(rule: Rule, numbers: &[i32], i: usize) -> bool
-    requires { ⌜ i < 2 ^ 32 ⌝ }
-    ensures { λ b. ⌜ b ≡ holdsAt (now (numbers .entry)) rule i ⌝ }
-{
-    match rule {
-        Rule::Handle => handle_ok(numbers, i),
-        Rule::Routine => routine_ok(numbers, i),
-    }
-}
-
-// The lowest place from 0 on, below `end`, at which `rule` fails; `end` if there is none.
-pub fn lowest(rule: Rule, numbers: &[i32], end: usize) -> usize
-    requires { ⌜ end < 2 ^ 32 ⌝ }
-    ensures { λ x. ⌜ x ≡ until (holdsAt (now (numbers .entry)) rule) 0 end ⌝ }
-{
-    let mut i = 0;
-    while i < end {
-        if !holds(rule, numbers, i) {
-            return i;
-        }
-        i += 1;
-    }
-    i
-}
 
 // The first handle from `from` on, below `end`, whose field `j` is not `value`; `end` if there is none.
 fn skip(numbers: &[i32], j: usize, value: usize, from: usize, end: usize) -> usize

@@ -8,9 +8,11 @@ ghost use Rattle.table.specs.Statements.{badStatement};
 ghost use Rattle.table.specs.Verdict.{namingVerdict, statementVerdict, declarationVerdict, numbersVerdict};
 use crate::rules::Rule;
 use crate::rules::lowest;
+use declarations::handles::bad_handle;
 use declarations::header::bad_leading;
 use declarations::header::header_ok;
 use declarations::header::length_ok;
+use declarations::routines::bad_routine;
 use lists::number_at;
 use statements::bad_among;
 use table::Verdict;
@@ -105,20 +107,18 @@ fn declaration_verdict(numbers: &[i32]) -> Verdict
     requires { ⌜ Sized (now numbers) ⌝ }
     ensures { λ v. ⌜ v ≡ declarationVerdict (now (numbers .entry)) ⌝ }
 {
-    let handles = field_of(numbers, 0, 3);
-    let h = declarations::lowest(declarations::Rule::Handle, numbers, handles);
-    if h < handles {
+    let h = bad_handle(numbers);
+    if h < field_of(numbers, 0, 3) {
         return Verdict::Refused {
             number: 6,
             line: 1 + h,
         };
     }
-    let routines = field_of(numbers, 0, 4);
-    let r = declarations::lowest(declarations::Rule::Routine, numbers, routines);
-    if r < routines {
+    let r = bad_routine(numbers);
+    if r < field_of(numbers, 0, 4) {
         return Verdict::Refused {
             number: 7,
-            line: 1 + handles + r,
+            line: 1 + field_of(numbers, 0, 3) + r,
         };
     }
     let first = declarations::first_statements(numbers);

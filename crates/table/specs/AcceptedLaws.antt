@@ -13,7 +13,7 @@ use Rattle.table.specs.Header.{cells, locks, handles, routines, statemen
 use Rattle.table.specs.Handles.{routineOf, kindOf, things, handlesFrom, parameters}
 use Rattle.table.specs.Routines.{firstOf}
 use Rattle.table.specs.LayoutLaws.{handles-from-most}
-use Rattle.table.specs.CheckLaws.{Passed, numbers-passed, text-passed}
+use Rattle.table.specs.CheckLaws.{Passed, text-passed}
 use Rattle.table.specs.HandleLaws.{HandleRule, handle-rule, from-grows, own-from, own-upto, own-routine, few-handles, few-parameters, parameters-among, first-without, parameter-before, local-behind}
 use Rattle.table.specs.RoutineLaws as R
 use Rattle.table.specs.LookupLaws.{cells-is, locks-is, handles-length, routines-length, statements-length, statement-is, declaration-says, routine-says, in-routine, routine-in}
@@ -23,7 +23,7 @@ use Rattle.table.specs.Table.{tableOf, declaration, routine, statement, 
 use Rattle.table.specs.Accepted.{Accepted, HandleFacts, RoutineFacts, Operands, GoesOn, Names}
 use Rattle.table.specs.declared.Statement.{Statement}
 use Rattle.table.specs.declared.Verdict as Declared
-use Rattle.table.specs.Verdict.{verdict, numbersVerdict}
+use Rattle.table.specs.Verdict.{verdict}
 
 -- how many things there are, by the kind
 things-cells : (f : List ℤ) (kind : ℕ) → kind ≡ 1 → things f kind ≡ cells f
@@ -188,10 +188,6 @@ module _ (f : List ℤ) (p : Passed f) where
         rank = rankOf f p;
         rank-falls = λ r s q b i n. naming-falls f p r q (naming r s q (omega arith) i n);
       }
-
--- the numbers that a text's lines say, with any count of lines
-pub numbers-accepted : (f : List ℤ) (lines : ℕ) → numbersVerdict f lines ≡ Declared.Verdict.Accepted → Accepted (tableOf f)
-numbers-accepted f lines e = passed-accepted f (numbers-passed f lines e)
 
 -- what "accepted" gives
 pub accepted : (text : List ℕ) → verdict text ≡ Declared.Verdict.Accepted → Accepted (tableOf (numbersOf text))

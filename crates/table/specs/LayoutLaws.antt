@@ -1,21 +1,19 @@
 -- Where the routines' statements and handles stand, a routine further on; and the entries of the lists that note it down. Assumes nothing.
-use mathlib.Core.Path.{_≡_, refl, subst, subst⁻¹}
+use mathlib.Core.Path.{_≡_}
 use mathlib.Core.List.{List}
-use Prim.Native.Nat.{ℕ, zero, suc, _+_, _-_, _^_, _≤_, _<_, zero-le}
+use Prim.Native.Nat.{ℕ, zero, suc, _+_, _-_, _≤_, _<_, zero-le}
 use native.Mathlib.Omega.{arith}
 use native.Mathlib.Numerals.{add-one}
 use lib.ListN.{getD}
-use mathlib.Core.Bool.{Bool, true, false}
-use lib.Dec.{eqb, ltb, lit<}
-use borrow.Author.Tests.{ltb-true, ltb-false}
+use lib.Dec.{eqb}
 use lib.IntN.{ℤ}
 use Rattle.table.specs.Until.{until}
-use Rattle.table.specs.Header.{handles, routines, statements}
+use Rattle.table.specs.Header.{handles, routines}
 use Rattle.table.specs.Handles.{routineOf, handlesFrom, parameters}
 use Rattle.table.specs.Routines.{countOf, firstOf}
 use Rattle.table.specs.Layout.{firstStatements, firstHandles, parameterCounts}
 use Rattle.table.specs.UntilLaws.{until-range}
-use Rattle.table.specs.TabulateLaws.{entry-below, entry-behind}
+use Rattle.table.specs.TabulateLaws.{entry-below}
 
 pub first-next : (f : List ℤ) (r : ℕ) → firstOf f (r + 1) ≡ firstOf f r + countOf f r
 unfolding firstOf

@@ -14,6 +14,7 @@ pub mod Statements
 pub mod Naming
 pub mod Verdict
 pub mod VerdictLaws
+pub mod Examples
 pub mod Table
 pub mod Accepted
 pub mod CheckLaws

@@ -8,7 +8,7 @@ use lib.Dec.{ltb}
 use lib.ListN.{getD}
 use lib.IntN.{ℤ}
 use borrow.Author.Tests.{ltb-true, ltb-false}
-use Rattle.table.specs.Header.{handles, routines, statements}
+use Rattle.table.specs.Header.{routines, statements}
 use Rattle.table.specs.HeaderLaws.{Sized}
 use Rattle.table.specs.Handles.{handlesFrom, parameters}
 use Rattle.table.specs.Routines.{firstOf}

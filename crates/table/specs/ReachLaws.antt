@@ -6,7 +6,7 @@ use mathlib.Core.Bool.{Bool, true, false, not, _||_}
 use Prim.Native.Nat.{ℕ, zero, suc, _+_, _^_, _≤_, _<_}
 use native.Mathlib.Omega.{arith}
 use lib.Dec.{eqb, ltb}
-use borrow.Author.Tests.{ltb-true, ltb-false, eqb-true, eq-eqb, not-true}
+use borrow.Author.Tests.{ltb-true, ltb-false, eqb-true, not-true}
 use lib.ListN.{getD}
 use Rattle.sets.specs.Set.{has, union, minus, with, lowest, count}
 use Rattle.sets.specs.SetLaws.{has-union-left, has-union-right, union-cases, has-minus, has-with, has-empty, has-beyond, below-of-has, union-below, minus-below, count-with, count-below, count-inside-less, lowest-is, lowest-nothing}
@@ -41,13 +41,6 @@ in-empty i h = let z : true ≡ false = sym h ∙ has-empty i in let w : _≡_ {
 
 with-old : (s i j : ℕ) → i < 32 → In s j → In (with s i) j
 with-old s i j b h = has-with s i j (omega arith) ∙ rw h
-
-with-new : (s i : ℕ) → i < 32 → In (with s i) i
-with-new s i b = has-with s i i (omega arith) ∙ go (has s i)
-  where
-    go : (t : Bool) → (t || eqb i i) ≡ true
-    go true = refl
-    go false = eq-eqb i i refl
 
 with-cases : {C : Type 0} (s i j : ℕ) → i < 32 → In (with s i) j → (In s j → C) → (j ≡ i → C) → C
 with-cases {C} s i j b h old new = go (has s j) refl (sym (has-with s i j (omega arith)) ∙ h)

@@ -1,12 +1,10 @@
 -- `statements::argument_ok` meets its contract. Assumes nothing.
 use native.Mathlib.Omega.{arith}
-use mathlib.Core.Path.{ap, _∙_}
-use Prim.Native.Nat.{ℕ, _+_, _*_}
+use mathlib.Core.Path.{_∙_}
 use denote.Ref.{now}
 use borrow.Author.Tests.{le-ltb, lt-ltb}
-use Rattle.table.specs.Fields.{field}
 use Rattle.table.specs.Lists.{handles-begin, handles-early, parameters-counted}
-use Rattle.table.specs.Statements.{argumentOk, ownOfKind}
+use Rattle.table.specs.Statements.{argumentOk}
 use borrow.Author.Needs.{needs}
 use Rattle.statements.proofs.argument_ok.Statement.{statement}
 use Rattle.statements.proofs.argument_ok.Tie as tie

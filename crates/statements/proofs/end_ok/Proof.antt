@@ -1,9 +1,8 @@
 -- `statements::end_ok` meets its contract. Assumes nothing.
 use native.Mathlib.Omega.{arith}
-use mathlib.Core.Path.{_≡_, ap, ap₂, _∙_}
+use mathlib.Core.Path.{ap, ap₂, _∙_}
 use Prim.Native.Nat.{ℕ, _+_, _-_}
 use denote.Ref.{now}
-use Rattle.table.specs.Header.{statementLine}
 use Rattle.table.specs.HeaderLaws.{statement-line}
 use Rattle.table.specs.Lists.{statements-begin, begin-early}
 use Rattle.table.specs.Statements.{endOk, lastOf}

@@ -1,8 +1,7 @@
 -- `statements::statement_ok` meets its contract. Assumes nothing.
-use mathlib.Core.Path.{_≡_, ap, _∙_}
+use mathlib.Core.Path.{ap, _∙_}
 use Prim.Native.Nat.{ℕ, _+_}
 use denote.Ref.{now}
-use Rattle.table.specs.Header.{statementLine}
 use Rattle.table.specs.HeaderLaws.{statement-line}
 use Rattle.table.specs.Statements.{statementOk}
 use borrow.Author.Needs.{needs}

@@ -1,6 +1,5 @@
 -- `table_export::table_verdict` meets its contract. Assumes nothing.
-use mathlib.Core.Path.{_≡_, sym, ap, _∙_}
-use Rattle.table.specs.declared.Reading.{Reading}
+use mathlib.Core.Path.{sym, ap, _∙_}
 use Rattle.table.specs.Verdict.{readingOf}
 use Rattle.table_export.specs.Packed.{packedVerdict}
 use borrow.Author.Needs.{needs}

@@ -1,0 +1,56 @@
+-- `declarations::routines::bad_routine` meets its contract. Assumes nothing.
+use borrow.Author.Needs.{needs}
+use borrow.Author.Tests.{not-true, not-false}
+use native.Mathlib.Omega.{arith}
+use mathlib.Core.Path.{sym, ap, _∙_}
+use Prim.Native.Nat.{_-_}
+use Rattle.table.specs.Until.{until}
+use Rattle.table.specs.Routines.{routineOk}
+use Rattle.table.specs.UntilLaws.{Looking, looking-start, looking-next, stop-from-zero, done-from-zero}
+use Rattle.declarations.proofs.routines.bad_routine.Statement.{statement}
+use Rattle.declarations.proofs.routines.bad_routine.Tie as tie
+
+abbrev Inv-loop : tie.InvT-loop
+Inv-loop numbers count r₀ r = Looking (routineOk numbers) count 0 r
+
+abbrev μ-loop : tie.MeasureT-loop
+μ-loop numbers count r₀ r = count - r
+
+field-of-requires : tie.Need-field-of-requires Inv-loop μ-loop
+field-of-requires c κs = tt
+
+loop-holds : tie.Need-loop-holds Inv-loop μ-loop
+loop-holds c = looking-start _ _ _
+
+routine-ok-requires : tie.Need-routine-ok-requires Inv-loop μ-loop
+routine-ok-requires c κs = omega arith
+
+returns : tie.Need-returns Inv-loop μ-loop
+returns c = stop-from-zero _ _ _ (c .before .before .before .loop .inv) (c .before .before .loop-test .taken) (sym (c .before .routine-ok .ensures) ∙ not-true _ (c .if1 .taken)) ∙ ap (until _ 0) (c .before .before .before .before .field-of .ensures .0)
+
+add-r : tie.Need-add-r Inv-loop μ-loop
+add-r c = search needs
+
+loop-less : tie.Need-loop-less Inv-loop μ-loop
+loop-less c = search needs
+
+loop-again : tie.Need-loop-again Inv-loop μ-loop
+loop-again c = looking-next _ _ _ _ (c .before .before .before .loop .inv) (c .before .before .loop-test .taken) (sym (c .before .routine-ok .ensures) ∙ not-false _ (c .if1 .left))
+
+returns-2 : tie.Need-returns-2 Inv-loop μ-loop
+returns-2 c = done-from-zero _ _ _ (c .before .loop .inv) (c .loop-test .left) ∙ ap (until _ 0) (c .before .before .field-of .ensures .0)
+
+pub bad-routine-spec : {M : Type 1} → statement M
+bad-routine-spec =
+    tie.close
+    (tie.spec
+    Inv-loop
+    μ-loop
+    field-of-requires
+    loop-holds
+    routine-ok-requires
+    returns
+    add-r
+    loop-less
+    loop-again
+    returns-2)
