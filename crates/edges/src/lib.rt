@@ -13,14 +13,6 @@ ghost use Rattle.edges.specs.EdgeLaws.{Appended};
 ghost use Rattle.edges.specs.LineLaws.{Lined, passingFrom};
 ghost use Rattle.edges.specs.RoutineLaws.{Near};
 
-// The line of statement 0.
-pub fn first_line(numbers: &[i32]) -> usize
-    ensures is { λ r. ⌜ r ≡ statementLine (now (numbers .entry)) 0 ⌝ }
-    ensures small { λ r. ⌜ r < 2 ^ 33 ⌝ }
-{
-    1 + table::field_of(numbers, 0, 3) + table::field_of(numbers, 0, 4)
-}
-
 // The routine of statement `s`, where `r` is that of the statement before.
 fn owner_of(numbers: &[i32], first: &[usize], r: usize, s: usize) -> usize
     requires { ⌜ now first ≡ firstStatements (now numbers) ⌝ }
@@ -109,7 +101,7 @@ pub fn fill_flow(numbers: &[i32], handle: &[usize], counts: &[usize], edges: &mu
     requires { ⌜ Accepted (tableOf (now numbers)) ⌝ }
     ensures { λ r. ⌜ Appended (now (edges .entry)) 0 (now (edges .exit)) r (edgesFor Flow (tableOf (now (numbers .entry)))) ⌝ }
 {
-    let base = first_line(numbers);
+    let base = table::first_line(numbers);
     let end = table::field_of(numbers, 0, 5);
     let mut n = 0;
     let mut s = 0;
@@ -152,7 +144,7 @@ pub fn fill_naming(numbers: &[i32], first: &[usize], starts: bool, edges: &mut [
     requires { ⌜ Accepted (tableOf (now numbers)) ⌝ }
     ensures { λ r. ⌜ Appended (now (edges .entry)) 0 (now (edges .exit)) r (edgesFor (upwards starts) (tableOf (now (numbers .entry)))) ⌝ }
 {
-    let base = first_line(numbers);
+    let base = table::first_line(numbers);
     let end = table::field_of(numbers, 0, 5);
     let mut n = 0;
     let mut c = 0;
@@ -232,7 +224,7 @@ pub fn fill_future(numbers: &[i32], first: &[usize], edges: &mut [u32]) -> usize
     requires { ⌜ Accepted (tableOf (now numbers)) ⌝ }
     ensures { λ r. ⌜ Appended (now (edges .entry)) 0 (now (edges .exit)) r (edgesFor Futures (tableOf (now (numbers .entry)))) ⌝ }
 {
-    let base = first_line(numbers);
+    let base = table::first_line(numbers);
     let end = table::field_of(numbers, 0, 5);
     let mut n = 0;
     let mut c = 0;

@@ -23,14 +23,6 @@ fn mark(test: bool) -> usize
     if test { 1 } else { 0 }
 }
 
-// The line of statement 0.
-pub fn first_line(numbers: &[i32]) -> usize
-    ensures is { λ r. ⌜ r ≡ statementLine (now (numbers .entry)) 0 ⌝ }
-    ensures small { λ r. ⌜ r < 2 ^ 33 ⌝ }
-{
-    1 + table::field_of(numbers, 0, 3) + table::field_of(numbers, 0, 4)
-}
-
 // The lowest cell of a set that has one.
 fn lowest_cell(cells: u64) -> usize
     requires { ⌜ (cells ≡ 0 → ⊥) ⌝ }
@@ -104,7 +96,7 @@ pub fn note_accesses(numbers: &[i32], flow: &[u64], held: &[u64], noted: &mut [u
 {
     let all = sets::firsts(table::field_of(numbers, 0, 2));
     fill_common(noted, all);
-    let base = first_line(numbers);
+    let base = table::first_line(numbers);
     let mut s = table::field_of(numbers, 0, 5);
     while 0 < s {
         s -= 1;
@@ -161,7 +153,7 @@ pub fn shared_cells(numbers: &[i32], reads: &[u64], writes: &[u64], later: &[u64
     requires { ⌜ Accepted (tableOf (now numbers)) ⌝ }
     ensures { λ x. ⌜ x ≡ unionFrom 0 (statements (now (numbers .entry))) (sharedBy (now (numbers .entry)) (now (reads .entry)) (now (writes .entry)) (now (later .entry)) (statements (now (numbers .entry)) + routines (now (numbers .entry)))) ⌝ }
 {
-    let base = first_line(numbers);
+    let base = table::first_line(numbers);
     let count = table::field_of(numbers, 0, 5);
     let half = count + table::field_of(numbers, 0, 4);
     let mut shared = 0;
@@ -192,7 +184,7 @@ pub fn stray_count(numbers: &[i32], flow: &[u64], held: &[u64]) -> usize
     ensures is { λ n. ⌜ n ≡ countFrom 0 (statements (now (numbers .entry))) (strayIn (now (numbers .entry)) (now (flow .entry)) (now (held .entry))) ⌝ }
     ensures small { λ n. ⌜ n ≤ 512 ⌝ }
 {
-    let base = first_line(numbers);
+    let base = table::first_line(numbers);
     let mut n = 0;
     let mut s = table::field_of(numbers, 0, 5);
     while 0 < s {

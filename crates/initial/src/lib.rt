@@ -10,7 +10,6 @@ ghost use Rattle.table.specs.Accepted.{Accepted};
 ghost use Rattle.report.specs.Flow.{startOf};
 ghost use Rattle.edges.specs.Equations.{operationOf, ownSet, inRoutine, effectAt, nextsEffect, futureInitial};
 ghost use Rattle.edges.specs.LineLaws.{Lined};
-use edges::first_line;
 
 // What the set of handle `h` begins with: a local's start.
 fn flow_initial(numbers: &[i32], h: usize) -> u64
@@ -98,7 +97,7 @@ pub fn fill_own(
     requires { ⌜ length (now out) ≡ routines (now numbers) ⌝ }
     ensures { λ _. ⌜ now (out .exit) ≡ tabulate (length (now (out .entry))) (inRoutine locks writes (now (flow .entry)) (tableOf (now (numbers .entry)))) ⌝ }
 {
-    let base = first_line(numbers);
+    let base = table::first_line(numbers);
     let mut r = 0;
     while r < out.len() {
         out[r] = in_routine(numbers, first, base, flow, locks, writes, r);
@@ -195,7 +194,7 @@ pub fn fill_future(numbers: &[i32], flow: &[u64], effect: &[u64], writes: bool, 
     requires { ⌜ Accepted (tableOf (now numbers)) ⌝ }
     ensures { λ _. ⌜ now (out .exit) ≡ tabulate (length (now (out .entry))) (futureInitial writes (now (flow .entry)) (now (effect .entry)) (tableOf (now (numbers .entry)))) ⌝ }
 {
-    let base = first_line(numbers);
+    let base = table::first_line(numbers);
     let end = table::field_of(numbers, 0, 5);
     let mut p = 0;
     while p < out.len() {

@@ -37,13 +37,13 @@ use Rattle.report.specs.Operations.{isReturn}
 use Rattle.report.specs.FlowLaws.{FlowHas}
 use Rattle.report.specs.EffectLaws.{GivesHas}
 use Rattle.report.specs.Held.{allLocks, onlyLock, atReturns, heldSets}
-use Rattle.report.specs.HeldLaws.{single-only, only-single, held-rules, held-greatest}
+use Rattle.report.specs.HeldLaws.{only-from, only-has, return-is, held-rules, held-greatest}
 use Rattle.report.specs.NextLaws.{goes-placed}
 use Rattle.report.specs.Rules.{Place, Goes, Only, After, AtReturns, HeldRules}
 use Rattle.lock_rules.specs.Steps.{behind}
 use Rattle.lock_rules.specs.Rules.{Setting, fixedOf, setting, Small, Lost, Rule, Closed, Solved, operation, operand}
 use Rattle.lock_rules.specs.declared.Fixed.{Fixed}
-use Rattle.lock_rules.specs.NumberLaws.{numberOf, number-is, is-number, no-number, return-is}
+use Rattle.lock_rules.specs.NumberLaws.{numberOf, number-is, is-number, no-number}
 
 -- ---- what is left, and what is turned round
 
@@ -80,20 +80,6 @@ module _ (all n : ℕ) (g : ℕ → ℕ) where
   turned-left p x l a h =
       minus-has all (getD turned p 0) x a
       (λ m. minus-from all (g p) x (ap (λ (y : ℕ). has y x) (sym (getD-tabulate n (λ p. minus all (g p)) p 0 l)) ∙ m) .1 h)
-
--- ---- the one lock of a flow set
-
-only-from : (s x : ℕ) → s < 2 ^ 64 → has (onlyLock s) x ≡ true → Only (λ y. has s y ≡ true) x
-unfolding onlyLock
-only-from s x l h = go (isSingle s) refl h
-  where
-    go : (b : Bool) → isSingle s ≡ b → has (cond b s 0) x ≡ true → Only (λ y. has s y ≡ true) x
-    go true e h = single-only s l e x h
-    go false e h = none-in x h
-
-only-has : (s x : ℕ) → s < 2 ^ 64 → Only (λ y. has s y ≡ true) x → has (onlyLock s) x ≡ true
-unfolding onlyLock
-only-has s x l o = rw (only-single s x l o) (o .member)
 
 -- ---- the rules
 
@@ -250,7 +236,7 @@ module _ (f : List ℤ) (first flow given : List ℕ) (acc : Accepted (tableOf f
           (λ b h g. b .next (omega arith) (omega arith) g)
           (λ b h g. b .next (omega arith) (omega arith) g)
           (λ b h g.
-          union-cases (leaving all out s) _ x (λ k. inl k) (λ k. inr (only-from (getD flow (operand e s) 0) x (below _) k))
+          union-cases (leaving all out s) _ x (λ k. inl k) (λ k. inr (only-from (getD flow (operand e s) 0) (below _) x k))
           (b .next (omega arith) (omega arith) g))
           (λ b h g. minus-from (leaving all out s) (getD flow (operand e s) 0) x (b .next (omega arith) (omega arith) g))
           (λ b h g. b .next (omega arith) (omega arith) g)
@@ -368,7 +354,7 @@ module _ (f : List ℤ) (first flow given : List ℕ) (acc : Accepted (tableOf f
         (λ k l h w. stays (w refl))
         (λ k l h w.
         ⊎-elim (λ v. has-union-left (leaving all R s) _ x (stays v))
-        (λ v. has-union-right (leaving all R s) _ x (only-has (getD flow (operand e s) 0) x (below _) v)) (w refl))
+        (λ v. has-union-right (leaving all R s) _ x (only-has (getD flow (operand e s) 0) (below _) x v)) (w refl))
         (λ k l h w. minus-has (leaving all R s) (getD flow (operand e s) 0) x (stays (w refl .0)) (w refl .1))
         (λ k l h w. stays (w refl))
         (λ k l h w. call-has (operand e s) _ h (w refl))

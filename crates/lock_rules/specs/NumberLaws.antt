@@ -67,18 +67,3 @@ no-number f line =
     (λ h. absurd (omega (arith, h (omega arith))))
     (λ op h. refl)
 
--- the test for RETURN
-pub return-is : (σ : Statement) → isReturn σ ≡ true → σ ≡ Return
-unfolding isReturn
-return-is (Read h) e = never (sym e)
-return-is (Write h) e = never (sym e)
-return-is (Set n) e = never (sym e)
-return-is (Add n) e = never (sym e)
-return-is (Take h) e = never (sym e)
-return-is (Give h) e = never (sym e)
-return-is (Point h g) e = never (sym e)
-return-is (Call q a) e = never (sym e)
-return-is (Start q a) e = never (sym e)
-return-is (Jump z) e = never (sym e)
-return-is (JumpZero z) e = never (sym e)
-return-is Return e = refl

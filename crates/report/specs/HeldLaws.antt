@@ -69,7 +69,7 @@ only-single s x l o =
     (λ y h. ap (has s) (one-only x y b h) ∙ o .member) in
     eq-eqb (count s) 1 (ap count e ∙ count-one x b)
 
-only-from : (s : ℕ) → s < 2 ^ 64 → (x : ℕ) → has (onlyLock s) x ≡ true → Only (λ y. has s y ≡ true) x
+pub only-from : (s : ℕ) → s < 2 ^ 64 → (x : ℕ) → has (onlyLock s) x ≡ true → Only (λ y. has s y ≡ true) x
 unfolding onlyLock
 only-from s l x h = go (isSingle s) refl h
   where
@@ -77,11 +77,11 @@ only-from s l x h = go (isSingle s) refl h
     go true e h = single-only s l e x h
     go false e h = none-in x h
 
-only-has : (s : ℕ) → s < 2 ^ 64 → (x : ℕ) → Only (λ y. has s y ≡ true) x → has (onlyLock s) x ≡ true
+pub only-has : (s : ℕ) → s < 2 ^ 64 → (x : ℕ) → Only (λ y. has s y ≡ true) x → has (onlyLock s) x ≡ true
 unfolding onlyLock
 only-has s l x o = rw (only-single s x l o) (o .member)
 
-return-is : (σ : Statement) → isReturn σ ≡ true → σ ≡ Return
+pub return-is : (σ : Statement) → isReturn σ ≡ true → σ ≡ Return
 unfolding isReturn
 return-is (Read h) e = never (sym e)
 return-is (Write h) e = never (sym e)

@@ -83,7 +83,7 @@ fn print_strays(out: &mut [u8], at: usize, numbers: &[i32], flow: &[u64], held: 
     ensures place { λ r. ⌜ r ≡ at + length (textFrom 0 (statements (now (numbers .entry))) (straysBy (now (numbers .entry)) (now (flow .entry)) (now (held .entry)))) ⌝ }
     ensures buffer { λ _. ⌜ now (out .exit) ≡ putAt (now (out .entry)) at (textFrom 0 (statements (now (numbers .entry))) (straysBy (now (numbers .entry)) (now (flow .entry)) (now (held .entry)))) ⌝ }
 {
-    let base = findings::first_line(numbers);
+    let base = table::first_line(numbers);
     let count = table::field_of(numbers, 0, 5);
     let mut place = at;
     let mut s = 0;

@@ -22,20 +22,13 @@ pub struct Sizes {
     pub locks: usize,
 }
 
-// The line of statement 0.
-fn first_line(numbers: &[i32]) -> usize
-    ensures { λ r. ⌜ r ≡ statementLine (now (numbers .entry)) 0 ⌝ }
-{
-    1 + table::field_of(numbers, 0, 3) + table::field_of(numbers, 0, 4)
-}
-
 // The sizes of a table's numbers.
 pub fn sizes_of(numbers: &[i32]) -> Sizes
     ensures { λ r. ⌜ Sized (now (numbers .entry)) r ⌝ }
 {
     let counts = table::counts_of(numbers);
     Sizes {
-        base: first_line(numbers),
+        base: table::first_line(numbers),
         cells: counts.cells,
         locks: counts.locks,
     }
