@@ -1,82 +1,458 @@
-//! A plain check and engine in Rust, written for speed: fields read without allocation, bit masks, lists of places still to look at.
+//! A plain check and engine in Rust, written for speed: what the proved code is measured against.
+//!
+//! The check is a reading of document 01 without proofs and without unsafe code; `bench/check/agree` holds it to the judge's reading.
+//! - Reader: a field is eight bytes in one number, digits tested and added up side by side; a line's tail of zeros is compared whole. One pass over
+//!   the text: at the first refusal the lines behind it are looked at for refusals 2 and 5 only, the sole ones that could come before it.
+//! - Sets by handle: a routine has at most eight, so POINTs are eight bits a handle, READs and WRITEs are counted by handle, and effects, given-up locks
+//!   and the report's counts need no walk over the statements.
+//! - Orders: routines callers first for flow and futures, callees first for effects and given-up locks; statements upwards for held sets, the callee at
+//!   its first CALL; downwards for futures, and only in routines whose futures a START needs.
+//! - A run of statements without jump, target or CALL is one place, with what it keeps and adds.
 
-pub struct Table {
-    pub lines: Vec<[i32; 8]>,
-    pub counts: [usize; 5],
-    pub first: [usize; 33],
-    pub from: [usize; 33],
-    pub parameters: [usize; 32],
+pub const LINE: usize = 49;
+type Line = [u8; LINE];
+type Refusal = (u32, u32);
+
+const READ: u8 = 1;
+const WRITE: u8 = 2;
+const SET: u8 = 3;
+const ADD: u8 = 4;
+const TAKE: u8 = 5;
+const GIVE: u8 = 6;
+const POINT: u8 = 7;
+const CALL: u8 = 8;
+const START: u8 = 9;
+const JUMP: u8 = 10;
+const JUMPZ: u8 = 11;
+const RETURN: u8 = 12;
+
+/// A statement: `x` is its handle, number, routine or target, `with` the arguments of CALL and START, or POINT's second handle.
+#[derive(Clone, Copy, Default)]
+pub struct Statement {
+    x: i32,
+    op: u8,
+    with: [u8; 4],
 }
 
-// Six characters: a number, or none.
-fn field(chars: &[u8]) -> Option<i32> {
-    let mut at = 0;
-    while at < 6 && chars[at] == b' ' {
-        at += 1;
+/// A handle, and what the statements do through it; `into` has the handles of its routine, from the first on, that a POINT puts into it.
+#[derive(Clone, Copy, Default)]
+struct Handle {
+    routine: u8,
+    kind: u8,
+    local: bool,
+    start: u8,
+    into: u8,
+    gives: bool,
+    reads: u16,
+    writes: u16,
+}
+
+/// A routine: its first statement and handle, the numbers of both and of its parameters; the routines that it CALLs, and those that it STARTs.
+#[derive(Clone, Copy, Default)]
+struct Routine {
+    first: u16,
+    end: u16,
+    handle: u8,
+    handles: u8,
+    parameters: u8,
+    points: bool,
+    calls: u32,
+    starts: u32,
+}
+
+/// A set of statements.
+#[derive(Clone, Copy, Default)]
+struct Places([u64; 9]);
+
+impl Places {
+    fn add(&mut self, s: usize) {
+        self.0[s / 64] |= 1 << (s % 64);
     }
-    let negative = at < 6 && chars[at] == b'-';
-    if negative {
-        at += 1;
+
+    fn remove(&mut self, s: usize) {
+        self.0[s / 64] &= !(1 << (s % 64));
     }
-    if at == 6 || (chars[at] == b'0' && (negative || at < 5)) {
+
+    /// The lowest member from `s` on, if it is below `end`.
+    #[inline]
+    fn next(&self, s: usize, end: usize) -> Option<usize> {
+        let mut word = s / 64;
+        let mut bits = self.0[word] & (!0 << (s % 64));
+        while bits == 0 && 64 * word + 64 < end {
+            word += 1;
+            bits = self.0[word];
+        }
+        let found = 64 * word + bits.trailing_zeros() as usize;
+        (bits != 0 && found < end).then_some(found)
+    }
+
+    /// The highest member below `end`, if it is `s` or above.
+    #[inline]
+    fn last(&self, s: usize, end: usize) -> Option<usize> {
+        let mut word = (end - 1) / 64;
+        let mut bits = self.0[word] & (!0 >> (63 - (end - 1) % 64));
+        while bits == 0 && 64 * word > s {
+            word -= 1;
+            bits = self.0[word];
+        }
+        let found = (64 * word + 63).wrapping_sub(bits.leading_zeros() as usize);
+        (bits != 0 && found >= s).then_some(found)
+    }
+}
+
+pub struct Table {
+    cells: usize,
+    locks: usize,
+    handles: Vec<Handle>,
+    routines: Vec<Routine>,
+    body: Vec<Statement>,
+    /// The routines, each before those that it names.
+    order: [u8; 32],
+    /// CALLs and STARTs.
+    naming: Places,
+    /// The first statements of runs: of routines, targets, and those behind a jump, RETURN or CALL.
+    heads: Places,
+}
+
+const ZEROS: Line = *b"     0     0     0     0     0     0     0     0\n";
+const BYTES: u64 = 0x0101_0101_0101_0101;
+
+/// Field `j` of a line, six bytes: 0 if it is a number without sign, and then its value.
+#[inline(always)]
+fn field(line: &Line, j: usize) -> (u64, i32) {
+    let at = (6 * j).saturating_sub(2);
+    let eight = u64::from_le_bytes(line[at..at + 8].try_into().unwrap());
+    let six = if j == 0 { eight << 16 } else { eight & !0xffff };
+    // A space becomes 0 and a digit d becomes 0x10 + d; the last byte counts as set, so that a lone 0 has no zero before it.
+    let x = six ^ ((0x20 * BYTES) & !0xffff);
+    let zeros = (x | 1 << 56).trailing_zeros();
+    let used = !0u64 << (zeros & 56);
+    let tens = (0x10 * BYTES) & used;
+    let bad = ((x ^ tens) | (x.wrapping_add((6 * BYTES) & used) ^ tens)) & (0xf0 * BYTES);
+    // Neighbours are put together: digits to pairs, pairs to fours, fours to the number.
+    let pairs = ((x & (0x0f * BYTES)).wrapping_mul(10 << 8 | 1) >> 8) & 0x00ff_00ff_00ff_00ff;
+    let fours = (pairs.wrapping_mul(100 << 16 | 1) >> 16) & 0x0000_ffff_0000_ffff;
+    (bad | (zeros & 4) as u64, (fours.wrapping_mul(10000 << 32 | 1) >> 32) as i32)
+}
+
+/// Six characters, one after the other: a number, or none.
+fn careful(chars: &[u8]) -> Option<i32> {
+    let digits = chars.trim_ascii_start();
+    let spaces = chars.len() - digits.len();
+    let (negative, digits) = match digits {
+        [b'-', rest @ ..] => (true, rest),
+        _ => (false, digits),
+    };
+    if chars[..spaces].iter().any(|&c| c != b' ') || digits.is_empty() || digits[0] == b'0' && (negative || digits.len() > 1) {
         return None;
     }
-    let mut value = 0i32;
-    for &c in &chars[at..6] {
-        if !c.is_ascii_digit() {
-            return None;
-        }
-        value = value * 10 + (c - b'0') as i32;
-    }
+    let value = digits.iter().try_fold(0, |v, &c| c.is_ascii_digit().then(|| 10 * v + (c - b'0') as i32))?;
     Some(if negative { -value } else { value })
 }
 
-type Refusal = (u32, u32);
-
-fn handle_good(lines: &[[i32; 8]], h: usize, counts: &[usize; 5]) -> bool {
-    let l = &lines[1 + h];
-    let things = if l[2] == 1 { counts[0] } else { counts[1] };
-    let same = |k: usize| h >= k && lines[1 + h - k][1] == l[1];
-    let start = (l[3] == 0 && l[4] == 0) || (l[3] == 1 && l[4] >= 0 && (l[4] as usize) < things);
-    l[1] >= 0
-        && (l[1] as usize) < counts[3]
-        && (l[2] == 1 || l[2] == 2)
-        && start
-        && l[5..].iter().all(|&x| x == 0)
-        && (h == 0 || lines[h][1] <= l[1])
-        && !same(8)
-        && (l[3] == 1 || (l[1] != 0 && !(same(1) && lines[h][3] == 1) && !same(4)))
+#[cold]
+fn careful_numbers(line: &Line) -> Option<[i32; 8]> {
+    let mut numbers = [0; 8];
+    for (n, chars) in numbers.iter_mut().zip(line.chunks_exact(6)) {
+        *n = careful(chars)?;
+    }
+    (line[48] == b'\n').then_some(numbers)
 }
 
-fn statement_good(t: &Table, l: &[i32; 8], r: usize) -> bool {
-    let lines = &t.lines;
-    let handle = |x: i32| x >= 0 && (x as usize) < t.counts[2] && lines[1 + x as usize][1] as usize == r;
-    let kind = |x: i32, k: i32| handle(x) && lines[1 + x as usize][2] == k;
-    let zeros = |from: usize| l[from..].iter().all(|&x| x == 0);
-    match l[1] {
-        1 | 2 => kind(l[2], 1) && zeros(3),
-        3 | 4 => zeros(3),
-        5 | 6 => kind(l[2], 2) && zeros(3),
-        7 => handle(l[2]) && kind(l[3], lines[1 + l[2] as usize][2]) && zeros(4),
-        8 | 9 => {
-            l[2] >= 0
-                && (l[2] as usize) < t.counts[3]
-                && (0..4).all(|k| {
-                    let q = l[2] as usize;
-                    if k < t.parameters[q] {
-                        kind(l[3 + k], lines[1 + t.from[q] + k][2])
-                    } else {
-                        l[3 + k] == 0
-                    }
-                })
-                && l[7] == 0
-        }
-        10 | 11 => l[2] >= 0 && (l[2] as usize) >= t.first[r] && (l[2] as usize) < t.first[r + 1] && zeros(3),
-        12 => zeros(2),
-        _ => false,
+/// The numbers of a line of which all fields from `N` on are 0.
+#[inline(always)]
+fn fields<const N: usize>(line: &Line) -> Option<[i32; 8]> {
+    let (mut numbers, mut bad) = ([0; 8], 0);
+    for j in 0..N {
+        let (b, n) = field(line, j);
+        bad |= b;
+        numbers[j] = n;
+    }
+    if bad == 0 { Some(numbers) } else { careful_numbers(line) }
+}
+
+/// The eight numbers of a line, or none.
+#[inline(always)]
+fn numbers(line: &Line) -> Option<[i32; 8]> {
+    if line[18..] == ZEROS[18..] {
+        fields::<3>(line)
+    } else if line[30..] == ZEROS[30..] {
+        fields::<5>(line)
+    } else if line[48] == b'\n' {
+        fields::<8>(line)
+    } else {
+        None
     }
 }
 
+/// Cells, locks, handles, routines and statements from the header, or the refusal.
+fn counts(header: &[i32; 8], lines: usize) -> Result<[usize; 5], Refusal> {
+    let [lead, cells, locks, handles, routines, statements, a, b] = *header;
+    let sizes = (1..=64).contains(&cells) && (0..=16).contains(&locks) && (0..=128).contains(&handles);
+    if lead != 1 || !sizes || !(1..=32).contains(&routines) || !(1..=512).contains(&statements) || a != 0 || b != 0 {
+        return Err((3, 0));
+    }
+    if lines as i32 != 1 + handles + routines + statements {
+        return Err((4, 0));
+    }
+    Ok([cells, locks, handles, routines, statements].map(|n| n as usize))
+}
+
+/// The refusal of a text, if `found` is the first one by the order of its lines: behind it only 2 and 5 could come before it.
+#[cold]
+fn first_refusal(lines: &[Line], handles: usize, routines: usize, found: Refusal) -> Refusal {
+    let mut least = found;
+    if found.0 == 2 || found.0 > 9 {
+        return found;
+    }
+    for i in found.1 as usize + 1..lines.len() {
+        let lead = if i <= handles { 2 } else if i <= handles + routines { 3 } else { 4 };
+        match numbers(&lines[i]) {
+            None => return (2, i as u32),
+            Some(n) if n[0] != lead => least = least.min((5, i as u32)),
+            Some(_) => {}
+        }
+    }
+    least
+}
+
+/// The table of a text, or the first refusal.
+pub fn read(text: &[u8]) -> Result<Table, Refusal> {
+    let (lines, rest) = text.as_chunks::<LINE>();
+    if lines.is_empty() || !rest.is_empty() || text.len() > 32977 {
+        return Err((1, 0));
+    }
+    let header = numbers(&lines[0]).ok_or((2, 0))?;
+    let [cells, locks, handles, routines, statements] = counts(&header, lines.len()).map_err(|found| first_refusal(lines, 0, 0, found))?;
+    let mut t = Table {
+        cells,
+        locks,
+        handles: vec![Handle::default(); handles],
+        routines: vec![Routine::default(); routines],
+        body: vec![Statement::default(); statements],
+        order: [0; 32],
+        naming: Places::default(),
+        heads: Places::default(),
+    };
+    t.fill(lines).map_err(|found| first_refusal(lines, handles, routines, found))?;
+    Ok(t)
+}
+
+impl Table {
+    /// The first refusal from 5 on in the order of the lines, 2 among them.
+    fn fill(&mut self, lines: &[Line]) -> Result<(), Refusal> {
+        let (handles, routines) = (self.handles.len(), self.routines.len());
+        self.fill_handles(&lines[1..1 + handles])?;
+        self.fill_routines(&lines[1 + handles..1 + handles + routines])?;
+        let base = 1 + handles + routines;
+        for r in 0..routines {
+            self.fill_body(r, base, &lines[base..])?;
+        }
+        let open = |q: &Routine| !matches!(self.body[q.end as usize - 1].op, JUMP | RETURN);
+        if let Some(q) = self.routines.iter().find(|q| open(q)) {
+            return Err((10, base as u32 + q.end as u32 - 1));
+        }
+        let named = self.routines.iter().fold(1, |all, q| all | q.calls | q.starts);
+        let missing = (!named).trailing_zeros() as usize;
+        if missing < routines {
+            return Err((11, (1 + handles + missing) as u32));
+        }
+        self.put_in_order().map_err(|r| (12, (1 + handles + r) as u32))
+    }
+
+    fn fill_handles(&mut self, lines: &[Line]) -> Result<(), Refusal> {
+        let mut before = 0;
+        for (h, line) in lines.iter().enumerate() {
+            let at = 1 + h as u32;
+            let [lead, r, kind, origin, start, a, b, c] = numbers(line).ok_or((2, at))?;
+            if lead != 2 {
+                return Err((5, at));
+            }
+            let things = if kind == 1 { self.cells } else { self.locks };
+            let starts = if origin == 0 { start == 0 } else { origin == 1 && (start as u32 as usize) < things };
+            if r < before || r as usize >= self.routines.len() || (kind != 1 && kind != 2) || !starts || a | b | c != 0 {
+                return Err((6, at));
+            }
+            before = r;
+            let q = &mut self.routines[r as usize];
+            q.handle = if q.handles == 0 { h as u8 } else { q.handle };
+            q.handles += 1;
+            q.parameters += (origin == 0) as u8;
+            if q.handles > 8 || origin == 0 && (r == 0 || q.parameters < q.handles || q.parameters > 4) {
+                return Err((6, at));
+            }
+            self.handles[h] = Handle { routine: r as u8, kind: kind as u8, local: origin == 1, start: start as u8, ..Handle::default() };
+        }
+        Ok(())
+    }
+
+    fn fill_routines(&mut self, lines: &[Line]) -> Result<(), Refusal> {
+        let (mut first, all) = (0, self.body.len());
+        for (r, line) in lines.iter().enumerate() {
+            let at = (1 + self.handles.len() + r) as u32;
+            let l = numbers(line).ok_or((2, at))?;
+            if l[0] != 3 {
+                return Err((5, at));
+            }
+            if l[1] < 1 || l[1] as usize > all || l[2..] != [0; 6] {
+                return Err((7, at));
+            }
+            let q = &mut self.routines[r];
+            q.first = first as u16;
+            first += l[1] as usize;
+            q.end = first as u16;
+        }
+        if first == all { Ok(()) } else { Err((8, 0)) }
+    }
+
+    /// The statements of routine `r`.
+    fn fill_body(&mut self, r: usize, base: usize, lines: &[Line]) -> Result<(), Refusal> {
+        let (first, end) = (self.routines[r].first as usize, self.routines[r].end as usize);
+        self.heads.add(first);
+        for s in first..end {
+            let at = (base + s) as u32;
+            let l = numbers(&lines[s]).ok_or((2, at))?;
+            if l[0] != 4 {
+                return Err((5, at));
+            }
+            if !self.statement(r, s, &l) {
+                return Err((9, at));
+            }
+        }
+        Ok(())
+    }
+
+    /// Puts down statement `s` of routine `r`, if it keeps its rule.
+    #[inline(always)]
+    fn statement(&mut self, r: usize, s: usize, l: &[i32; 8]) -> bool {
+        let (op, x) = (l[1] as u32 as usize, l[2]);
+        let one = l[3] | l[4] | l[5] | l[6] | l[7] == 0;
+        let good = match l[1] {
+            1 | 2 | 5 | 6 => one && self.access(r, op as u8, x),
+            3 | 4 => one,
+            7 => l[4] | l[5] | l[6] | l[7] == 0 && self.point(r, x, l[3]),
+            8 | 9 => return self.name(r, s, l),
+            10 | 11 => {
+                let inside = x >= self.routines[r].first as i32 && x < self.routines[r].end as i32;
+                if inside {
+                    self.heads.add(x as usize);
+                    self.heads.add(s + 1);
+                }
+                one && inside
+            }
+            12 => {
+                self.heads.add(s + 1);
+                one && x == 0
+            }
+            _ => false,
+        };
+        self.body[s] = Statement { x, op: op as u8, with: [l[3] as u8, 0, 0, 0] };
+        good
+    }
+
+    #[inline(always)]
+    fn access(&mut self, r: usize, op: u8, x: i32) -> bool {
+        let Some(h) = self.handles.get_mut(x as u32 as usize) else { return false };
+        h.reads += (op == READ) as u16;
+        h.writes += (op == WRITE) as u16;
+        h.gives |= op == GIVE;
+        h.routine as usize == r && h.kind == 1 + (op > WRITE) as u8
+    }
+
+    fn point(&mut self, r: usize, x: i32, y: i32) -> bool {
+        let Some(&g) = self.handles.get(y as u32 as usize) else { return false };
+        let Some(h) = self.handles.get_mut(x as u32 as usize) else { return false };
+        if h.routine as usize != r || g.routine as usize != r || h.kind != g.kind {
+            return false;
+        }
+        h.into |= 1 << (y as u8 - self.routines[r].handle);
+        self.routines[r].points = true;
+        true
+    }
+
+    /// CALL or START: its routine and arguments.
+    fn name(&mut self, r: usize, s: usize, l: &[i32; 8]) -> bool {
+        let Some(&q) = self.routines.get(l[2] as u32 as usize) else { return false };
+        let mut with = [0; 4];
+        for k in 0..4 {
+            let good = if k < q.parameters as usize {
+                let wanted = self.handles[q.handle as usize + k].kind;
+                self.handles.get(l[3 + k] as u32 as usize).is_some_and(|h| h.routine as usize == r && h.kind == wanted)
+            } else {
+                l[3 + k] == 0
+            };
+            if !good {
+                return false;
+            }
+            with[k] = l[3 + k] as u8;
+        }
+        let names = if l[1] == 8 { &mut self.routines[r].calls } else { &mut self.routines[r].starts };
+        *names |= 1 << l[2];
+        self.naming.add(s);
+        if l[1] == 8 {
+            self.heads.add(s + 1);
+        }
+        self.body[s] = Statement { x: l[2], op: l[1] as u8, with };
+        l[7] == 0
+    }
+
+    /// Each routine before those that it names; or the lowest that reaches itself.
+    fn put_in_order(&mut self) -> Result<(), usize> {
+        let mut names = [0u32; 32];
+        for (named, q) in names.iter_mut().zip(&self.routines) {
+            *named = q.calls | q.starts;
+        }
+        let count = self.routines.len();
+        let mut walk = Walk { names, seen: 0, order: [0; 32], left: count };
+        let good = (0..count).all(|r| walk.visit(r, 0));
+        self.order = walk.order;
+        if good {
+            return Ok(());
+        }
+        (0..count).find(|&r| reach(&names, names[r]) >> r & 1 == 1).map_or(Ok(()), Err)
+    }
+}
+
+/// A walk down the named routines, which fills the order from its end.
+struct Walk {
+    names: [u32; 32],
+    seen: u32,
+    order: [u8; 32],
+    left: usize,
+}
+
+impl Walk {
+    /// Visits `r`, on the way to which the routines `above` are: false if it names one of these or itself.
+    fn visit(&mut self, r: usize, above: u32) -> bool {
+        if self.seen >> r & 1 == 1 {
+            return true;
+        }
+        let above = above | 1 << r;
+        self.seen |= 1 << r;
+        if self.names[r] & above != 0 {
+            return false;
+        }
+        while self.names[r] & !self.seen != 0 {
+            if !self.visit((self.names[r] & !self.seen).trailing_zeros() as usize, above) {
+                return false;
+            }
+        }
+        self.left -= 1;
+        self.order[self.left] = r as u8;
+        true
+    }
+}
+
+/// The members of a set of routines, upwards.
+fn members(mut set: u32) -> impl Iterator<Item = usize> {
+    std::iter::from_fn(move || {
+        let r = set.trailing_zeros() as usize;
+        set &= set.wrapping_sub(1);
+        (r < 32).then_some(r)
+    })
+}
+
+/// The routines that are reached from those in `from`.
 fn reach(names: &[u32; 32], from: u32) -> u32 {
     let (mut todo, mut seen) = (from, 0u32);
     while todo != 0 {
@@ -87,376 +463,497 @@ fn reach(names: &[u32; 32], from: u32) -> u32 {
     seen
 }
 
-pub fn read(text: &[u8]) -> Result<Table, Refusal> {
-    if text.is_empty() || text.len() % 49 != 0 || text.len() > 32977 {
-        return Err((1, 0));
-    }
-    let mut lines = Vec::with_capacity(text.len() / 49);
-    for (i, bytes) in text.chunks_exact(49).enumerate() {
-        let mut numbers = [0; 8];
-        for j in 0..8 {
-            numbers[j] = field(&bytes[6 * j..6 * j + 6]).ok_or((2, i as u32))?;
-        }
-        if bytes[48] != b'\n' {
-            return Err((2, i as u32));
-        }
-        lines.push(numbers);
-    }
-    let h = lines[0];
-    let limits = [(1, 64), (0, 16), (0, 128), (1, 32), (1, 512)];
-    if h[0] != 1 || (0..5).any(|k| h[1 + k] < limits[k].0 || h[1 + k] > limits[k].1) || h[6] != 0 || h[7] != 0 {
-        return Err((3, 0));
-    }
-    let counts = [h[1] as usize, h[2] as usize, h[3] as usize, h[4] as usize, h[5] as usize];
-    let (handles, routines, statements) = (counts[2], counts[3], counts[4]);
-    if lines.len() != 1 + handles + routines + statements {
-        return Err((4, 0));
-    }
-    for i in 1..lines.len() {
-        let lead = if i <= handles { 2 } else if i <= handles + routines { 3 } else { 4 };
-        if lines[i][0] != lead {
-            return Err((5, i as u32));
-        }
-    }
-    for i in 0..handles {
-        if !handle_good(&lines, i, &counts) {
-            return Err((6, 1 + i as u32));
-        }
-    }
-    let mut t = Table { lines, counts, first: [0; 33], from: [0; 33], parameters: [0; 32] };
-    for r in 0..routines {
-        let l = &t.lines[1 + handles + r];
-        if l[1] < 1 || l[1] as usize > statements || l[2..].iter().any(|&x| x != 0) {
-            return Err((7, (1 + handles + r) as u32));
-        }
-        t.first[r + 1] = t.first[r] + l[1] as usize;
-    }
-    if t.first[routines] != statements {
-        return Err((8, 0));
-    }
-    for i in 0..handles {
-        let r = t.lines[1 + i][1] as usize;
-        t.from[r + 1] = i + 1;
-        t.parameters[r] += (t.lines[1 + i][3] == 0) as usize;
-    }
-    for r in 0..routines {
-        t.from[r + 1] = t.from[r + 1].max(t.from[r]);
-    }
-    let base = 1 + handles + routines;
-    for r in 0..routines {
-        for s in t.first[r]..t.first[r + 1] {
-            if !statement_good(&t, &t.lines[base + s], r) {
-                return Err((9, (base + s) as u32));
-            }
-        }
-    }
-    for r in 0..routines {
-        let last = base + t.first[r + 1] - 1;
-        if t.lines[last][1] != 10 && t.lines[last][1] != 12 {
-            return Err((10, last as u32));
-        }
-    }
-    let mut names = [0u32; 32];
-    for r in 0..routines {
-        for l in &t.lines[base + t.first[r]..base + t.first[r + 1]] {
-            if l[1] == 8 || l[1] == 9 {
-                names[r] |= 1 << l[2];
-            }
-        }
-    }
-    let all = names.iter().fold(0, |a, b| a | b);
-    for r in 1..routines {
-        if all >> r & 1 == 0 {
-            return Err((11, (1 + handles + r) as u32));
-        }
-    }
-    for r in 0..routines {
-        if reach(&names, names[r]) >> r & 1 == 1 {
-            return Err((12, (1 + handles + r) as u32));
-        }
-    }
-    Ok(t)
+/// Reads and writes of cells.
+type Effect = [u64; 2];
+
+fn join(a: Effect, b: Effect) -> Effect {
+    [a[0] | b[0], a[1] | b[1]]
 }
 
-/// Edges between places, by where they come from.
-struct Edges {
-    heads: Vec<u16>,
-    to: Vec<u16>,
+/// What each handle may refer to: routines callers first, so that parameters are complete when their routine is looked at.
+fn flow(t: &Table) -> [u64; 128] {
+    let mut sets = [0; 128];
+    for (set, h) in sets.iter_mut().zip(&t.handles) {
+        *set = (h.local as u64) << h.start;
+    }
+    for &r in &t.order[..t.routines.len()] {
+        let routine = &t.routines[r as usize];
+        if routine.points {
+            close_points(&t.handles, routine, &mut sets);
+        }
+        let (mut at, end) = (routine.first as usize, routine.end as usize);
+        while let Some(s) = t.naming.next(at, end) {
+            at = s + 1;
+            let q = &t.routines[t.body[s].x as usize];
+            for (k, &h) in t.body[s].with[..q.parameters as usize].iter().enumerate() {
+                sets[q.handle as usize + k] |= sets[h as usize];
+            }
+        }
+    }
+    sets
 }
 
-impl Edges {
-    fn new(places: usize, pairs: &[(u16, u16)]) -> Edges {
-        let mut heads = vec![0u16; places + 1];
-        for p in pairs {
-            heads[p.0 as usize + 1] += 1;
-        }
-        for i in 0..places {
-            heads[i + 1] += heads[i];
-        }
-        let (mut at, mut to) = (heads.clone(), vec![0; pairs.len()]);
-        for p in pairs {
-            to[at[p.0 as usize] as usize] = p.1;
-            at[p.0 as usize] += 1;
-        }
-        Edges { heads, to }
-    }
-
-    fn of(&self, p: usize) -> &[u16] {
-        &self.to[self.heads[p] as usize..self.heads[p + 1] as usize]
-    }
-
-    /// The least sets above `sets`, by a list of places still to look at.
-    fn close(&self, sets: &mut [[u64; 2]]) {
-        let mut todo: Vec<u16> = (0..sets.len() as u16).rev().collect();
-        let mut listed = vec![true; sets.len()];
-        while let Some(p) = todo.pop() {
-            listed[p as usize] = false;
-            let set = sets[p as usize];
-            for &q in self.of(p as usize) {
-                let s = &mut sets[q as usize];
-                let new = [s[0] | set[0], s[1] | set[1]];
-                if new != *s {
-                    *s = new;
-                    if !listed[q as usize] {
-                        listed[q as usize] = true;
-                        todo.push(q);
-                    }
-                }
+/// The least sets above these under the POINTs of a routine.
+fn close_points(handles: &[Handle], q: &Routine, sets: &mut [u64; 128]) {
+    let (base, mut changed) = (q.handle as usize, true);
+    while changed {
+        changed = false;
+        for h in base..base + q.handles as usize {
+            let before = sets[h];
+            for g in members(handles[h].into as u32) {
+                sets[h] |= sets[base + g];
             }
+            changed |= sets[h] != before;
         }
     }
 }
 
-pub struct Sets {
-    flow: Vec<u64>,
-    held: Vec<u64>,
-    shared: u64,
+/// The effect of each routine, and the locks that it may give up: callees first.
+fn effects(t: &Table, flow: &[u64; 128]) -> ([Effect; 32], [u16; 32]) {
+    let (mut effects, mut given) = ([[0; 2]; 32], [0; 32]);
+    for &r in t.order[..t.routines.len()].iter().rev() {
+        let q = &t.routines[r as usize];
+        let (mut effect, mut gives) = ([0; 2], 0);
+        for h in q.handle as usize..(q.handle + q.handles) as usize {
+            let used = &t.handles[h];
+            effect[0] |= if used.reads > 0 { flow[h] } else { 0 };
+            effect[1] |= if used.writes > 0 { flow[h] } else { 0 };
+            gives |= if used.gives { flow[h] as u16 } else { 0 };
+        }
+        for named in members(q.calls | q.starts) {
+            effect = join(effect, effects[named]);
+        }
+        for called in members(q.calls) {
+            gives |= given[called];
+        }
+        (effects[r as usize], given[r as usize]) = (effect, gives);
+    }
+    (effects, given)
 }
 
-fn sets(t: &Table) -> Sets {
-    let [_, locks, handles, routines, n] = t.counts;
-    let body = &t.lines[1 + handles + routines..];
-    let all: u64 = (1 << locks) - 1;
-    let mut owner = vec![0u8; n];
-    for r in 0..routines {
-        owner[t.first[r]..t.first[r + 1]].fill(r as u8);
+/// A run of statements, from its head to `last`: what is held before it, and before its last statement if that is a jump, RETURN or CALL, else behind it,
+/// is `held & keep | gain`. Of the runs that CALL one routine each has the next one's head.
+#[derive(Clone, Copy, Default)]
+struct Run {
+    last: u16,
+    keep: u16,
+    gain: u16,
+    held: u16,
+    next_caller: u16,
+    routine: u8,
+}
+
+const NONE: u16 = u16::MAX;
+
+struct Held<'a> {
+    t: &'a Table,
+    given: &'a [u16; 32],
+    /// By head.
+    runs: Vec<Run>,
+    /// What is held before each routine's RETURNs.
+    returns: [u16; 32],
+    callers: [u16; 32],
+    /// Runs to look at, and the routines that have some.
+    todo: Places,
+    stirred: u32,
+}
+
+/// What a TAKE and a GIVE through each handle add and remove.
+fn lock_sets(flow: &[u64; 128], handles: usize) -> [[u16; 2]; 128] {
+    let mut sets = [[0; 2]; 128];
+    for (set, &locks) in sets.iter_mut().zip(&flow[..handles]) {
+        let one = locks & locks.wrapping_sub(1) == 0;
+        *set = [if one { locks as u16 } else { 0 }, locks as u16];
     }
-    let mut pairs = Vec::with_capacity(4 * n);
-    for l in body {
-        match l[1] {
-            7 => pairs.push((l[3] as u16, l[2] as u16)),
-            8 | 9 => {
-                let q = l[2] as usize;
-                for k in 0..t.parameters[q] {
-                    pairs.push((l[3 + k] as u16, (t.from[q] + k) as u16));
-                }
+    sets
+}
+
+impl<'a> Held<'a> {
+    /// All runs, with all locks held, but nothing where a thread begins.
+    fn new(t: &'a Table, locks: &[[u16; 2]; 128], given: &'a [u16; 32]) -> Held<'a> {
+        let all = (1u32 << t.locks).wrapping_sub(1) as u16;
+        let mut held = Held { t, given, runs: vec![Run::default(); t.body.len()], returns: [all; 32], callers: [NONE; 32], todo: t.heads, stirred: !0 };
+        let mut started = 1;
+        for (r, q) in t.routines.iter().enumerate() {
+            started |= q.starts;
+            let (mut head, end) = (q.first as usize, q.end as usize);
+            while head < end {
+                let next = t.heads.next(head + 1, end).unwrap_or(end);
+                held.add_run(r, head, next, locks, all);
+                head = next;
             }
-            _ => {}
         }
+        for r in members(started) {
+            held.runs[t.routines[r].first as usize].held = 0;
+        }
+        held
     }
-    let mut flows: Vec<[u64; 2]> = t.lines[1..1 + handles].iter().map(|l| [if l[3] == 1 { 1u64 << l[4] } else { 0 }, 0]).collect();
-    Edges::new(handles, &pairs).close(&mut flows);
-    let flow: Vec<u64> = flows.iter().map(|s| s[0]).collect();
-    // Naming has no cycle: each routine after those that it names.
-    let (mut effect, mut gives, mut done) = ([[0u64; 2]; 32], [0u64; 32], [false; 32]);
-    fn visit(r: usize, t: &Table, body: &[[i32; 8]], flow: &[u64], effect: &mut [[u64; 2]; 32], gives: &mut [u64; 32], done: &mut [bool; 32]) {
-        if done[r] {
-            return;
-        }
-        done[r] = true;
-        let (mut e, mut g) = ([0, 0], 0);
-        for l in &body[t.first[r]..t.first[r + 1]] {
-            match l[1] {
-                1 => e[0] |= flow[l[2] as usize],
-                2 => e[1] |= flow[l[2] as usize],
-                6 => g |= flow[l[2] as usize],
-                8 | 9 => {
-                    let q = l[2] as usize;
-                    visit(q, t, body, flow, effect, gives, done);
-                    e[0] |= effect[q][0];
-                    e[1] |= effect[q][1];
-                    if l[1] == 8 {
-                        g |= gives[q];
-                    }
+
+    fn add_run(&mut self, r: usize, head: usize, end: usize, locks: &[[u16; 2]; 128], all: u16) {
+        let (mut keep, mut gain) = (all, 0);
+        for s in &self.t.body[head..end] {
+            match s.op {
+                TAKE => gain |= locks[s.x as usize][0],
+                GIVE => {
+                    keep &= !locks[s.x as usize][1];
+                    gain &= !locks[s.x as usize][1];
                 }
                 _ => {}
             }
         }
-        effect[r] = e;
-        gives[r] = g;
+        let last = &self.t.body[end - 1];
+        let mut next_caller = NONE;
+        if last.op == CALL {
+            next_caller = std::mem::replace(&mut self.callers[last.x as usize], head as u16);
+        }
+        self.runs[head] = Run { last: end as u16 - 1, keep, gain, held: all, next_caller, routine: r as u8 };
     }
-    for r in 0..routines {
-        visit(r, t, body, &flow, &mut effect, &mut gives, &mut done);
+
+    fn lower(&mut self, head: usize, set: u16) -> bool {
+        let run = &mut self.runs[head];
+        let lower = run.held & !set != 0;
+        if lower {
+            run.held &= set;
+            self.todo.add(head);
+        }
+        lower
     }
-    let own = |l: &[i32; 8]| match l[1] {
-        1 => [flow[l[2] as usize], 0],
-        2 => [0, flow[l[2] as usize]],
-        8 | 9 => effect[l[2] as usize],
-        _ => [0, 0],
-    };
-    let nexts = |s: usize| -> ([usize; 2], usize) {
-        match body[s][1] {
-            10 => ([body[s][2] as usize, 0], 1),
-            11 => ([body[s][2] as usize, s + 1], 2),
-            12 => ([0, 0], 0),
-            _ => ([s + 1, 0], 1),
-        }
-    };
-    pairs.clear();
-    let mut future = vec![[0u64; 2]; n + routines];
-    for s in 0..n {
-        let (next, count) = nexts(s);
-        for &x in &next[..count] {
-            pairs.push((x as u16, s as u16));
-            let e = own(&body[x]);
-            future[s][0] |= e[0];
-            future[s][1] |= e[1];
-        }
-        pairs.push(((n + owner[s] as usize) as u16, s as u16));
-        if body[s][1] == 8 {
-            pairs.push((s as u16, (n + body[s][2] as usize) as u16));
-        }
-    }
-    Edges::new(n + routines, &pairs).close(&mut future);
-    // Held sets, from all locks down.
-    let mut held = vec![all; n];
-    let mut callers: Vec<Vec<u16>> = vec![vec![]; routines];
-    for s in 0..n {
-        if body[s][1] == 8 {
-            callers[body[s][2] as usize].push(s as u16);
-        }
-    }
-    let mut todo: Vec<u16> = (0..n as u16).rev().collect();
-    let mut listed = vec![true; n];
-    let mut returns = [all; 32];
-    let lower = |x: usize, set: u64, held: &mut Vec<u64>, todo: &mut Vec<u16>, listed: &mut Vec<bool>| {
-        let new = held[x] & set;
-        if new != held[x] {
-            held[x] = new;
-            if !listed[x] {
-                listed[x] = true;
-                todo.push(x as u16);
-            }
-        }
-    };
-    lower(0, 0, &mut held, &mut todo, &mut listed);
-    while let Some(s) = todo.pop() {
-        let s = s as usize;
-        listed[s] = false;
-        let l = &body[s];
-        let after = match l[1] {
-            5 if flow[l[2] as usize].count_ones() == 1 => held[s] | flow[l[2] as usize],
-            6 => held[s] & !flow[l[2] as usize],
-            8 => returns[l[2] as usize] | held[s] & !gives[l[2] as usize],
-            _ => held[s],
-        };
-        let (next, count) = nexts(s);
-        for &x in &next[..count] {
-            lower(x, after, &mut held, &mut todo, &mut listed);
-        }
-        match l[1] {
-            8 => lower(t.first[l[2] as usize], held[s], &mut held, &mut todo, &mut listed),
-            9 => lower(t.first[l[2] as usize], 0, &mut held, &mut todo, &mut listed),
-            12 => {
-                let r = owner[s] as usize;
-                let new = returns[r] & held[s];
-                if new != returns[r] {
-                    returns[r] = new;
-                    for &c in &callers[r] {
-                        if !listed[c as usize] {
-                            listed[c as usize] = true;
-                            todo.push(c);
-                        }
+
+    /// Looks at the runs of routine `r` that are to be looked at, the lowest first; at a CALL, at the callee's before going on.
+    fn settle(&mut self, r: usize) {
+        let (first, end) = (self.t.routines[r].first as usize, self.t.routines[r].end as usize);
+        let mut at = first;
+        self.stirred &= !(1 << r);
+        while let Some(head) = self.todo.next(at, end) {
+            self.todo.remove(head);
+            let run = self.runs[head];
+            let (last, set) = (run.last as usize, run.held & run.keep | run.gain);
+            let s = self.t.body[last];
+            at = last + 1;
+            match s.op {
+                RETURN => self.close(r, set),
+                CALL => {
+                    let after = self.call(s.x as usize, set);
+                    self.todo.remove(head);
+                    self.lower(last + 1, after);
+                    if self.stirred >> r & 1 == 1 {
+                        self.stirred &= !(1 << r);
+                        at = first;
                     }
                 }
+                JUMP | JUMPZ => {
+                    if self.lower(s.x as usize, set) {
+                        at = at.min(s.x as usize);
+                    }
+                    if s.op == JUMPZ {
+                        self.lower(last + 1, set);
+                    }
+                }
+                _ => {
+                    self.lower(last + 1, set);
+                }
             }
-            _ => {}
         }
     }
-    let mut shared = 0;
-    for s in 0..n {
-        if body[s][1] == 9 {
-            let (e, f) = (effect[body[s][2] as usize], future[s]);
-            shared |= (e[0] | e[1]) & (f[0] | f[1]) & (e[1] | f[1]);
+
+    /// What is held behind a CALL of `q` before which `set` is.
+    fn call(&mut self, q: usize, set: u16) -> u16 {
+        if self.lower(self.t.routines[q].first as usize, set) || self.stirred >> q & 1 == 1 {
+            self.settle(q);
+        }
+        self.returns[q] | set & !self.given[q]
+    }
+
+    /// `set` is held before a RETURN of `r`: where that changes something, the runs that CALL `r` are to be looked at.
+    fn close(&mut self, r: usize, set: u16) {
+        if self.returns[r] & !set == 0 {
+            return;
+        }
+        self.returns[r] &= set;
+        let mut head = self.callers[r];
+        while head != NONE {
+            let run = &self.runs[head as usize];
+            self.todo.add(head as usize);
+            self.stirred |= 1 << run.routine;
+            head = run.next_caller;
         }
     }
-    Sets { flow, held, shared }
+
+    /// The greatest sets.
+    fn solve(mut self) -> Vec<Run> {
+        let count = self.t.routines.len();
+        self.stirred = !0 >> (32 - count);
+        while self.stirred != 0 {
+            for k in 0..count {
+                let r = self.t.order[k] as usize;
+                if self.stirred >> r & 1 == 1 {
+                    self.settle(r);
+                }
+            }
+        }
+        self.runs
+    }
 }
 
-fn print(out: &mut [u8], numbers: [u32; 8]) {
-    out[..48].fill(b' ');
-    for (j, &n) in numbers.iter().enumerate() {
-        let (mut n, mut at) = (n, 6 * j + 6);
-        loop {
-            at -= 1;
-            out[at] = b'0' + (n % 10) as u8;
-            n /= 10;
-            if n == 0 {
+struct Futures<'a> {
+    t: &'a Table,
+    flow: &'a [u64; 128],
+    effects: &'a [Effect; 32],
+    /// Routines with a START, or a CALL of such a one.
+    needed: u32,
+    /// By head of a run: its effect with its future.
+    ahead: Vec<Effect>,
+    /// By routine: the futures of its CALLs.
+    behind: [Effect; 32],
+    shared: u64,
+}
+
+impl<'a> Futures<'a> {
+    fn new(t: &'a Table, flow: &'a [u64; 128], effects: &'a [Effect; 32]) -> Futures<'a> {
+        let mut needed = 0;
+        for &r in t.order[..t.routines.len()].iter().rev() {
+            let q = &t.routines[r as usize];
+            needed |= ((q.starts != 0 || q.calls & needed != 0) as u32) << r;
+        }
+        let ahead = vec![[0; 2]; if needed == 0 { 0 } else { t.body.len() + 1 }];
+        Futures { t, flow, effects, needed, ahead, behind: [[0; 2]; 32], shared: 0 }
+    }
+
+    fn own(&self, s: &Statement) -> Effect {
+        match s.op {
+            READ => [self.flow[s.x as usize], 0],
+            WRITE => [0, self.flow[s.x as usize]],
+            CALL | START => self.effects[s.x as usize],
+            _ => [0, 0],
+        }
+    }
+
+    /// What follows statement `last`, the last of a run.
+    fn follows(&self, last: usize) -> Effect {
+        let s = &self.t.body[last];
+        match s.op {
+            JUMP => self.ahead[s.x as usize],
+            JUMPZ => join(self.ahead[s.x as usize], self.ahead[last + 1]),
+            RETURN => [0, 0],
+            _ => self.ahead[last + 1],
+        }
+    }
+
+    /// Statement `s` of routine `r` names `q`, and `follow` may come behind it in `r`.
+    fn name(&mut self, r: usize, s: &Statement, follow: Effect) {
+        let (q, future) = (s.x as usize, join(follow, self.behind[r]));
+        if s.op == START {
+            let effect = self.effects[q];
+            self.shared |= (effect[0] | effect[1]) & (future[0] | future[1]) & (effect[1] | future[1]);
+        } else if s.op == CALL {
+            self.behind[q] = join(self.behind[q], future);
+        }
+    }
+
+    /// The statements from `head` to `last`, downwards.
+    fn walk(&mut self, r: usize, head: usize, last: usize) {
+        let mut ahead = self.follows(last);
+        for s in (head..=last).rev() {
+            let s = self.t.body[s];
+            if s.op == CALL || s.op == START {
+                self.name(r, &s, ahead);
+            }
+            ahead = join(ahead, self.own(&s));
+        }
+        self.ahead[head] = ahead;
+    }
+
+    /// One routine: its statements downwards once, and where a jump goes back, its runs until nothing changes.
+    fn routine(&mut self, r: usize) {
+        let (first, end) = (self.t.routines[r].first as usize, self.t.routines[r].end as usize);
+        let (mut back, mut next) = (false, end);
+        while let Some(head) = self.t.heads.last(first, next) {
+            self.walk(r, head, next - 1);
+            let s = &self.t.body[next - 1];
+            back |= (s.op == JUMP || s.op == JUMPZ) && (s.x as usize) < next;
+            next = head;
+            if head == first {
+                break;
+            }
+        }
+        if !back {
+            return;
+        }
+        while self.again(first, end) {}
+        next = end;
+        while let Some(head) = self.t.heads.last(first, next) {
+            if self.t.naming.next(head, next).is_some() {
+                self.walk(r, head, next - 1);
+            }
+            next = head;
+            if head == first {
                 break;
             }
         }
     }
-    out[48] = b'\n';
+
+    /// The runs from `first` to `end` once more, downwards: whether something changed.
+    fn again(&mut self, first: usize, end: usize) -> bool {
+        let (mut next, mut changed) = (end, false);
+        while next > first {
+            let head = self.t.heads.last(first, next).unwrap_or(first);
+            let (before, after) = (self.ahead[head], self.follows(next - 1));
+            let new = join(before, after);
+            changed |= new != before;
+            self.ahead[head] = new;
+            next = head;
+        }
+        changed
+    }
+
+    /// The cells that are shared: routines callers first.
+    fn solve(mut self) -> u64 {
+        for &r in &self.t.order[..self.t.routines.len()] {
+            if self.needed >> r & 1 == 1 {
+                self.routine(r as usize);
+            }
+        }
+        self.shared
+    }
 }
 
-/// number, line, bytes
+struct Findings {
+    reads: [u16; 64],
+    writes: [u16; 64],
+    common: [u16; 64],
+    strays: usize,
+    stray: Places,
+}
+
+/// Counts and common locks by handle, then by cell.
+fn findings(t: &Table, flow: &[u64; 128], locks: &[[u16; 2]; 128], runs: &[Run]) -> Findings {
+    let all = (1u32 << t.locks).wrapping_sub(1) as u16;
+    let mut found = Findings { reads: [0; 64], writes: [0; 64], common: [all; 64], strays: 0, stray: Places::default() };
+    let (mut common, mut head) = ([all; 128], 0);
+    while head < t.body.len() {
+        let run = &runs[head];
+        let (mut held, end) = (run.held, run.last as usize + 1);
+        for s in head..end {
+            let (op, x) = (t.body[s].op, t.body[s].x as usize);
+            match op {
+                READ | WRITE => common[x] &= held,
+                TAKE => held |= locks[x][0],
+                GIVE => {
+                    if locks[x][0] & held == 0 {
+                        found.stray.add(s);
+                        found.strays += 1;
+                    }
+                    held &= !locks[x][1];
+                }
+                _ => {}
+            }
+        }
+        head = end;
+    }
+    for (h, used) in t.handles.iter().enumerate() {
+        let mut cells = if used.kind == 1 && used.reads + used.writes > 0 { flow[h] } else { 0 };
+        while cells != 0 {
+            let x = cells.trailing_zeros() as usize;
+            cells &= cells - 1;
+            found.reads[x] += used.reads;
+            found.writes[x] += used.writes;
+            found.common[x] &= common[h];
+        }
+    }
+    found
+}
+
+/// The numbers below 1000 as they stand in a line: four characters.
+const SMALL: [[u8; 4]; 1000] = {
+    let mut all = [[b' '; 4]; 1000];
+    let mut n = 0;
+    while n < 1000 {
+        all[n][3] = b'0' + (n % 10) as u8;
+        if n >= 10 {
+            all[n][2] = b'0' + (n / 10 % 10) as u8;
+        }
+        if n >= 100 {
+            all[n][1] = b'0' + (n / 100) as u8;
+        }
+        n += 1;
+    }
+    all
+};
+
+/// Puts `n`, which is below 100,000, into field `j`.
+#[inline(always)]
+fn put(line: &mut Line, j: usize, n: usize) {
+    let at = 6 * j;
+    if n < 1000 {
+        line[at + 2..at + 6].copy_from_slice(&SMALL[n]);
+    } else {
+        line[at + 1..at + 3].copy_from_slice(&SMALL[n / 1000][2..]);
+        for (k, unit) in [100, 10, 1].into_iter().enumerate() {
+            line[at + 3 + k] = b'0' + (n / unit % 10) as u8;
+        }
+    }
+}
+
+/// Prints the report, if it fits: its bytes.
+fn print(out: &mut [u8], cells: usize, shared: u64, found: &Findings) -> Option<usize> {
+    let bytes = LINE * (cells + found.strays + 1);
+    let (lines, _) = out.get_mut(..bytes)?.as_chunks_mut::<LINE>();
+    let (cell_lines, others) = lines.split_at_mut(cells);
+    let mut unguarded = 0;
+    for (x, line) in cell_lines.iter_mut().enumerate() {
+        let shared = (shared >> x & 1) as usize;
+        let bad = (shared == 1 && found.common[x] == 0) as usize;
+        unguarded += bad;
+        *line = ZEROS;
+        for (j, n) in [51, x, found.reads[x] as usize, found.writes[x] as usize, shared, found.common[x] as usize, bad].into_iter().enumerate() {
+            put(line, j, n);
+        }
+    }
+    let mut s = 0;
+    for line in &mut others[..found.strays] {
+        s = found.stray.next(s, 512)?;
+        *line = ZEROS;
+        put(line, 0, 52);
+        put(line, 1, s);
+        s += 1;
+    }
+    let last = others.last_mut()?;
+    *last = ZEROS;
+    put(last, 0, 59);
+    put(last, 1, unguarded);
+    put(last, 2, found.strays);
+    Some(bytes)
+}
+
+/// The report: number, line, bytes.
 pub fn report(text: &[u8], out: &mut [u8]) -> (u32, u32, usize) {
+    report_in_phases(text, out, |_| {})
+}
+
+/// The same, telling each phase's name at its end.
+#[inline(always)]
+pub fn report_in_phases(text: &[u8], out: &mut [u8], mut ended: impl FnMut(&'static str)) -> (u32, u32, usize) {
     let t = match read(text) {
         Ok(t) => t,
         Err((number, line)) => return (number, line, 0),
     };
-    let [cells, locks, handles, routines, n] = t.counts;
-    let body = &t.lines[1 + handles + routines..];
-    let s = sets(&t);
-    let all: u64 = (1 << locks) - 1;
-    let (mut reads, mut writes, mut common) = ([0u32; 64], [0u32; 64], [all; 64]);
-    let mut stray = vec![];
-    for i in 0..n {
-        let l = &body[i];
-        match l[1] {
-            1 | 2 => {
-                let mut set = s.flow[l[2] as usize];
-                while set != 0 {
-                    let x = set.trailing_zeros() as usize;
-                    set &= set - 1;
-                    if l[1] == 1 {
-                        reads[x] += 1;
-                    } else {
-                        writes[x] += 1;
-                    }
-                    common[x] &= s.held[i];
-                }
-            }
-            6 => {
-                let set = s.flow[l[2] as usize];
-                if set.count_ones() != 1 || set & s.held[i] == 0 {
-                    stray.push(i);
-                }
-            }
-            _ => {}
-        }
-    }
-    let bytes = 49 * (cells + stray.len() + 1);
-    if out.len() < bytes {
-        return (13, 0, 0);
-    }
-    let mut unguarded = 0;
-    let (mut lines, _) = out[..bytes].split_at_mut(bytes);
-    for x in 0..cells {
-        let shared = (s.shared >> x & 1) as u32;
-        let bad = (shared == 1 && common[x] == 0) as u32;
-        unguarded += bad;
-        let (line, rest) = lines.split_at_mut(49);
-        print(line, [51, x as u32, reads[x], writes[x], shared, common[x] as u32, bad, 0]);
-        lines = rest;
-    }
-    for &i in &stray {
-        let (line, rest) = lines.split_at_mut(49);
-        print(line, [52, i as u32, 0, 0, 0, 0, 0, 0]);
-        lines = rest;
-    }
-    print(lines, [59, unguarded, stray.len() as u32, 0, 0, 0, 0, 0]);
-    (0, 0, bytes)
+    ended("read");
+    let flow = flow(&t);
+    ended("flow");
+    let (effects, given) = effects(&t, &flow);
+    ended("effects and given-up locks");
+    let locks = lock_sets(&flow, t.handles.len());
+    let held = Held::new(&t, &locks, &given);
+    ended("runs");
+    let runs = held.solve();
+    ended("held");
+    let shared = Futures::new(&t, &flow, &effects).solve();
+    ended("futures");
+    let found = findings(&t, &flow, &locks, &runs);
+    ended("findings");
+    let answer = print(out, t.cells, shared, &found).map_or((13, 0, 0), |bytes| (0, 0, bytes));
+    ended("print");
+    answer
 }
 
 /// The engine: number and line; answers and cells as document 01 says.
@@ -465,21 +962,21 @@ pub fn run(text: &[u8], schedule: &[u8], answers: &mut [u8], cells: &mut [i32]) 
         Ok(t) => t,
         Err(refusal) => return refusal,
     };
-    let [count, _, handles, routines, _] = t.counts;
+    let (count, body) = (t.cells, &t.body);
     if answers.len() < schedule.len() || cells.len() < count {
         return (13, 0);
     }
-    let body = &t.lines[1 + handles + routines..];
     let mut frames = vec![[[0u16; 10]; 32]; 16];
     let (mut depth, mut accumulator, mut started) = ([0usize; 16], [0i32; 16], 1);
     let mut owner = [u8::MAX; 16];
     cells[..count].fill(0);
     let open = |frame: &mut [u16; 10], q: usize, arguments: [u16; 4]| {
         frame[0] = q as u16;
-        frame[1] = t.first[q] as u16;
-        for k in 0..t.from[q + 1] - t.from[q] {
-            let l = &t.lines[1 + t.from[q] + k];
-            frame[2 + k] = if l[3] == 0 { arguments[k] } else { l[4] as u16 };
+        let routine = &t.routines[q];
+        frame[1] = routine.first;
+        let own = &t.handles[routine.handle as usize..][..routine.handles as usize];
+        for (k, h) in own.iter().enumerate() {
+            frame[2 + k] = if h.local { h.start as u16 } else { arguments[k] };
         }
     };
     open(&mut frames[0][0], 0, [0; 4]);
@@ -493,27 +990,27 @@ pub fn run(text: &[u8], schedule: &[u8], answers: &mut [u8], cells: &mut [i32]) 
         } else {
             let frame = &mut frames[n][depth[n] - 1];
             let l = &body[frame[1] as usize];
-            let base = t.from[frame[0] as usize];
-            let slot = |x: i32| 2 + x as usize - base;
+            let base = t.routines[frame[0] as usize].handle as usize;
+            let slot = |x: usize| 2 + x - base;
             frame[1] += 1;
-            match l[1] {
-                1 => accumulator[n] = cells[frame[slot(l[2])] as usize],
-                2 => cells[frame[slot(l[2])] as usize] = accumulator[n],
-                3 => accumulator[n] = l[2],
-                4 => accumulator[n] = accumulator[n].wrapping_add(l[2]),
-                7 => frame[slot(l[2])] = frame[slot(l[3])],
-                10 => frame[1] = l[2] as u16,
-                11 => {
+            match l.op {
+                READ => accumulator[n] = cells[frame[slot(l.x as usize)] as usize],
+                WRITE => cells[frame[slot(l.x as usize)] as usize] = accumulator[n],
+                SET => accumulator[n] = l.x,
+                ADD => accumulator[n] = accumulator[n].wrapping_add(l.x),
+                POINT => frame[slot(l.x as usize)] = frame[slot(l.with[0] as usize)],
+                JUMP => frame[1] = l.x as u16,
+                JUMPZ => {
                     if accumulator[n] == 0 {
-                        frame[1] = l[2] as u16
+                        frame[1] = l.x as u16
                     }
                 }
-                12 => depth[n] -= 1,
+                RETURN => depth[n] -= 1,
                 _ => {}
             }
-            match l[1] {
-                5 => {
-                    let k = frame[slot(l[2])] as usize;
+            match l.op {
+                TAKE => {
+                    let k = frame[slot(l.x as usize)] as usize;
                     if owner[k] == u8::MAX {
                         owner[k] = n as u8;
                         0
@@ -522,8 +1019,8 @@ pub fn run(text: &[u8], schedule: &[u8], answers: &mut [u8], cells: &mut [i32]) 
                         16
                     }
                 }
-                6 => {
-                    let k = frame[slot(l[2])] as usize;
+                GIVE => {
+                    let k = frame[slot(l.x as usize)] as usize;
                     if owner[k] == n as u8 {
                         owner[k] = u8::MAX;
                         0
@@ -532,19 +1029,19 @@ pub fn run(text: &[u8], schedule: &[u8], answers: &mut [u8], cells: &mut [i32]) 
                         17
                     }
                 }
-                8 | 9 => {
-                    let q = l[2] as usize;
+                CALL | START => {
+                    let q = l.x as usize;
                     let mut passed = [0; 4];
-                    for k in 0..t.parameters[q] {
-                        passed[k] = frame[slot(l[3 + k])];
+                    for k in 0..t.routines[q].parameters as usize {
+                        passed[k] = frame[slot(l.with[k] as usize)];
                     }
-                    if l[1] == 9 && started == 16 {
+                    if l.op == START && started == 16 {
                         frame[1] -= 1;
                         18
-                    } else if l[1] == 8 && depth[n] == 32 {
+                    } else if l.op == CALL && depth[n] == 32 {
                         frame[1] -= 1;
                         19
-                    } else if l[1] == 8 {
+                    } else if l.op == CALL {
                         depth[n] += 1;
                         open(&mut frames[n][depth[n] - 1], q, passed);
                         0

@@ -1,0 +1,91 @@
+//! Holds the plain check and engine of the benchmarks (bench/plain.rs) to the judge's reading of document 01 (tests/judge), on random texts, accepted and
+//! damaged, and on the tables named: the same answer and the same bytes, with buffers that are long enough and too short.
+//!
+//!     agree SEED COUNT TABLE ..
+#[path = "../../tests/judge/document.rs"]
+#[allow(dead_code)]
+mod document;
+#[path = "../../tests/judge/generate.rs"]
+#[allow(dead_code)]
+mod generate;
+#[path = "../plain.rs"]
+mod plain;
+use generate::Random;
+
+/// Compares on one text, with a report buffer that `short` of the needed bytes lack: the answer's number.
+fn compare(text: &[u8], short: usize) -> usize {
+    let want = document::read(text);
+    let bytes = want.as_ref().map_or(vec![], document::report);
+    let length = bytes.len().saturating_sub(short) + if short == 0 { 3 } else { 0 };
+    let (mut out, mut expected) = (vec![0xa5; length], vec![0xa5; length]);
+    let answer = match &want {
+        Err((number, line)) => (*number, *line, 0),
+        Ok(_) if length < bytes.len() => (13, 0, 0),
+        Ok(_) => {
+            expected[..bytes.len()].copy_from_slice(&bytes);
+            (0, 0, bytes.len())
+        }
+    };
+    let said = plain::report(text, &mut out);
+    if said != answer || out != expected {
+        print!("{}", String::from_utf8_lossy(text));
+        println!("plain says {said:?}:\n{}the document {answer:?}:\n{}", String::from_utf8_lossy(&out), String::from_utf8_lossy(&expected));
+        std::process::exit(1);
+    }
+    answer.0 as usize
+}
+
+/// The engine's steps on one text, a short schedule.
+fn compare_run(text: &[u8], schedule: &[u8]) {
+    let Ok(t) = document::read(text) else { return };
+    let mut state = document::State::start(&t);
+    let expected: Vec<u8> = schedule.iter().map(|&n| state.step(&t, n as usize, true)).collect();
+    let (mut answers, mut cells) = (vec![0; schedule.len()], vec![0; t.cells]);
+    assert_eq!(plain::run(text, schedule, &mut answers, &mut cells), (0, 0));
+    assert!(answers == expected && cells == state.cells, "steps {schedule:?} on\n{}", String::from_utf8_lossy(text));
+}
+
+/// Jumps of an accepted text that go elsewhere in their routine, and CALLs that are STARTs: more ways round than the generator makes.
+fn stir(r: &mut Random, text: &mut [u8]) {
+    let Ok(t) = document::read(text) else { return };
+    let base = text.len() / 49 - t.statements.len();
+    for s in 0..t.statements.len() {
+        let body = t.body(t.owner[s]);
+        let (line, last) = (&mut text[49 * (base + s)..49 * (base + s) + 49], s + 1 == body.end);
+        let ordinary = !matches!(t.statements[s], document::Op::Call(..) | document::Op::Start(..));
+        if ordinary && !last && r.one_in(3) {
+            let target = body.start + r.below(body.len());
+            line.copy_from_slice(format!("     4{:>6}{target:>6}     0     0     0     0     0\n", if r.one_in(8) { 10 } else { 11 }).as_bytes());
+        } else if !ordinary && r.one_in(4) {
+            line[11] = if r.one_in(3) { b'9' } else { b'8' };
+        }
+    }
+}
+
+fn main() {
+    let words: Vec<String> = std::env::args().skip(1).collect();
+    let (seed, count) = (words[0].parse::<u64>().expect("SEED"), words[1].parse::<usize>().expect("COUNT"));
+    let mut r = Random(seed * 2 + 88172645463325252);
+    let mut met = [0usize; 14];
+    for path in &words[2..] {
+        met[compare(&std::fs::read(path).expect(path), 0)] += 1;
+    }
+    for i in 0..count {
+        let mut text = if r.one_in(8) { generate::guarded(&mut r) } else { generate::table(&mut r, i % 20 == 0) };
+        if r.one_in(4) {
+            stir(&mut r, &mut text);
+        }
+        if r.one_in(3) {
+            for _ in 0..1 + r.below(2) {
+                generate::damage(&mut r, &mut text);
+            }
+        }
+        let short = if r.one_in(10) { 1 + r.below(200) } else { 0 };
+        met[compare(&text, short)] += 1;
+        if r.one_in(8) {
+            compare_run(&text, &generate::schedule(&mut r));
+        }
+    }
+    println!("plain against the document: {} tables and {count} random texts, seed {seed}, no difference; answers 0 to 13 met {met:?}", words.len() - 2);
+    assert!(count < 20000 || met.iter().all(|&n| n > 0), "an answer was never met");
+}
