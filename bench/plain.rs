@@ -115,16 +115,36 @@ pub struct Table {
 }
 
 const ZEROS: Line = *b"     0     0     0     0     0     0     0     0\n";
+
+/// The numbers below 1000 as they stand in a line: four characters.
+static SMALL: [[u8; 4]; 1000] = {
+    let (mut all, mut n) = ([[b' '; 4]; 1000], 0);
+    while n < 1000 {
+        let (mut rest, mut at) = (n, 3);
+        while rest > 0 || at == 3 {
+            all[n][at] = b'0' + (rest % 10) as u8;
+            (rest, at) = (rest / 10, at - 1);
+        }
+        n += 1;
+    }
+    all
+};
+
+/// Field `j` of a line if it is a number below 1000: four bytes at once, and then whether they are that number's own.
+#[inline(always)]
+fn small(line: &Line, j: usize) -> Option<usize> {
+    let four: [u8; 4] = line[6 * j + 2..6 * j + 6].try_into().unwrap();
+    let pairs = ((u32::from_le_bytes(four) & 0x0f0f_0f0f) * (10 << 8 | 1) >> 8) & 0x00ff_00ff;
+    let n = (pairs.wrapping_mul(100 << 16 | 1) >> 16) as usize;
+    (line[6 * j..6 * j + 2] == *b"  " && SMALL.get(n) == Some(&four)).then_some(n)
+}
+
 const BYTES: u64 = 0x0101_0101_0101_0101;
 
-/// Field `j` of a line, six bytes: 0 if it is a number without sign, and then its value.
+/// Eight characters in a number, the first lowest, a space as 0 and a digit d as 0x10 + d: 0 and their value, if they are one without sign.
 #[inline(always)]
-fn field(line: &Line, j: usize) -> (u64, i32) {
-    let at = (6 * j).saturating_sub(2);
-    let eight = u64::from_le_bytes(line[at..at + 8].try_into().unwrap());
-    let six = if j == 0 { eight << 16 } else { eight & !0xffff };
-    // A space becomes 0 and a digit d becomes 0x10 + d; the last byte counts as set, so that a lone 0 has no zero before it.
-    let x = six ^ ((0x20 * BYTES) & !0xffff);
+fn unsigned(x: u64) -> (u64, i32) {
+    // The last byte counts as used, so that a lone 0 has no zero before it.
     let zeros = (x | 1 << 56).trailing_zeros();
     let used = !0u64 << (zeros & 56);
     let tens = (0x10 * BYTES) & used;
@@ -135,54 +155,30 @@ fn field(line: &Line, j: usize) -> (u64, i32) {
     (bad | (zeros & 4) as u64, (fours.wrapping_mul(10000 << 32 | 1) >> 32) as i32)
 }
 
-/// Six characters, one after the other: a number, or none.
-fn careful(chars: &[u8]) -> Option<i32> {
-    let digits = chars.trim_ascii_start();
-    let spaces = chars.len() - digits.len();
-    let (negative, digits) = match digits {
-        [b'-', rest @ ..] => (true, rest),
-        _ => (false, digits),
-    };
-    if chars[..spaces].iter().any(|&c| c != b' ') || digits.is_empty() || digits[0] == b'0' && (negative || digits.len() > 1) {
-        return None;
-    }
-    let value = digits.iter().try_fold(0, |v, &c| c.is_ascii_digit().then(|| 10 * v + (c - b'0') as i32))?;
-    Some(if negative { -value } else { value })
-}
-
-#[cold]
-fn careful_numbers(line: &Line) -> Option<[i32; 8]> {
-    let mut numbers = [0; 8];
-    for (n, chars) in numbers.iter_mut().zip(line.chunks_exact(6)) {
-        *n = careful(chars)?;
-    }
-    (line[48] == b'\n').then_some(numbers)
-}
-
-/// The numbers of a line of which all fields from `N` on are 0.
+/// Field `j` of a line: six characters in eight bytes.
 #[inline(always)]
-fn fields<const N: usize>(line: &Line) -> Option<[i32; 8]> {
-    let (mut numbers, mut bad) = ([0; 8], 0);
-    for j in 0..N {
-        let (b, n) = field(line, j);
-        bad |= b;
-        numbers[j] = n;
+fn number(line: &Line, j: usize) -> Option<i32> {
+    let at = (6 * j).saturating_sub(2);
+    let eight = u64::from_le_bytes(line[at..at + 8].try_into().unwrap());
+    let x = (if j == 0 { eight << 16 } else { eight & !0xffff }) ^ ((0x20 * BYTES) & !0xffff);
+    let (bad, n) = unsigned(x);
+    if bad == 0 {
+        return Some(n);
     }
-    if bad == 0 { Some(numbers) } else { careful_numbers(line) }
+    // A minus sign straight before the first digit, which is not 0.
+    let sign = x.trailing_zeros() & 56;
+    let rest = x & !(0xff << sign);
+    let (bad, n) = unsigned(rest);
+    (x >> sign & 0xff == (b'-' ^ b' ') as u64 && bad == 0 && n != 0 && rest.trailing_zeros() & 56 == sign + 8).then_some(-n)
 }
 
 /// The eight numbers of a line, or none.
-#[inline(always)]
 fn numbers(line: &Line) -> Option<[i32; 8]> {
-    if line[18..] == ZEROS[18..] {
-        fields::<3>(line)
-    } else if line[30..] == ZEROS[30..] {
-        fields::<5>(line)
-    } else if line[48] == b'\n' {
-        fields::<8>(line)
-    } else {
-        None
+    let mut numbers = [0; 8];
+    for j in 0..8 {
+        numbers[j] = number(line, j)?;
     }
+    (line[48] == b'\n').then_some(numbers)
 }
 
 /// Cells, locks, handles, routines and statements from the header, or the refusal.
@@ -196,6 +192,16 @@ fn counts(header: &[i32; 8], lines: usize) -> Result<[usize; 5], Refusal> {
         return Err((4, 0));
     }
     Ok([cells, locks, handles, routines, statements].map(|n| n as usize))
+}
+
+/// Why line `at`, which is to begin with `lead`, is turned down: 2, 5, or else `number`.
+#[cold]
+fn refusal(line: &Line, lead: i32, number: u32, at: u32) -> Refusal {
+    match numbers(line) {
+        None => (2, at),
+        Some(n) if n[0] != lead => (5, at),
+        Some(_) => (number, at),
+    }
 }
 
 /// The refusal of a text, if `found` is the first one by the order of its lines: behind it only 2 and 5 could come before it.
@@ -264,17 +270,18 @@ impl Table {
         let mut before = 0;
         for (h, line) in lines.iter().enumerate() {
             let at = 1 + h as u32;
-            let [lead, r, kind, origin, start, a, b, c] = numbers(line).ok_or((2, at))?;
-            if lead != 2 {
-                return Err((5, at));
-            }
+            let quick = || Some([small(line, 1)?, small(line, 2)?, small(line, 3)?, small(line, 4)?]);
+            let [r, kind, origin, start] = match quick() {
+                Some(fields) if line[..6] == *b"     2" && line[30..] == ZEROS[30..] => fields,
+                _ => return Err(refusal(line, 2, 6, at)),
+            };
             let things = if kind == 1 { self.cells } else { self.locks };
-            let starts = if origin == 0 { start == 0 } else { origin == 1 && (start as u32 as usize) < things };
-            if r < before || r as usize >= self.routines.len() || (kind != 1 && kind != 2) || !starts || a | b | c != 0 {
+            let starts = if origin == 0 { start == 0 } else { origin == 1 && start < things };
+            if r < before || r >= self.routines.len() || (kind != 1 && kind != 2) || !starts {
                 return Err((6, at));
             }
             before = r;
-            let q = &mut self.routines[r as usize];
+            let q = &mut self.routines[r];
             q.handle = if q.handles == 0 { h as u8 } else { q.handle };
             q.handles += 1;
             q.parameters += (origin == 0) as u8;
@@ -290,17 +297,14 @@ impl Table {
         let (mut first, all) = (0, self.body.len());
         for (r, line) in lines.iter().enumerate() {
             let at = (1 + self.handles.len() + r) as u32;
-            let l = numbers(line).ok_or((2, at))?;
-            if l[0] != 3 {
-                return Err((5, at));
+            match small(line, 1) {
+                Some(n) if n >= 1 && n <= all && line[..6] == *b"     3" && line[12..] == ZEROS[12..] => {
+                    self.routines[r].first = first as u16;
+                    first += n;
+                    self.routines[r].end = first as u16;
+                }
+                _ => return Err(refusal(line, 3, 7, at)),
             }
-            if l[1] < 1 || l[1] as usize > all || l[2..] != [0; 6] {
-                return Err((7, at));
-            }
-            let q = &mut self.routines[r];
-            q.first = first as u16;
-            first += l[1] as usize;
-            q.end = first as u16;
         }
         if first == all { Ok(()) } else { Err((8, 0)) }
     }
@@ -309,91 +313,82 @@ impl Table {
     fn fill_body(&mut self, r: usize, base: usize, lines: &[Line]) -> Result<(), Refusal> {
         let (first, end) = (self.routines[r].first as usize, self.routines[r].end as usize);
         self.heads.add(first);
-        for s in first..end {
-            let at = (base + s) as u32;
-            let l = numbers(&lines[s]).ok_or((2, at))?;
-            if l[0] != 4 {
-                return Err((5, at));
-            }
-            if !self.statement(r, s, &l) {
-                return Err((9, at));
+        for (k, line) in lines[first..end].iter().enumerate() {
+            if line[..6] != *b"     4" || self.statement(r, first + k, line).is_none() {
+                return Err(refusal(line, 4, 9, (base + first + k) as u32));
             }
         }
         Ok(())
     }
 
-    /// Puts down statement `s` of routine `r`, if it keeps its rule.
+    /// Puts down statement `s` of routine `r`, if the line from its second field on keeps its rule.
     #[inline(always)]
-    fn statement(&mut self, r: usize, s: usize, l: &[i32; 8]) -> bool {
-        let (op, x) = (l[1] as u32 as usize, l[2]);
-        let one = l[3] | l[4] | l[5] | l[6] | l[7] == 0;
-        let good = match l[1] {
-            1 | 2 | 5 | 6 => one && self.access(r, op as u8, x),
-            3 | 4 => one,
-            7 => l[4] | l[5] | l[6] | l[7] == 0 && self.point(r, x, l[3]),
-            8 | 9 => return self.name(r, s, l),
-            10 | 11 => {
-                let inside = x >= self.routines[r].first as i32 && x < self.routines[r].end as i32;
-                if inside {
-                    self.heads.add(x as usize);
-                    self.heads.add(s + 1);
-                }
-                one && inside
-            }
-            12 => {
-                self.heads.add(s + 1);
-                one && x == 0
-            }
-            _ => false,
+    fn statement(&mut self, r: usize, s: usize, line: &Line) -> Option<()> {
+        let op = small(line, 1)? as u8;
+        let one = line[18..] == ZEROS[18..];
+        let x = match op {
+            SET | ADD if one => number(line, 2)?,
+            CALL | START => return self.name(r, s, op, line),
+            POINT => return self.point(r, s, line),
+            _ if one => small(line, 2)? as i32,
+            _ => return None,
         };
-        self.body[s] = Statement { x, op: op as u8, with: [l[3] as u8, 0, 0, 0] };
-        good
-    }
-
-    #[inline(always)]
-    fn access(&mut self, r: usize, op: u8, x: i32) -> bool {
-        let Some(h) = self.handles.get_mut(x as u32 as usize) else { return false };
-        h.reads += (op == READ) as u16;
-        h.writes += (op == WRITE) as u16;
-        h.gives |= op == GIVE;
-        h.routine as usize == r && h.kind == 1 + (op > WRITE) as u8
-    }
-
-    fn point(&mut self, r: usize, x: i32, y: i32) -> bool {
-        let Some(&g) = self.handles.get(y as u32 as usize) else { return false };
-        let Some(h) = self.handles.get_mut(x as u32 as usize) else { return false };
-        if h.routine as usize != r || g.routine as usize != r || h.kind != g.kind {
-            return false;
+        self.body[s] = Statement { x, op, with: [0; 4] };
+        match op {
+            READ | WRITE | TAKE | GIVE => {
+                let h = self.handles.get_mut(x as usize)?;
+                h.reads += (op == READ) as u16;
+                h.writes += (op == WRITE) as u16;
+                h.gives |= op == GIVE;
+                return (h.routine as usize == r && h.kind == 1 + (op > WRITE) as u8).then_some(());
+            }
+            SET | ADD => return Some(()),
+            JUMP | JUMPZ if x >= self.routines[r].first as i32 && x < self.routines[r].end as i32 => self.heads.add(x as usize),
+            RETURN if x == 0 => {}
+            _ => return None,
         }
-        h.into |= 1 << (y as u8 - self.routines[r].handle);
+        self.heads.add(s + 1);
+        Some(())
+    }
+
+    fn point(&mut self, r: usize, s: usize, line: &Line) -> Option<()> {
+        let (x, y) = (small(line, 2)?, small(line, 3)?);
+        let (h, g) = (*self.handles.get(x)?, self.handles.get(y)?);
+        if h.routine as usize != r || g.routine as usize != r || h.kind != g.kind || line[24..] != ZEROS[24..] {
+            return None;
+        }
+        self.body[s] = Statement { x: x as i32, op: POINT, with: [y as u8, 0, 0, 0] };
+        self.handles[x].into |= 1 << (y as u8 - self.routines[r].handle);
         self.routines[r].points = true;
-        true
+        Some(())
     }
 
     /// CALL or START: its routine and arguments.
-    fn name(&mut self, r: usize, s: usize, l: &[i32; 8]) -> bool {
-        let Some(&q) = self.routines.get(l[2] as u32 as usize) else { return false };
+    fn name(&mut self, r: usize, s: usize, op: u8, line: &Line) -> Option<()> {
+        let x = small(line, 2)?;
+        let q = *self.routines.get(x)?;
         let mut with = [0; 4];
-        for k in 0..4 {
-            let good = if k < q.parameters as usize {
-                let wanted = self.handles[q.handle as usize + k].kind;
-                self.handles.get(l[3 + k] as u32 as usize).is_some_and(|h| h.routine as usize == r && h.kind == wanted)
-            } else {
-                l[3 + k] == 0
-            };
-            if !good {
-                return false;
+        for k in 0..q.parameters as usize {
+            let y = small(line, 3 + k)?;
+            let h = self.handles.get(y)?;
+            if h.routine as usize != r || h.kind != self.handles[q.handle as usize + k].kind {
+                return None;
             }
-            with[k] = l[3 + k] as u8;
+            with[k] = y as u8;
         }
-        let names = if l[1] == 8 { &mut self.routines[r].calls } else { &mut self.routines[r].starts };
-        *names |= 1 << l[2];
+        let rest = 18 + 6 * q.parameters as usize;
+        if line[rest..] != ZEROS[rest..] {
+            return None;
+        }
+        self.body[s] = Statement { x: x as i32, op, with };
         self.naming.add(s);
-        if l[1] == 8 {
+        if op == CALL {
+            self.routines[r].calls |= 1 << x;
             self.heads.add(s + 1);
+        } else {
+            self.routines[r].starts |= 1 << x;
         }
-        self.body[s] = Statement { x: l[2], op: l[1] as u8, with };
-        l[7] == 0
+        Some(())
     }
 
     /// Each routine before those that it names; or the lowest that reaches itself.
@@ -862,23 +857,6 @@ fn findings(t: &Table, flow: &[u64; 128], locks: &[[u16; 2]; 128], runs: &[Run])
     }
     found
 }
-
-/// The numbers below 1000 as they stand in a line: four characters.
-const SMALL: [[u8; 4]; 1000] = {
-    let mut all = [[b' '; 4]; 1000];
-    let mut n = 0;
-    while n < 1000 {
-        all[n][3] = b'0' + (n % 10) as u8;
-        if n >= 10 {
-            all[n][2] = b'0' + (n / 10 % 10) as u8;
-        }
-        if n >= 100 {
-            all[n][1] = b'0' + (n / 100) as u8;
-        }
-        n += 1;
-    }
-    all
-};
 
 /// Puts `n`, which is below 100,000, into field `j`.
 #[inline(always)]
