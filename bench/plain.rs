@@ -34,11 +34,10 @@ pub struct Statement {
     with: [u8; 4],
 }
 
-/// A handle, and what the statements do through it; `into` has the handles of its routine, from the first on, that a POINT puts into it.
+/// A handle, its routine and kind in one number, and what the statements do through it; `into` has the handles of its routine, from the first on, that a POINT puts into it.
 #[derive(Clone, Copy, Default)]
 struct Handle {
-    routine: u8,
-    kind: u8,
+    key: u8,
     local: bool,
     start: u8,
     into: u8,
@@ -55,9 +54,16 @@ struct Routine {
     handle: u8,
     handles: u8,
     parameters: u8,
+    /// The kinds of the parameters.
+    kinds: [u8; 4],
     points: bool,
     calls: u32,
     starts: u32,
+}
+
+/// What handles of this routine and kind are known by.
+fn key(r: usize, kind: usize) -> u8 {
+    (4 * r + kind) as u8
 }
 
 /// A set of statements.
@@ -283,12 +289,15 @@ impl Table {
             before = r;
             let q = &mut self.routines[r];
             q.handle = if q.handles == 0 { h as u8 } else { q.handle };
-            q.handles += 1;
-            q.parameters += (origin == 0) as u8;
-            if q.handles > 8 || origin == 0 && (r == 0 || q.parameters < q.handles || q.parameters > 4) {
+            if q.handles == 8 || origin == 0 && (r == 0 || q.parameters < q.handles || q.parameters == 4) {
                 return Err((6, at));
             }
-            self.handles[h] = Handle { routine: r as u8, kind: kind as u8, local: origin == 1, start: start as u8, ..Handle::default() };
+            if origin == 0 {
+                q.kinds[q.parameters as usize] = kind as u8;
+                q.parameters += 1;
+            }
+            q.handles += 1;
+            self.handles[h] = Handle { key: key(r, kind), local: origin == 1, start: start as u8, ..Handle::default() };
         }
         Ok(())
     }
@@ -340,7 +349,7 @@ impl Table {
                 h.reads += (op == READ) as u16;
                 h.writes += (op == WRITE) as u16;
                 h.gives |= op == GIVE;
-                return (h.routine as usize == r && h.kind == 1 + (op > WRITE) as u8).then_some(());
+                return (h.key == key(r, 1 + (op > WRITE) as usize)).then_some(());
             }
             SET | ADD => return Some(()),
             JUMP | JUMPZ if x >= self.routines[r].first as i32 && x < self.routines[r].end as i32 => self.heads.add(x as usize),
@@ -354,7 +363,7 @@ impl Table {
     fn point(&mut self, r: usize, s: usize, line: &Line) -> Option<()> {
         let (x, y) = (small(line, 2)?, small(line, 3)?);
         let (h, g) = (*self.handles.get(x)?, self.handles.get(y)?);
-        if h.routine as usize != r || g.routine as usize != r || h.kind != g.kind || line[24..] != ZEROS[24..] {
+        if h.key / 4 != r as u8 || h.key != g.key || line[24..] != ZEROS[24..] {
             return None;
         }
         self.body[s] = Statement { x: x as i32, op: POINT, with: [y as u8, 0, 0, 0] };
@@ -368,17 +377,16 @@ impl Table {
         let x = small(line, 2)?;
         let q = *self.routines.get(x)?;
         let mut with = [0; 4];
-        for k in 0..q.parameters as usize {
+        if q.parameters == 0 && line[18..] != ZEROS[18..] || line[42..] != ZEROS[42..] {
+            return None;
+        }
+        for k in 0..if q.parameters == 0 { 0 } else { 4 } {
             let y = small(line, 3 + k)?;
-            let h = self.handles.get(y)?;
-            if h.routine as usize != r || h.kind != self.handles[q.handle as usize + k].kind {
+            let good = if k < q.parameters as usize { self.handles.get(y)?.key == key(r, q.kinds[k] as usize) } else { y == 0 };
+            if !good {
                 return None;
             }
             with[k] = y as u8;
-        }
-        let rest = 18 + 6 * q.parameters as usize;
-        if line[rest..] != ZEROS[rest..] {
-            return None;
         }
         self.body[s] = Statement { x: x as i32, op, with };
         self.naming.add(s);
@@ -548,8 +556,9 @@ struct Held<'a> {
     /// What is held before each routine's RETURNs.
     returns: [u16; 32],
     callers: [u16; 32],
-    /// Runs to look at, and the routines that have some.
+    /// Runs to look at, those never looked at, and the routines that have some.
     todo: Places,
+    fresh: Places,
     stirred: u32,
 }
 
@@ -567,19 +576,15 @@ impl<'a> Held<'a> {
     /// All runs, with all locks held, but nothing where a thread begins.
     fn new(t: &'a Table, locks: &[[u16; 2]; 128], given: &'a [u16; 32]) -> Held<'a> {
         let all = (1u32 << t.locks).wrapping_sub(1) as u16;
-        let mut held = Held { t, given, runs: vec![Run::default(); t.body.len()], returns: [all; 32], callers: [NONE; 32], todo: t.heads, stirred: !0 };
-        let mut started = 1;
+        let runs = vec![Run::default(); t.body.len()];
+        let mut held = Held { t, given, runs, returns: [all; 32], callers: [NONE; 32], todo: Places::default(), fresh: t.heads, stirred: 0 };
         for (r, q) in t.routines.iter().enumerate() {
-            started |= q.starts;
             let (mut head, end) = (q.first as usize, q.end as usize);
             while head < end {
                 let next = t.heads.next(head + 1, end).unwrap_or(end);
                 held.add_run(r, head, next, locks, all);
                 head = next;
             }
-        }
-        for r in members(started) {
-            held.runs[t.routines[r].first as usize].held = 0;
         }
         held
     }
@@ -614,41 +619,52 @@ impl<'a> Held<'a> {
         lower
     }
 
-    /// Looks at the runs of routine `r` that are to be looked at, the lowest first; at a CALL, at the callee's before going on.
+    /// Looks at the runs of routine `r` that are to be looked at, the lowest first, and then at those that nothing has led to.
     fn settle(&mut self, r: usize) {
         let (first, end) = (self.t.routines[r].first as usize, self.t.routines[r].end as usize);
-        let mut at = first;
         self.stirred &= !(1 << r);
-        while let Some(head) = self.todo.next(at, end) {
-            self.todo.remove(head);
-            let run = self.runs[head];
-            let (last, set) = (run.last as usize, run.held & run.keep | run.gain);
-            let s = self.t.body[last];
-            at = last + 1;
-            match s.op {
-                RETURN => self.close(r, set),
-                CALL => {
-                    let after = self.call(s.x as usize, set);
-                    self.todo.remove(head);
-                    self.lower(last + 1, after);
-                    if self.stirred >> r & 1 == 1 {
-                        self.stirred &= !(1 << r);
-                        at = first;
-                    }
-                }
-                JUMP | JUMPZ => {
-                    if self.lower(s.x as usize, set) {
-                        at = at.min(s.x as usize);
-                    }
-                    if s.op == JUMPZ {
-                        self.lower(last + 1, set);
-                    }
-                }
-                _ => {
-                    self.lower(last + 1, set);
-                }
+        let mut at = first;
+        loop {
+            while let Some(head) = self.todo.next(at, end) {
+                at = self.look(r, head);
+            }
+            match self.fresh.next(first, end) {
+                Some(head) => at = self.look(r, head),
+                None => return,
             }
         }
+    }
+
+    /// Looks at one run, at a CALL also at the callee's: no run below the answer is to be looked at.
+    fn look(&mut self, r: usize, head: usize) -> usize {
+        self.todo.remove(head);
+        self.fresh.remove(head);
+        let run = self.runs[head];
+        let (last, set) = (run.last as usize, run.held & run.keep | run.gain);
+        let s = self.t.body[last];
+        match s.op {
+            RETURN => self.close(r, set),
+            JUMP => {
+                return if self.lower(s.x as usize, set) { (s.x as usize).min(last + 1) } else { last + 1 };
+            }
+            JUMPZ => {
+                self.lower(last + 1, set);
+                return if self.lower(s.x as usize, set) { (s.x as usize).min(last + 1) } else { last + 1 };
+            }
+            CALL => {
+                let after = self.call(s.x as usize, set);
+                self.todo.remove(head);
+                self.lower(last + 1, after);
+                if self.stirred >> r & 1 == 1 {
+                    self.stirred &= !(1 << r);
+                    return self.t.routines[r].first as usize;
+                }
+            }
+            _ => {
+                self.lower(last + 1, set);
+            }
+        }
+        last + 1
     }
 
     /// What is held behind a CALL of `q` before which `set` is.
@@ -674,9 +690,12 @@ impl<'a> Held<'a> {
         }
     }
 
-    /// The greatest sets.
+    /// The greatest sets: nothing is held where a thread begins.
     fn solve(mut self) -> Vec<Run> {
         let count = self.t.routines.len();
+        for r in members(self.t.routines.iter().fold(1, |all, q| all | q.starts)) {
+            self.lower(self.t.routines[r].first as usize, 0);
+        }
         self.stirred = !0 >> (32 - count);
         while self.stirred != 0 {
             for k in 0..count {
@@ -698,6 +717,10 @@ struct Futures<'a> {
     needed: u32,
     /// By head of a run: its effect with its future.
     ahead: Vec<Effect>,
+    /// Of a walk along the ways: by head of a run when it was visited, and `NONE` when its set is complete; how many were; and those not complete.
+    mark: Vec<u16>,
+    visits: u16,
+    open: Vec<u16>,
     /// By routine: the futures of its CALLs.
     behind: [Effect; 32],
     shared: u64,
@@ -711,7 +734,7 @@ impl<'a> Futures<'a> {
             needed |= ((q.starts != 0 || q.calls & needed != 0) as u32) << r;
         }
         let ahead = vec![[0; 2]; if needed == 0 { 0 } else { t.body.len() + 1 }];
-        Futures { t, flow, effects, needed, ahead, behind: [[0; 2]; 32], shared: 0 }
+        Futures { t, flow, effects, needed, ahead, mark: vec![], visits: 0, open: vec![], behind: [[0; 2]; 32], shared: 0 }
     }
 
     fn own(&self, s: &Statement) -> Effect {
@@ -758,47 +781,71 @@ impl<'a> Futures<'a> {
         self.ahead[head] = ahead;
     }
 
-    /// One routine: its statements downwards once, and where a jump goes back, its runs until nothing changes.
+    /// One routine: its statements downwards once, which settles it unless a jump goes back.
     fn routine(&mut self, r: usize) {
         let (first, end) = (self.t.routines[r].first as usize, self.t.routines[r].end as usize);
-        let (mut back, mut next) = (false, end);
-        while let Some(head) = self.t.heads.last(first, next) {
+        let (mut next, mut back) = (end, false);
+        while next > first {
+            let head = self.t.heads.last(first, next).unwrap_or(first);
             self.walk(r, head, next - 1);
             let s = &self.t.body[next - 1];
             back |= (s.op == JUMP || s.op == JUMPZ) && (s.x as usize) < next;
             next = head;
-            if head == first {
-                break;
-            }
         }
-        if !back {
-            return;
-        }
-        while self.again(first, end) {}
-        next = end;
-        while let Some(head) = self.t.heads.last(first, next) {
-            if self.t.naming.next(head, next).is_some() {
-                self.walk(r, head, next - 1);
+        if back {
+            self.mark.resize(self.t.body.len(), 0);
+            let mut at = first;
+            while let Some(s) = self.t.naming.next(at, end) {
+                let head = self.t.heads.last(first, s + 1).unwrap_or(first);
+                if self.mark[head] == 0 {
+                    self.visit(head, end);
+                }
+                at = s + 1;
             }
-            next = head;
-            if head == first {
-                break;
-            }
+            self.walk_again(r, first, end);
         }
     }
 
-    /// The runs from `first` to `end` once more, downwards: whether something changed.
-    fn again(&mut self, first: usize, end: usize) -> bool {
-        let (mut next, mut changed) = (end, false);
-        while next > first {
-            let head = self.t.heads.last(first, next).unwrap_or(first);
-            let (before, after) = (self.ahead[head], self.follows(next - 1));
-            let new = join(before, after);
-            changed |= new != before;
-            self.ahead[head] = new;
-            next = head;
+    /// The runs of a routine that CALL or START, downwards.
+    fn walk_again(&mut self, r: usize, first: usize, end: usize) {
+        let mut at = end;
+        while let Some(s) = if at > first { self.t.naming.last(first, at) } else { None } {
+            let head = self.t.heads.last(first, s + 1).unwrap_or(first);
+            let last = self.t.heads.next(s + 1, end).unwrap_or(end) - 1;
+            self.walk(r, head, last);
+            at = head;
         }
-        changed
+    }
+
+    /// Run `head` and what it leads to: runs that lead to each other have one set. Answers the earliest run still open that is reached.
+    fn visit(&mut self, head: usize, end: usize) -> u16 {
+        let (mine, depth) = (self.visits + 1, self.open.len());
+        self.visits = mine;
+        self.mark[head] = mine;
+        self.open.push(head as u16);
+        let last = self.t.heads.next(head + 1, end).unwrap_or(end) - 1;
+        let s = self.t.body[last];
+        let mut least = mine;
+        if s.op == JUMP || s.op == JUMPZ {
+            least = least.min(self.reach(head, s.x as usize, end));
+        }
+        if s.op != JUMP && s.op != RETURN {
+            least = least.min(self.reach(head, last + 1, end));
+        }
+        if least == mine {
+            let all = self.open[depth..].iter().fold([0; 2], |all, &h| join(all, self.ahead[h as usize]));
+            for h in self.open.drain(depth..) {
+                self.ahead[h as usize] = all;
+                self.mark[h as usize] = NONE;
+            }
+        }
+        least
+    }
+
+    fn reach(&mut self, head: usize, next: usize, end: usize) -> u16 {
+        let least = if self.mark[next] == 0 { self.visit(next, end) } else { self.mark[next] };
+        self.ahead[head] = join(self.ahead[head], self.ahead[next]);
+        least
     }
 
     /// The cells that are shared: routines callers first.
@@ -813,17 +860,30 @@ impl<'a> Futures<'a> {
 }
 
 struct Findings {
-    reads: [u16; 64],
-    writes: [u16; 64],
-    common: [u16; 64],
+    reads: [[u16; 8]; 8],
+    writes: [[u16; 8]; 8],
+    common: [[u16; 8]; 8],
     strays: usize,
     stray: Places,
+}
+
+impl Findings {
+    /// The accesses through a handle that may refer to these of the eight cells from 8 * `eight` on.
+    fn count(&mut self, eight: usize, cells: u8, used: &Handle, common: u16) {
+        let (reads, writes, locks) = (&mut self.reads[eight], &mut self.writes[eight], &mut self.common[eight]);
+        for k in 0..8 {
+            let mask = if cells as u16 & 1 << k != 0 { !0 } else { 0 };
+            reads[k] += used.reads & mask;
+            writes[k] += used.writes & mask;
+            locks[k] &= common | !mask;
+        }
+    }
 }
 
 /// Counts and common locks by handle, then by cell.
 fn findings(t: &Table, flow: &[u64; 128], locks: &[[u16; 2]; 128], runs: &[Run]) -> Findings {
     let all = (1u32 << t.locks).wrapping_sub(1) as u16;
-    let mut found = Findings { reads: [0; 64], writes: [0; 64], common: [all; 64], strays: 0, stray: Places::default() };
+    let mut found = Findings { reads: [[0; 8]; 8], writes: [[0; 8]; 8], common: [[all; 8]; 8], strays: 0, stray: Places::default() };
     let (mut common, mut head) = ([all; 128], 0);
     while head < t.body.len() {
         let run = &runs[head];
@@ -846,13 +906,11 @@ fn findings(t: &Table, flow: &[u64; 128], locks: &[[u16; 2]; 128], runs: &[Run])
         head = end;
     }
     for (h, used) in t.handles.iter().enumerate() {
-        let mut cells = if used.kind == 1 && used.reads + used.writes > 0 { flow[h] } else { 0 };
+        let mut cells = if used.reads + used.writes > 0 { flow[h] } else { 0 };
         while cells != 0 {
-            let x = cells.trailing_zeros() as usize;
-            cells &= cells - 1;
-            found.reads[x] += used.reads;
-            found.writes[x] += used.writes;
-            found.common[x] &= common[h];
+            let eight = cells.trailing_zeros() as usize / 8;
+            found.count(eight, (cells >> (8 * eight)) as u8, used, common[h]);
+            cells &= !(0xff << (8 * eight));
         }
     }
     found
@@ -879,11 +937,12 @@ fn print(out: &mut [u8], cells: usize, shared: u64, found: &Findings) -> Option<
     let (cell_lines, others) = lines.split_at_mut(cells);
     let mut unguarded = 0;
     for (x, line) in cell_lines.iter_mut().enumerate() {
+        let (reads, writes, common) = (found.reads[x / 8][x % 8], found.writes[x / 8][x % 8], found.common[x / 8][x % 8]);
         let shared = (shared >> x & 1) as usize;
-        let bad = (shared == 1 && found.common[x] == 0) as usize;
+        let bad = (shared == 1 && common == 0) as usize;
         unguarded += bad;
         *line = ZEROS;
-        for (j, n) in [51, x, found.reads[x] as usize, found.writes[x] as usize, shared, found.common[x] as usize, bad].into_iter().enumerate() {
+        for (j, n) in [51, x, reads as usize, writes as usize, shared, common as usize, bad].into_iter().enumerate() {
             put(line, j, n);
         }
     }
