@@ -34,16 +34,14 @@ pub struct Statement {
     with: [u8; 4],
 }
 
-/// A handle, its routine and kind in one number, and what the statements do through it; `into` has the handles of its routine, from the first on, that a POINT puts into it.
+/// A handle, its routine and kind in one number, and how many statements of each operation use it; `into` has the handles of its routine, from the first on, that a POINT puts into it.
 #[derive(Clone, Copy, Default)]
 struct Handle {
     key: u8,
     local: bool,
     start: u8,
     into: u8,
-    gives: bool,
-    reads: u16,
-    writes: u16,
+    uses: [u16; 8],
 }
 
 /// A routine: its first statement and handle, the numbers of both and of its parameters; the routines that it CALLs, and those that it STARTs.
@@ -56,7 +54,9 @@ struct Routine {
     parameters: u8,
     /// The kinds of the parameters.
     kinds: [u8; 4],
+    /// Whether it has a POINT, and a jump that goes back.
     points: bool,
+    back: bool,
     calls: u32,
     starts: u32,
 }
@@ -73,6 +73,10 @@ struct Places([u64; 9]);
 impl Places {
     fn add(&mut self, s: usize) {
         self.0[s / 64] |= 1 << (s % 64);
+    }
+
+    fn has(&self, s: usize) -> bool {
+        self.0[s / 64] >> (s % 64) & 1 == 1
     }
 
     fn remove(&mut self, s: usize) {
@@ -251,6 +255,10 @@ pub fn read(text: &[u8]) -> Result<Table, Refusal> {
 }
 
 impl Table {
+    fn all_locks(&self) -> u16 {
+        ((1u32 << self.locks) - 1) as u16
+    }
+
     /// The first refusal from 5 on in the order of the lines, 2 among them.
     fn fill(&mut self, lines: &[Line]) -> Result<(), Refusal> {
         let (handles, routines) = (self.handles.len(), self.routines.len());
@@ -335,28 +343,38 @@ impl Table {
     fn statement(&mut self, r: usize, s: usize, line: &Line) -> Option<()> {
         let op = small(line, 1)? as u8;
         let one = line[18..] == ZEROS[18..];
-        let x = match op {
-            SET | ADD if one => number(line, 2)?,
-            CALL | START => return self.name(r, s, op, line),
-            POINT => return self.point(r, s, line),
-            _ if one => small(line, 2)? as i32,
-            _ => return None,
-        };
-        self.body[s] = Statement { x, op, with: [0; 4] };
-        match op {
-            READ | WRITE | TAKE | GIVE => {
-                let h = self.handles.get_mut(x as usize)?;
-                h.reads += (op == READ) as u16;
-                h.writes += (op == WRITE) as u16;
-                h.gives |= op == GIVE;
-                return (h.key == key(r, 1 + (op > WRITE) as usize)).then_some(());
-            }
-            SET | ADD => return Some(()),
-            JUMP | JUMPZ if x >= self.routines[r].first as i32 && x < self.routines[r].end as i32 => self.heads.add(x as usize),
-            RETURN if x == 0 => {}
-            _ => return None,
+        if matches!(op, READ | WRITE | TAKE | GIVE) {
+            let x = small(line, 2)?;
+            let h = self.handles.get_mut(x)?;
+            h.uses[op as usize & 7] += 1;
+            self.body[s] = Statement { x: x as i32, op, with: [0; 4] };
+            return (one && h.key == key(r, 1 + (op >= TAKE) as usize)).then_some(());
         }
+        match op {
+            SET | ADD if one => {
+                self.body[s] = Statement { x: number(line, 2)?, op, with: [0; 4] };
+                Some(())
+            }
+            JUMP | JUMPZ | RETURN if one => self.jump(r, s, op, small(line, 2)?),
+            CALL | START => self.name(r, s, op, line),
+            POINT => self.point(r, s, line),
+            _ => None,
+        }
+    }
+
+    #[inline(always)]
+    fn jump(&mut self, r: usize, s: usize, op: u8, x: usize) -> Option<()> {
+        self.body[s] = Statement { x: x as i32, op, with: [0; 4] };
         self.heads.add(s + 1);
+        if op == RETURN {
+            return (x == 0).then_some(());
+        }
+        let q = &mut self.routines[r];
+        if x < q.first as usize || x >= q.end as usize {
+            return None;
+        }
+        q.back |= x <= s;
+        self.heads.add(x);
         Some(())
     }
 
@@ -518,10 +536,10 @@ fn effects(t: &Table, flow: &[u64; 128]) -> ([Effect; 32], [u16; 32]) {
         let q = &t.routines[r as usize];
         let (mut effect, mut gives) = ([0; 2], 0);
         for h in q.handle as usize..(q.handle + q.handles) as usize {
-            let used = &t.handles[h];
-            effect[0] |= if used.reads > 0 { flow[h] } else { 0 };
-            effect[1] |= if used.writes > 0 { flow[h] } else { 0 };
-            gives |= if used.gives { flow[h] as u16 } else { 0 };
+            let used = &t.handles[h].uses;
+            effect[0] |= if used[READ as usize] > 0 { flow[h] } else { 0 };
+            effect[1] |= if used[WRITE as usize] > 0 { flow[h] } else { 0 };
+            gives |= if used[GIVE as usize] > 0 { flow[h] as u16 } else { 0 };
         }
         for named in members(q.calls | q.starts) {
             effect = join(effect, effects[named]);
@@ -535,13 +553,13 @@ fn effects(t: &Table, flow: &[u64; 128]) -> ([Effect; 32], [u16; 32]) {
 }
 
 /// A run of statements, from its head to `last`: what is held before it, and before its last statement if that is a jump, RETURN or CALL, else behind it,
-/// is `held & keep | gain`. Of the runs that CALL one routine each has the next one's head.
-#[derive(Clone, Copy, Default)]
+/// is `held & keep | gain`; these and `last` are filled in when it is first looked at. Of the runs that CALL one routine each has the next one's head.
+#[derive(Clone, Copy)]
 struct Run {
+    held: u16,
     last: u16,
     keep: u16,
     gain: u16,
-    held: u16,
     next_caller: u16,
     routine: u8,
 }
@@ -550,6 +568,7 @@ const NONE: u16 = u16::MAX;
 
 struct Held<'a> {
     t: &'a Table,
+    locks: &'a [[u16; 2]; 128],
     given: &'a [u16; 32],
     /// By head.
     runs: Vec<Run>,
@@ -573,40 +592,31 @@ fn lock_sets(flow: &[u64; 128], handles: usize) -> [[u16; 2]; 128] {
 }
 
 impl<'a> Held<'a> {
-    /// All runs, with all locks held, but nothing where a thread begins.
-    fn new(t: &'a Table, locks: &[[u16; 2]; 128], given: &'a [u16; 32]) -> Held<'a> {
-        let all = (1u32 << t.locks).wrapping_sub(1) as u16;
-        let runs = vec![Run::default(); t.body.len()];
-        let mut held = Held { t, given, runs, returns: [all; 32], callers: [NONE; 32], todo: Places::default(), fresh: t.heads, stirred: 0 };
-        for (r, q) in t.routines.iter().enumerate() {
-            let (mut head, end) = (q.first as usize, q.end as usize);
-            while head < end {
-                let next = t.heads.next(head + 1, end).unwrap_or(end);
-                held.add_run(r, head, next, locks, all);
-                head = next;
-            }
-        }
-        held
+    fn new(t: &'a Table, locks: &'a [[u16; 2]; 128], given: &'a [u16; 32]) -> Held<'a> {
+        let all = t.all_locks();
+        let runs = vec![Run { held: all, last: 0, keep: all, gain: 0, next_caller: NONE, routine: 0 }; t.body.len()];
+        Held { t, locks, given, runs, returns: [all; 32], callers: [NONE; 32], todo: Places::default(), fresh: t.heads, stirred: 0 }
     }
 
-    fn add_run(&mut self, r: usize, head: usize, end: usize, locks: &[[u16; 2]; 128], all: u16) {
-        let (mut keep, mut gain) = (all, 0);
+    /// The run of routine `r` that begins at `head`, looked at for the first time.
+    fn fill(&mut self, r: usize, head: usize) {
+        let end = self.t.routines[r].end as usize;
+        let end = self.t.heads.next(head + 1, end).unwrap_or(end);
+        let run = &mut self.runs[head];
         for s in &self.t.body[head..end] {
-            match s.op {
-                TAKE => gain |= locks[s.x as usize][0],
-                GIVE => {
-                    keep &= !locks[s.x as usize][1];
-                    gain &= !locks[s.x as usize][1];
-                }
-                _ => {}
+            if s.op == TAKE {
+                run.gain |= self.locks[s.x as usize][0];
+            } else if s.op == GIVE {
+                run.keep &= !self.locks[s.x as usize][1];
+                run.gain &= !self.locks[s.x as usize][1];
             }
         }
         let last = &self.t.body[end - 1];
-        let mut next_caller = NONE;
         if last.op == CALL {
-            next_caller = std::mem::replace(&mut self.callers[last.x as usize], head as u16);
+            run.next_caller = std::mem::replace(&mut self.callers[last.x as usize], head as u16);
         }
-        self.runs[head] = Run { last: end as u16 - 1, keep, gain, held: all, next_caller, routine: r as u8 };
+        run.last = end as u16 - 1;
+        run.routine = r as u8;
     }
 
     fn lower(&mut self, head: usize, set: u16) -> bool {
@@ -638,7 +648,10 @@ impl<'a> Held<'a> {
     /// Looks at one run, at a CALL also at the callee's: no run below the answer is to be looked at.
     fn look(&mut self, r: usize, head: usize) -> usize {
         self.todo.remove(head);
-        self.fresh.remove(head);
+        if self.fresh.has(head) {
+            self.fresh.remove(head);
+            self.fill(r, head);
+        }
         let run = self.runs[head];
         let (last, set) = (run.last as usize, run.held & run.keep | run.gain);
         let s = self.t.body[last];
@@ -768,8 +781,8 @@ impl<'a> Futures<'a> {
         }
     }
 
-    /// The statements from `head` to `last`, downwards.
-    fn walk(&mut self, r: usize, head: usize, last: usize) {
+    /// The statements from `head` to `last`, downwards, with what may follow them.
+    fn walk(&mut self, r: usize, head: usize, last: usize) -> Effect {
         let mut ahead = self.follows(last);
         for s in (head..=last).rev() {
             let s = self.t.body[s];
@@ -778,42 +791,31 @@ impl<'a> Futures<'a> {
             }
             ahead = join(ahead, self.own(&s));
         }
-        self.ahead[head] = ahead;
+        ahead
     }
 
-    /// One routine: its statements downwards once, which settles it unless a jump goes back.
-    fn routine(&mut self, r: usize) {
-        let (first, end) = (self.t.routines[r].first as usize, self.t.routines[r].end as usize);
-        let (mut next, mut back) = (end, false);
+    /// One routine without a jump that goes back: its statements downwards.
+    fn downwards(&mut self, r: usize, first: usize, end: usize) {
+        let mut next = end;
         while next > first {
             let head = self.t.heads.last(first, next).unwrap_or(first);
-            self.walk(r, head, next - 1);
-            let s = &self.t.body[next - 1];
-            back |= (s.op == JUMP || s.op == JUMPZ) && (s.x as usize) < next;
+            self.ahead[head] = self.walk(r, head, next - 1);
             next = head;
-        }
-        if back {
-            self.mark.resize(self.t.body.len(), 0);
-            let mut at = first;
-            while let Some(s) = self.t.naming.next(at, end) {
-                let head = self.t.heads.last(first, s + 1).unwrap_or(first);
-                if self.mark[head] == 0 {
-                    self.visit(head, end);
-                }
-                at = s + 1;
-            }
-            self.walk_again(r, first, end);
         }
     }
 
-    /// The runs of a routine that CALL or START, downwards.
-    fn walk_again(&mut self, r: usize, first: usize, end: usize) {
-        let mut at = end;
-        while let Some(s) = if at > first { self.t.naming.last(first, at) } else { None } {
+    /// One routine: from each run that CALLs or STARTs along the ways, and then the statements of these runs.
+    fn along_ways(&mut self, r: usize, first: usize, end: usize) {
+        self.mark.resize(self.t.body.len(), 0);
+        let mut at = first;
+        while let Some(s) = self.t.naming.next(at, end) {
             let head = self.t.heads.last(first, s + 1).unwrap_or(first);
+            if self.mark[head] == 0 {
+                self.visit(head, end);
+            }
             let last = self.t.heads.next(s + 1, end).unwrap_or(end) - 1;
             self.walk(r, head, last);
-            at = head;
+            at = last + 1;
         }
     }
 
@@ -824,6 +826,7 @@ impl<'a> Futures<'a> {
         self.mark[head] = mine;
         self.open.push(head as u16);
         let last = self.t.heads.next(head + 1, end).unwrap_or(end) - 1;
+        self.ahead[head] = self.t.body[head..=last].iter().fold([0; 2], |all, s| join(all, self.own(s)));
         let s = self.t.body[last];
         let mut least = mine;
         if s.op == JUMP || s.op == JUMPZ {
@@ -832,7 +835,10 @@ impl<'a> Futures<'a> {
         if s.op != JUMP && s.op != RETURN {
             least = least.min(self.reach(head, last + 1, end));
         }
-        if least == mine {
+        if least == mine && self.open.len() == depth + 1 {
+            self.open.pop();
+            self.mark[head] = NONE;
+        } else if least == mine {
             let all = self.open[depth..].iter().fold([0; 2], |all, &h| join(all, self.ahead[h as usize]));
             for h in self.open.drain(depth..) {
                 self.ahead[h as usize] = all;
@@ -851,8 +857,12 @@ impl<'a> Futures<'a> {
     /// The cells that are shared: routines callers first.
     fn solve(mut self) -> u64 {
         for &r in &self.t.order[..self.t.routines.len()] {
-            if self.needed >> r & 1 == 1 {
-                self.routine(r as usize);
+            let q = &self.t.routines[r as usize];
+            let (first, end) = (q.first as usize, q.end as usize);
+            if self.needed >> r & 1 == 1 && q.back {
+                self.along_ways(r as usize, first, end);
+            } else if self.needed >> r & 1 == 1 {
+                self.downwards(r as usize, first, end);
             }
         }
         self.shared
@@ -869,12 +879,12 @@ struct Findings {
 
 impl Findings {
     /// The accesses through a handle that may refer to these of the eight cells from 8 * `eight` on.
-    fn count(&mut self, eight: usize, cells: u8, used: &Handle, common: u16) {
+    fn count(&mut self, eight: usize, cells: u8, used: [u16; 2], common: u16) {
         let (reads, writes, locks) = (&mut self.reads[eight], &mut self.writes[eight], &mut self.common[eight]);
         for k in 0..8 {
             let mask = if cells as u16 & 1 << k != 0 { !0 } else { 0 };
-            reads[k] += used.reads & mask;
-            writes[k] += used.writes & mask;
+            reads[k] += used[0] & mask;
+            writes[k] += used[1] & mask;
             locks[k] &= common | !mask;
         }
     }
@@ -882,7 +892,7 @@ impl Findings {
 
 /// Counts and common locks by handle, then by cell.
 fn findings(t: &Table, flow: &[u64; 128], locks: &[[u16; 2]; 128], runs: &[Run]) -> Findings {
-    let all = (1u32 << t.locks).wrapping_sub(1) as u16;
+    let all = t.all_locks();
     let mut found = Findings { reads: [[0; 8]; 8], writes: [[0; 8]; 8], common: [[all; 8]; 8], strays: 0, stray: Places::default() };
     let (mut common, mut head) = ([all; 128], 0);
     while head < t.body.len() {
@@ -905,8 +915,9 @@ fn findings(t: &Table, flow: &[u64; 128], locks: &[[u16; 2]; 128], runs: &[Run])
         }
         head = end;
     }
-    for (h, used) in t.handles.iter().enumerate() {
-        let mut cells = if used.reads + used.writes > 0 { flow[h] } else { 0 };
+    for (h, handle) in t.handles.iter().enumerate() {
+        let used = [handle.uses[READ as usize], handle.uses[WRITE as usize]];
+        let mut cells = if used == [0; 2] { 0 } else { flow[h] };
         while cells != 0 {
             let eight = cells.trailing_zeros() as usize / 8;
             found.count(eight, (cells >> (8 * eight)) as u8, used, common[h]);
@@ -980,9 +991,7 @@ pub fn report_in_phases(text: &[u8], out: &mut [u8], mut ended: impl FnMut(&'sta
     let (effects, given) = effects(&t, &flow);
     ended("effects and given-up locks");
     let locks = lock_sets(&flow, t.handles.len());
-    let held = Held::new(&t, &locks, &given);
-    ended("runs");
-    let runs = held.solve();
+    let runs = Held::new(&t, &locks, &given).solve();
     ended("held");
     let shared = Futures::new(&t, &flow, &effects).solve();
     ended("futures");
