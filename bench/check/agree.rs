@@ -62,6 +62,17 @@ fn stir(r: &mut Random, text: &mut [u8]) {
     }
 }
 
+/// A field that is off by a number in which a narrower one would be caught: 256 more, 65,536 more, negative, one more or less.
+fn nudge(r: &mut Random, text: &mut [u8]) {
+    let (i, j) = (r.below(text.len() / 49), r.below(8));
+    let field = &mut text[49 * i + 6 * j..49 * i + 6 * j + 6];
+    let Some(n) = std::str::from_utf8(field).ok().and_then(|f| f.trim().parse::<i64>().ok()) else { return };
+    let new = format!("{:>6}", [n + 256, n + 512, n + 1000, n + 65536, n + 1, n - 1, -n][r.below(7)]);
+    if new.len() == 6 {
+        field.copy_from_slice(new.as_bytes());
+    }
+}
+
 fn main() {
     let words: Vec<String> = std::env::args().skip(1).collect();
     let (seed, count) = (words[0].parse::<u64>().expect("SEED"), words[1].parse::<usize>().expect("COUNT"));
@@ -77,7 +88,11 @@ fn main() {
         }
         if r.one_in(3) {
             for _ in 0..1 + r.below(2) {
-                generate::damage(&mut r, &mut text);
+                if r.one_in(3) && text.len() >= 49 {
+                    nudge(&mut r, &mut text);
+                } else {
+                    generate::damage(&mut r, &mut text);
+                }
             }
         }
         let short = if r.one_in(10) { 1 + r.below(200) } else { 0 };
