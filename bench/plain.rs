@@ -348,7 +348,7 @@ impl Table {
     /// Puts down statement `s` of routine `r`, if the line from its second field on keeps its rule.
     #[inline(always)]
     fn statement(&mut self, r: usize, s: usize, line: &Line) -> Option<()> {
-        let op = u8::try_from(small(line, 1)?).ok()?;
+        let op = small(line, 1).filter(|&op| op <= RETURN as usize)? as u8;
         let one = line[18..] == ZEROS[18..];
         if matches!(op, READ | WRITE | TAKE | GIVE) {
             let x = small(line, 2)?;
