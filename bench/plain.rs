@@ -193,7 +193,10 @@ fn number(line: &Line, j: usize) -> Option<i32> {
 fn numbers(line: &Line) -> Option<[i32; 8]> {
     let (mut numbers, used) = ([0; 8], if line[18..] == ZEROS[18..] { 3 } else { 8 });
     for j in 0..used {
-        numbers[j] = number(line, j)?;
+        numbers[j] = match small(line, j) {
+            Some(n) => n as i32,
+            None => number(line, j)?,
+        };
     }
     (line[48] == b'\n').then_some(numbers)
 }
