@@ -41,7 +41,8 @@ pub struct Statement {
     with: [u8; 4],
 }
 
-/// A handle, its routine and kind in one number, and how many statements of each operation use it; `into` has the handles of its routine, from the first on, that a POINT puts into it.
+/// A handle: its routine and kind in one number, where a local starts, the handles that a POINT puts into it (counted from the routine's first), and how many
+/// statements of each operation use it.
 #[derive(Clone, Copy, Default)]
 struct Handle {
     key: u8,
@@ -51,7 +52,7 @@ struct Handle {
     uses: [u16; 8],
 }
 
-/// A routine: its first statement and handle, the numbers of both and of its parameters; the routines that it CALLs, and those that it STARTs.
+/// A routine: its statements from `first` to before `end`, its first handle and their number, its parameters, and the routines that it CALLs and STARTs.
 #[derive(Clone, Copy, Default)]
 struct Routine {
     first: u16,

@@ -73,8 +73,11 @@ fn phases(path: &str) {
             begin = Instant::now();
         }));
     }
-    let all: f64 = least.iter().map(|p| p.1).sum();
-    print!("phases, plain, {}: {all:.1} us", path.rsplit('/').next().unwrap());
+    let (all, name) = (least.iter().map(|p| p.1).sum::<f64>(), path.rsplit('/').next().unwrap());
+    if least.is_empty() {
+        return println!("phases, plain, {name}: refused");
+    }
+    print!("phases, plain, {name}: {all:.1} us");
     for (name, took) in &least {
         print!("; {name} {took:.2} ({:.0}%)", 100.0 * took / all);
     }

@@ -98,6 +98,7 @@ struct Held<'a> {
     runs: Vec<Run>,
     /// What is held before each routine's RETURNs.
     returns: [u16; 32],
+    /// By routine: the head of a run that CALLs it.
     callers: [u16; 32],
     /// Runs to look at, those never looked at, and the routines that have some.
     todo: Places,
@@ -143,6 +144,7 @@ impl<'a> Held<'a> {
         run.routine = r as u8;
     }
 
+    /// A way leads to run `head` with this set: whether less is held there now, and the run is to be looked at.
     fn lower(&mut self, head: usize, set: u16) -> bool {
         let run = &mut self.runs[head];
         let lower = run.held & !set != 0;
@@ -181,12 +183,13 @@ impl<'a> Held<'a> {
         let s = self.t.body[last];
         match s.op {
             RETURN => self.close(r, set),
-            JUMP => {
-                return if self.lower(s.x as usize, set) { (s.x as usize).min(last + 1) } else { last + 1 };
-            }
-            JUMPZ => {
-                self.lower(last + 1, set);
-                return if self.lower(s.x as usize, set) { (s.x as usize).min(last + 1) } else { last + 1 };
+            JUMP | JUMPZ => {
+                if s.op == JUMPZ {
+                    self.lower(last + 1, set);
+                }
+                if self.lower(s.x as usize, set) {
+                    return (s.x as usize).min(last + 1);
+                }
             }
             CALL => {
                 let after = self.call(s.x as usize, set);
@@ -372,6 +375,7 @@ impl<'a> Futures<'a> {
         least
     }
 
+    /// Run `head` leads to run `next`.
     fn reach(&mut self, head: usize, next: usize, end: usize) -> u16 {
         let least = if self.mark[next] == 0 { self.visit(next, end) } else { self.mark[next] };
         self.ahead[head] = join(self.ahead[head], self.ahead[next]);
@@ -393,6 +397,7 @@ impl<'a> Futures<'a> {
     }
 }
 
+/// By cell, eight together; and the stray GIVEs.
 struct Findings {
     reads: [[u16; 8]; 8],
     writes: [[u16; 8]; 8],
@@ -420,8 +425,7 @@ fn findings(t: &Table, flow: &[u64; 128], locks: &[[u16; 2]; 128], runs: &[Run])
     let mut found = Findings { reads: [[0; 8]; 8], writes: [[0; 8]; 8], common: [[all; 8]; 8], strays: 0, stray: Places::default() };
     let (mut common, mut head) = ([all; 128], 0);
     while head < t.body.len() {
-        let run = &runs[head];
-        let (mut held, end) = (run.held, run.last as usize + 1);
+        let (mut held, end) = (runs[head].held, runs[head].last as usize + 1);
         for s in head..end {
             let (op, x) = (t.body[s].op, t.body[s].x as usize);
             match op {
