@@ -33,8 +33,9 @@ const JUMP: u8 = 10;
 const JUMPZ: u8 = 11;
 const RETURN: u8 = 12;
 
-/// A statement: `x` is its handle, number, routine or target, `with` the arguments of CALL and START, or POINT's second handle.
+/// A statement, in 16 bytes, so that the engine finds it by a shift: `x` is its handle, number, routine or target, `with` the arguments of CALL and START, or POINT's second handle.
 #[derive(Clone, Copy, Default)]
+#[repr(align(16))]
 pub struct Statement {
     x: i32,
     op: u8,

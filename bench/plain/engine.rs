@@ -11,6 +11,10 @@ pub fn run(text: &[u8], schedule: &[u8], answers: &mut [u8], cells: &mut [i32]) 
     if answers.len() < schedule.len() || cells.len() < count {
         return (13, 0);
     }
+    let mut from = [0usize; 32];
+    for (base, q) in from.iter_mut().zip(&t.routines) {
+        *base = q.handle as usize;
+    }
     let mut frames = vec![[[0u16; 10]; 32]; 16];
     let (mut depth, mut accumulator, mut started) = ([0usize; 16], [0i32; 16], 1);
     let mut owner = [u8::MAX; 16];
@@ -35,7 +39,7 @@ pub fn run(text: &[u8], schedule: &[u8], answers: &mut [u8], cells: &mut [i32]) 
         } else {
             let frame = &mut frames[n][depth[n] - 1];
             let l = &body[frame[1] as usize];
-            let base = t.routines[frame[0] as usize].handle as usize;
+            let base = from[frame[0] as usize];
             let slot = |x: usize| 2 + x - base;
             frame[1] += 1;
             match l.op {
