@@ -62,6 +62,47 @@ fn stir(r: &mut Random, text: &mut [u8]) {
     }
 }
 
+/// The same table with its routines from 1 on in another order: the generator's name higher ones only.
+fn shuffle(r: &mut Random, text: &mut Vec<u8>) {
+    let Ok(t) = document::read(text) else { return };
+    let mut order: Vec<usize> = (0..t.routines.len()).collect();
+    for i in 2..order.len() {
+        order.swap(i, 1 + r.below(i));
+    }
+    // What has been put down so far, and where the old numbers went.
+    let (mut handles, mut statements) = (vec![0; t.handles.len()], vec![0; t.statements.len()]);
+    let place = |q: usize| order.iter().position(|&o| o == q).unwrap();
+    order.iter().flat_map(|&o| &t.routines[o].handles).enumerate().for_each(|(new, &old)| handles[old] = new);
+    order.iter().flat_map(|&o| t.body(o)).enumerate().for_each(|(new, old)| statements[old] = new);
+    let mut lines = vec![vec![1, t.cells, t.locks, t.handles.len(), t.routines.len(), t.statements.len()]];
+    for (new, &o) in order.iter().enumerate() {
+        let own = t.routines[o].handles.iter().map(|&h| t.handles[h]);
+        lines.extend(own.map(|h| vec![2, new, 1 + h.lock as usize, !h.parameter as usize, h.start]));
+    }
+    lines.extend(order.iter().map(|&o| vec![3, t.routines[o].count]));
+    let old = text.split_off(49 * lines.len());
+    text.clear();
+    let line = |l: &Vec<usize>| (0..8).flat_map(|j| format!("{:>6}", l.get(j).unwrap_or(&0)).into_bytes()).chain([b'\n']).collect::<Vec<u8>>();
+    lines.iter().for_each(|l| text.extend(line(l)));
+    for s in order.iter().flat_map(|&o| t.body(o)) {
+        use document::Op::*;
+        let named = |op: usize, q: usize, a: [usize; 4]| [vec![4, op, place(q)], a[..t.routines[q].parameters].iter().map(|&h| handles[h]).collect()].concat();
+        let new = match t.statements[s] {
+            Read(h) => vec![4, 1, handles[h]],
+            Write(h) => vec![4, 2, handles[h]],
+            Take(h) => vec![4, 5, handles[h]],
+            Give(h) => vec![4, 6, handles[h]],
+            Point(h, g) => vec![4, 7, handles[h], handles[g]],
+            Call(q, a) => named(8, q, a),
+            Start(q, a) => named(9, q, a),
+            Jump(x) => vec![4, 10, statements[x]],
+            JumpZero(x) => vec![4, 11, statements[x]],
+            Set(_) | Add(_) | Return => vec![],
+        };
+        text.extend(if new.is_empty() { old[49 * s..49 * s + 49].to_vec() } else { line(&new) });
+    }
+}
+
 /// A field that is off by a number in which a narrower one would be caught: 256 more, 65,536 more, negative, one more or less.
 fn nudge(r: &mut Random, text: &mut [u8]) {
     let (i, j) = (r.below(text.len() / 49), r.below(8));
@@ -77,7 +118,7 @@ fn main() {
     let words: Vec<String> = std::env::args().skip(1).collect();
     let (seed, count) = (words[0].parse::<u64>().expect("SEED"), words[1].parse::<usize>().expect("COUNT"));
     let mut r = Random(seed * 2 + 88172645463325252);
-    let mut met = [0usize; 14];
+    let (mut met, mut shuffled) = ([0usize; 14], 0);
     for path in &words[2..] {
         met[compare(&std::fs::read(path).expect(path), 0)] += 1;
     }
@@ -85,6 +126,10 @@ fn main() {
         let mut text = if r.one_in(8) { generate::guarded(&mut r) } else { generate::table(&mut r, i % 20 == 0) };
         if r.one_in(4) {
             stir(&mut r, &mut text);
+        }
+        if r.one_in(3) {
+            shuffle(&mut r, &mut text);
+            shuffled += (document::read(&text).is_ok()) as usize;
         }
         if r.one_in(3) {
             for _ in 0..1 + r.below(2) {
@@ -101,6 +146,6 @@ fn main() {
             compare_run(&text, &generate::schedule(&mut r));
         }
     }
-    println!("plain against the document: {} tables and {count} random texts, seed {seed}, no difference; answers 0 to 13 met {met:?}", words.len() - 2);
+    println!("plain against the document: {} tables and {count} random texts, seed {seed}, no difference; answers 0 to 13 met {met:?}; {shuffled} accepted ones with routines in another order", words.len() - 2);
     assert!(count < 20000 || met.iter().all(|&n| n > 0), "an answer was never met");
 }
