@@ -62,6 +62,42 @@ fn stir(r: &mut Random, text: &mut [u8]) {
     }
 }
 
+/// A table whose routines take and give locks round CALLs of each other, from several places: what is held hangs on every way in and out.
+fn locked(r: &mut Random) -> Vec<u8> {
+    let (routines, locks) = (2 + r.below(6), 1 + r.below(4));
+    let counts: Vec<usize> = (0..routines).map(|_| 4 + r.below(12)).collect();
+    let (handles, own) = (routines * (1 + locks), 1 + locks);
+    let mut lines = vec![vec![1, 1, locks, handles, routines, counts.iter().sum()]];
+    for q in 0..routines {
+        lines.push(vec![2, q, 1, 1, 0]);
+        lines.extend((0..locks).map(|k| vec![2, q, 2, 1, k]));
+    }
+    lines.extend(counts.iter().map(|&n| vec![3, n]));
+    let mut first = 0;
+    for (q, &count) in counts.iter().enumerate() {
+        let lock = |r: &mut Random| own * q + 1 + r.below(locks);
+        for k in 0..count {
+            lines.push(match r.below(12) {
+                _ if k + 1 == count => if r.one_in(5) { vec![4, 10, first + r.below(count)] } else { vec![4, 12] },
+                // The next routine is named at least once.
+                _ if k == 1 && q + 1 < routines => vec![4, if r.one_in(4) { 9 } else { 8 }, q + 1],
+                0..=3 => vec![4, 5, lock(r)],
+                4 | 5 => vec![4, 6, lock(r)],
+                6..=8 if q + 1 < routines => vec![4, if r.one_in(4) { 9 } else { 8 }, q + 1 + r.below(routines - q - 1)],
+                9 => vec![4, 11, first + r.below(count)],
+                10 if r.one_in(3) => vec![4, 12],
+                _ => vec![4, 1 + r.below(2), own * q],
+            });
+        }
+        first += count;
+    }
+    lines.iter().flat_map(line).collect()
+}
+
+fn line(l: &Vec<usize>) -> Vec<u8> {
+    (0..8).flat_map(|j| format!("{:>6}", l.get(j).unwrap_or(&0)).into_bytes()).chain([b'\n']).collect()
+}
+
 /// The same table with its routines from 1 on in another order: the generator's name higher ones only.
 fn shuffle(r: &mut Random, text: &mut Vec<u8>) {
     let Ok(t) = document::read(text) else { return };
@@ -82,7 +118,6 @@ fn shuffle(r: &mut Random, text: &mut Vec<u8>) {
     lines.extend(order.iter().map(|&o| vec![3, t.routines[o].count]));
     let old = text.split_off(49 * lines.len());
     text.clear();
-    let line = |l: &Vec<usize>| (0..8).flat_map(|j| format!("{:>6}", l.get(j).unwrap_or(&0)).into_bytes()).chain([b'\n']).collect::<Vec<u8>>();
     lines.iter().for_each(|l| text.extend(line(l)));
     for s in order.iter().flat_map(|&o| t.body(o)) {
         use document::Op::*;
@@ -123,7 +158,11 @@ fn main() {
         met[compare(&std::fs::read(path).expect(path), 0)] += 1;
     }
     for i in 0..count {
-        let mut text = if r.one_in(8) { generate::guarded(&mut r) } else { generate::table(&mut r, i % 20 == 0) };
+        let mut text = match r.below(8) {
+            0 => generate::guarded(&mut r),
+            1 | 2 => locked(&mut r),
+            _ => generate::table(&mut r, i % 20 == 0),
+        };
         if r.one_in(4) {
             stir(&mut r, &mut text);
         }
