@@ -1,4 +1,8 @@
 //! The proved check and engine against plain ones in Rust, in one run: microseconds a call, nanoseconds a step, ratios.
+//!
+//!     bench-check TABLE ..          proved against plain on each table, then the engine's steps
+//!     bench-check phases TABLE ..   where the plain check's time goes on each table
+//!     bench-check proved|plain TABLE   the one check a hundred times and nothing else, for counts of instructions (bench/check/phases)
 #[path = "../plain.rs"]
 mod plain;
 use std::hint::black_box;
@@ -9,15 +13,24 @@ extern "C" {
     fn station_run_packed(text: *const u8, text_length: usize, schedule: *const u8, schedule_length: usize, answers: *mut u8, answers_length: usize, cells: *mut i32, cells_length: usize) -> u64;
 }
 
-// The least of some runs, in microseconds a call.
-fn best(turns: usize, mut f: impl FnMut()) -> f64 {
-    let mut least = f64::MAX;
-    for _ in 0..15 {
-        let begin = Instant::now();
-        for _ in 0..turns {
-            f();
-        }
-        least = least.min(begin.elapsed().as_secs_f64() * 1e6 / turns as f64);
+fn proved(text: &[u8], out: &mut [u8]) -> u64 {
+    unsafe { station_report_packed(text.as_ptr(), text.len(), out.as_mut_ptr(), out.len()) }
+}
+
+fn timed(turns: usize, f: &mut impl FnMut()) -> f64 {
+    let begin = Instant::now();
+    for _ in 0..turns {
+        f();
+    }
+    begin.elapsed().as_secs_f64() * 1e6 / turns as f64
+}
+
+// The least of many short runs of the one and of the other, taken in turn, in microseconds a call.
+fn best(mut f: impl FnMut(), mut g: impl FnMut()) -> (f64, f64) {
+    let mut least = (f64::MAX, f64::MAX);
+    let (turns, other) = ((60.0 / timed(3, &mut f)) as usize + 1, (60.0 / timed(3, &mut g)) as usize + 1);
+    for _ in 0..100 {
+        least = (least.0.min(timed(turns, &mut f)), least.1.min(timed(other, &mut g)));
     }
     least
 }
@@ -25,20 +38,50 @@ fn best(turns: usize, mut f: impl FnMut()) -> f64 {
 fn check(path: &str, ratios: &mut Vec<f64>, large: &mut Vec<(usize, f64, String)>) {
     let text = std::fs::read(path).expect(path);
     let (mut a, mut b) = (vec![0u8; 65536], vec![0u8; 65536]);
-    let packed = unsafe { station_report_packed(text.as_ptr(), text.len(), a.as_mut_ptr(), a.len()) };
+    let packed = proved(&text, &mut a);
     let (number, line, bytes) = plain::report(&text, &mut b);
     assert_eq!(packed, (number as u64) << 48 | (line as u64) << 32 | bytes as u64, "{path}");
-    assert_eq!(a, b, "{path}");
-    let proved = best(20, || unsafe {
-        black_box(station_report_packed(text.as_ptr(), text.len(), a.as_mut_ptr(), a.len()));
-    });
-    let plainly = best(20, || {
+    assert!(a == b, "{path}: proved and plain print different bytes");
+    let one = || {
+        black_box(proved(&text, &mut a));
+    };
+    let other = || {
         black_box(plain::report(&text, &mut b));
-    });
+    };
+    let (proved, plainly) = best(one, other);
     let name = path.rsplit('/').next().unwrap();
-    println!("check {name}: {} bytes, proved {proved:.1} us, plain Rust {plainly:.1} us, ratio {:.2}", text.len(), proved / plainly);
+    println!("check {name}: {} bytes, proved {proved:.2} us, plain Rust {plainly:.2} us, ratio {:.2}", text.len(), proved / plainly);
     ratios.push(proved / plainly);
     large.push((text.len(), proved, name.to_string()));
+}
+
+/// The least time of each phase of the plain check, in microseconds: the clock's own time is taken off.
+fn phases(path: &str) {
+    let text = std::fs::read(path).expect(path);
+    let mut out = vec![0u8; 65536];
+    let mut least: Vec<(&str, f64)> = vec![];
+    let clock = (0..2000).map(|_| Instant::now().elapsed().as_secs_f64()).fold(f64::MAX, f64::min);
+    for _ in 0..3000 {
+        let (mut k, mut begin) = (0, Instant::now());
+        black_box(plain::report_in_phases(&text, &mut out, |name| {
+            let took = (begin.elapsed().as_secs_f64() - clock).max(0.0) * 1e6;
+            match least.get_mut(k) {
+                Some(phase) => phase.1 = phase.1.min(took),
+                None => least.push((name, took)),
+            }
+            k += 1;
+            begin = Instant::now();
+        }));
+    }
+    let (all, name) = (least.iter().map(|p| p.1).sum::<f64>(), path.rsplit('/').next().unwrap());
+    if least.is_empty() {
+        return println!("phases, plain, {name}: refused");
+    }
+    print!("phases, plain, {name}: {all:.1} us");
+    for (name, took) in &least {
+        print!("; {name} {took:.2} ({:.0}%)", 100.0 * took / all);
+    }
+    println!();
 }
 
 /// A table text: header, handles (routine, kind, origin, start), routines (statements each), statements (operation and operands).
@@ -97,18 +140,17 @@ fn steps(name: &str, text: &[u8], threads: u8, ratios: &mut Vec<f64>) {
     assert_eq!(packed, (number as u64) << 48 | (line as u64) << 32, "{name}");
     assert!(a == b && c == d, "{name}");
     let ran = a.iter().filter(|&&x| x == 0).count();
-    let setup = best(50, || {
-        one(0, &mut a, &mut c);
-    });
-    let whole = best(2, || {
-        one(length, &mut a, &mut c);
-    });
-    let plain_setup = best(50, || {
-        black_box(plain::run(text, &schedule[..0], &mut b, &mut d));
-    });
-    let plain_whole = best(2, || {
-        black_box(plain::run(text, &schedule, &mut b, &mut d));
-    });
+    let mut both = |n: usize| {
+        let proved = || {
+            one(n, &mut a, &mut c);
+        };
+        let plain = || {
+            black_box(plain::run(text, &schedule[..n], &mut b, &mut d));
+        };
+        best(proved, plain)
+    };
+    let (setup, plain_setup) = both(0);
+    let (whole, plain_whole) = both(length);
     let (step, plain_step) = ((whole - setup) * 1e3 / length as f64, (plain_whole - plain_setup) * 1e3 / length as f64);
     println!("steps, {name}: {ran} of {length} ran; set-up {setup:.2} us, plain {plain_setup:.2} us; a step {step:.2} ns, plain Rust {plain_step:.2} ns, ratio {:.2}", step / plain_step);
     ratios.push(step / plain_step);
@@ -130,10 +172,29 @@ fn evenness(mut large: Vec<(usize, f64, String)>) {
     }
 }
 
+/// One check a hundred times.
+fn repeat(which: &str, path: &str) {
+    let text = std::fs::read(path).expect(path);
+    let mut out = vec![0u8; 65536];
+    for _ in 0..100 {
+        if which == "proved" {
+            black_box(proved(&text, &mut out));
+        } else {
+            black_box(plain::report(&text, &mut out));
+        }
+    }
+}
+
 fn main() {
+    let words: Vec<String> = std::env::args().skip(1).collect();
+    match words.first().map(|w| w.as_str()) {
+        Some("phases") => return words[1..].iter().for_each(|path| phases(path)),
+        Some(which @ ("proved" | "plain")) => return repeat(which, &words[1]),
+        _ => {}
+    }
     let (mut checks, mut large, mut runs) = (vec![], vec![], vec![]);
-    for path in std::env::args().skip(1) {
-        check(&path, &mut checks, &mut large);
+    for path in &words {
+        check(path, &mut checks, &mut large);
     }
     for (name, text, threads) in kinds() {
         steps(name, &text, threads, &mut runs);
