@@ -19,7 +19,7 @@ use Rattle.report.specs.Flow.{passing, flowEdges, allFlowEdges, flowStarts, flo
 use Rattle.report.specs.Effect.{overCopy, upFrom, namingEdges, callEdges as upCallEdges, effects, gives, effectOf}
 use Rattle.report.specs.Future.{callers, nextEffects, futureEdges, futureStarts, futures}
 use Rattle.edges.specs.Equations.{Equation, Flow, Effects, Gives, Futures, edge, upEdges, nextEdges, callEdges, edgesAt, edgesFor, ownSet, inRoutine, effectAt, nextsEffect, futureInitial, initialAt, placesOf}
-use Rattle.edges.specs.EdgeLaws.{joined-same, Appended, Ready}
+use Rattle.edges.specs.EdgeLaws.{joined-same, Appended}
 use Rattle.edges.specs.RoomLaws.{ready-for}
 use Rattle.edges.specs.RoutineLaws.{copy-of}
 

@@ -3,7 +3,7 @@ use mathlib.Core.Path.{_≡_, refl, sym, ap, _∙_, subst}
 use mathlib.Core.Bool.{Bool, true, false}
 use mathlib.Core.List.{List, map}
 use mathlib.Core.Logic.{_⊎_, inl, inr, ⊎-elim}
-use Prim.Native.Nat.{ℕ, suc, _+_, _-_, _*_, _%_, _^_, _≤_, _<_}
+use Prim.Native.Nat.{ℕ, _+_, _-_, _*_, _%_, _^_, _≤_, _<_}
 use native.Mathlib.Nat.{lt-of-lt-of-le, lt-of-le-of-lt}
 use native.Mathlib.Omega.{arith}
 use lib.Arith.{lt-of-le-ne}
@@ -12,7 +12,7 @@ use lib.Bits.{bitOr, or-zero-r}
 use lib.ListN.{length, getD, set, List·getD-eq-default}
 use lib.Seq.{set-out, set-getD, getD-set-same}
 use borrow.Author.Tests.{eqb-true, eqb-false}
-use Rattle.sets.specs.Set.{has, union}
+use Rattle.sets.specs.Set.{union}
 use Rattle.sets.specs.Least.{SetList, Inside, room, Edge, edgeOf, putInto, along, least, Held, Closed}
 use Rattle.sets.specs.InsideLaws.{inside-refl, inside-trans, inside-at, room-le, room-less}
 use Rattle.sets.specs.LeastLaws.{number-edge, numbers-closed, along-length, along-grows, along-sets, along-inside, still-held, least-sets, least-holds-start, least-closed, least-is}

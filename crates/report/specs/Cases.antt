@@ -1,6 +1,6 @@
 -- A case is a table as its lines and the report that it is to have. Assumes nothing.
 use Prim.Native.Nat.{ℕ}
-use mathlib.Core.List.{List, [], _∷_, _++_, map}
+use mathlib.Core.List.{List, [], _∷_, _++_}
 use lib.IntN.{ℤ, pos}
 use lib.Count.{onesIn}
 use Rattle.sets.specs.Set.{has, firsts, one, union, inter, minus, subset, isEmpty, count, isSingle}

@@ -1,7 +1,6 @@
 -- The definitions, computed: a chain listed backwards, a cycle, edges past the end; and sets of none, one and two elements. Assumes nothing.
 use mathlib.Core.Path.{_≡_, refl}
 use mathlib.Core.List.{[], _∷_, map}
-use Prim.Native.Nat.{ℕ}
 use lib.Count.{onesIn, trailingZeros}
 use Rattle.sets.specs.Set.{union, minus, count, isSingle, only}
 use Rattle.sets.specs.Least.{same, room, settle, settled, putInto, edgeOf, along, passEdges, least}

@@ -139,10 +139,6 @@ pub union-below : (n : ℕ) {a b : ℕ} → a < 2 ^ n → b < 2 ^ n → union a 
 unfolding union
 union-below n ha hb = or-lt n _ _ ha hb
 
-pub inter-below : (n : ℕ) {a : ℕ} (b : ℕ) → a < 2 ^ n → inter a b < 2 ^ n
-unfolding inter
-inter-below n b ha = lt-of-le-of-lt (and-le-l _ b) ha
-
 pub minus-below : (n : ℕ) {a : ℕ} (b : ℕ) → a < 2 ^ n → minus a b < 2 ^ n
 minus-below n {a} b ha = below-of-has n (minus a b) (λ i k. has-minus a b i ∙ ap (λ (x : Bool). x && not (has b i)) (has-beyond n i ha k))
 
@@ -203,10 +199,6 @@ pub has-with : (s i j : ℕ) → i < 64 → has (with s i) j ≡ (has s j || eqb
 unfolding with
 has-with s i j h = has-union s (one i) j ∙ ap (λ (b : Bool). has s j || b) (has-one i j h)
 
-pub with-below : {s : ℕ} (i : ℕ) → s < 2 ^ 64 → with s i < 2 ^ 64
-unfolding with
-with-below i h = union-below 64 h (one-below i)
-
 -- ---- inclusion
 
 pub subset-has : (a b : ℕ) → subset a b ≡ true → (i : ℕ) → has a i ≡ true → has b i ≡ true
@@ -235,9 +227,6 @@ pub inside-le : (a b : ℕ) → ((i : ℕ) → has a i ≡ true → has b i ≡ 
 unfolding union
 inside-le a b f = let u : bitOr a b ≡ b = union-inside a b f in omega (arith, or-add-and a b, and-le-r a b)
 
-pub subset-le : (a b : ℕ) → subset a b ≡ true → a ≤ b
-subset-le a b h = inside-le a b (subset-has a b h)
-
 -- the union is the least set that holds both
 pub has-union-left : (a b i : ℕ) → has a i ≡ true → has (union a b) i ≡ true
 has-union-left a b i e = has-union a b i ∙ ap (λ (x : Bool). x || has b i) e
@@ -252,9 +241,6 @@ union-cases {C = C} a b i f g e = go (has a i) refl (sym (has-union a b i) ∙ e
     go true p q = f p
     go false p q = g q
 
-pub union-least : (a b c : ℕ) → subset a c ≡ true → subset b c ≡ true → subset (union a b) c ≡ true
-union-least a b c f g = has-subset (union a b) c (λ i. union-cases a b i (subset-has a c f i) (subset-has b c g i))
-
 -- what is left out of u turns inclusion round, and what is left out of that is the set again: greatest sets are least ones so seen
 pub minus-turns : (u a b : ℕ) → ((i : ℕ) → has a i ≡ true → has b i ≡ true) → (i : ℕ) → has (minus u b) i ≡ true → has (minus u a) i ≡ true
 minus-turns u a b f i e = has-minus u a i ∙ turn (has u i) (has a i) (has b i) (f i) (sym (has-minus u b i) ∙ e)
@@ -263,32 +249,6 @@ minus-turns u a b f i e = has-minus u a i ∙ turn (has u i) (has a i) (has b i)
     turn false y z g h = h
     turn true false z g h = refl
     turn true true z g h = ap not (sym (g refl)) ∙ h
-
-pub minus-twice : (u a : ℕ) → ((i : ℕ) → has a i ≡ true → has u i ≡ true) → minus u (minus u a) ≡ a
-minus-twice u a f =
-    same-elements (minus u (minus u a)) a
-    (λ i. has-minus u (minus u a) i ∙ ap (λ (x : Bool). has u i && not x) (has-minus u a i) ∙ back (has u i) (has a i) (f i))
-  where
-    back : (x y : Bool) → (y ≡ true → x ≡ true) → (x && not (x && not y)) ≡ y
-    back true true g = refl
-    back true false g = refl
-    back false true g = g refl
-    back false false g = refl
-
--- inside the first n: below 2 ^ n
-pub subset-firsts : (n s : ℕ) → n ≤ 64 → subset s (firsts n) ≡ true → s < 2 ^ n
-subset-firsts n s h k = below-of-has n s (λ i le. go i le (has s i) refl)
-  where
-    go : (i : ℕ) → n ≤ i → (x : Bool) → has s i ≡ x → has s i ≡ false
-    go i le false e = e
-    go i le true e = e ∙ sym (subset-has s (firsts n) k i e) ∙ has-firsts n i h ∙ le-ltb i n le
-
-pub below-subset : (n s : ℕ) → n ≤ 64 → s < 2 ^ n → subset s (firsts n) ≡ true
-below-subset n s h k = has-subset s (firsts n) (λ i e. has-firsts n i h ∙ go i e (ltb i n) refl)
-  where
-    go : (i : ℕ) → has s i ≡ true → (x : Bool) → ltb i n ≡ x → ltb i n ≡ true
-    go i e true l = l
-    go i e false l = l ∙ sym (has-beyond n i k (ltb-false i n l)) ∙ e
 
 -- ---- how many: the count goes by the lowest bit and the half, over the first k bits
 
@@ -328,10 +288,6 @@ onesIn-lt (suc k) a b (suc j) f l p q =
     let ih : onesIn k (a / 2) < onesIn k (b / 2) =
     onesIn-lt k (a / 2) (b / 2) j (half-inside a b f) (le-of-suc-le-suc l) (sym (has-suc a j) ∙ p) (sym (has-suc b j) ∙ q) in
     omega (arith, digit-le a b (f 0))
-
-pub count-inside : (a b : ℕ) → ((i : ℕ) → has a i ≡ true → has b i ≡ true) → count a ≤ count b
-unfolding count
-count-inside a b f = onesIn-le 64 a b f
 
 pub count-inside-less : (a b j : ℕ) → ((i : ℕ) → has a i ≡ true → has b i ≡ true) → j < 64 → has a j ≡ false → has b j ≡ true → count a < count b
 unfolding count

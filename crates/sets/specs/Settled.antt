@@ -3,10 +3,10 @@
 use mathlib.Core.Path.{_≡_, refl, sym, ap, _∙_, subst}
 use mathlib.Core.Bool.{Bool, true, false}
 use mathlib.Core.List.{List}
-use Prim.Native.Nat.{ℕ, zero, suc, _+_, _^_, _≤_, _<_}
+use Prim.Native.Nat.{ℕ, zero, suc, _≤_, _<_}
 use native.Mathlib.Nat.{le-refl}
 use native.Mathlib.Omega.{arith}
-use lib.ListN.{length, getD}
+use lib.ListN.{getD}
 use Rattle.sets.specs.Set.{has}
 use Rattle.sets.specs.Least.{SetList, Inside, Steady, same, room, settle, settled}
 use Rattle.sets.specs.InsideLaws.{inside-refl, inside-trans, inside-equal, same-true, same-refl, room-less}
@@ -92,16 +92,6 @@ module _ (n : ℕ) (pass : List ℕ → List ℕ) (steady : Steady n pass) where
   -- so there is one such list: what is between the start and the settled list, and closed, is the settled list
   pub settled-is : (s r : List ℕ) → SetList n s → SetList n r → Inside s r → Inside r (settled pass s) → Inside (pass r) r → r ≡ settled pass s
   settled-is s r h k a b c = inside-equal (k .places ∙ sym (settled-sets s h .places)) b (settled-inside s r h k a c)
-
-  -- more passes change nothing
-  pub settle-enough : (m : ℕ) (s : List ℕ) → SetList n s → room s ≤ m → settle pass m s ≡ settled pass s
-  settle-enough m s h l =
-      let both : SetList n (settle pass m s) × Inside s (settle pass m s) =
-      kept-with (Inside s) (λ r q a. inside-trans a (steady .grows r q)) m s h (inside-refl s) in
-      let closed : Inside (pass (settled pass s)) (settled pass s) = subst (λ (r : List ℕ). Inside r (settled pass s)) (sym (settled-closed s h)) (inside-refl _) in
-      settled-is s (settle pass m s) h (both .0) (both .1)
-      (settle-inside m s (settled pass s) h (settled-sets s h) (settled-holds-start s h) closed)
-      (subst (λ (r : List ℕ). Inside r (settle pass m s)) (sym (settle-closed m s h l)) (inside-refl _))
 
   -- what holds of every element at the start, and of what a pass puts if it holds of all there is, holds of every element at the end
   pub settled-induction : (P : ℕ → ℕ → Type 0)

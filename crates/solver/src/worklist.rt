@@ -55,7 +55,7 @@ fn follow_edges(
     while last < at {
         follow_edge(sets, edges, worklist, at - 1);
         last = at;
-        at = lists::wide(links[(1023 + at) % 3072]);
+        at = lists::wide(links[1024 + (at - 1) % 2048]);
     }
 }
 

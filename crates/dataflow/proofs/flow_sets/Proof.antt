@@ -4,8 +4,6 @@ use Rattle.edges.specs.Equations.{Flow}
 use mathlib.Core.List.{[]}
 use mathlib.Core.Bool.{false}
 use mathlib.Core.Path.{ap, _∙_}
-use Prim.Native.Nat.{ℕ}
-use mathlib.Core.List.{List}
 use Rattle.sets.specs.Least.{least}
 use borrow.Author.Needs.{needs}
 use Rattle.dataflow.proofs.flow_sets.Statement.{statement}

@@ -5,7 +5,7 @@ use Rattle.dataflow.specs.HalfLaws.{first-half, second-half, both-halves
 use Rattle.edges.specs.Equations.{Futures}
 use mathlib.Core.List.{List, _++_}
 use mathlib.Core.Path.{sym, ap₂, _∙_}
-use Prim.Native.Nat.{ℕ, _≤_, _/_}
+use Prim.Native.Nat.{ℕ}
 use native.Mathlib.Omega.{arith}
 use lib.ListN.{length}
 use lib.Seq.{length-take-le}

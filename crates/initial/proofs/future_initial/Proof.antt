@@ -2,7 +2,6 @@
 use Rattle.initial.specs.InitialLaws.{future-inside, future-behind}
 use mathlib.Core.Path.{_∙_}
 use native.Mathlib.Omega.{arith}
-use borrow.Author.Needs.{needs}
 use Rattle.initial.proofs.future_initial.Statement.{statement}
 use Rattle.initial.proofs.future_initial.Tie as tie
 

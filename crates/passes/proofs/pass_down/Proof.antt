@@ -1,5 +1,5 @@
 -- `passes::pass_down` meets its contract. Its loop has gone along the edges from k on. Assumes nothing.
-use Prim.Native.Nat.{_+_, _≤_, _<_}
+use Prim.Native.Nat.{_+_, _≤_}
 use Rattle.passes.specs.PassLaws.{passed-start, passed-as, passed-down, passed-down-two}
 use Rattle.passes.specs.Pass.{Passed}
 use lib.ListN.{length}

@@ -1,5 +1,5 @@
 -- `passes::pass_up` meets its contract. Its loop has gone along the edges before k. Assumes nothing.
-use Prim.Native.Nat.{_+_, _-_, _%_, _≤_, _<_}
+use Prim.Native.Nat.{_-_, _%_, _≤_}
 use Rattle.passes.specs.PassLaws.{passed-start, passed-as, passed-up, passed-up-two}
 use Rattle.passes.specs.Pass.{Passed}
 use lib.ListN.{length}

@@ -4,7 +4,7 @@ use Rattle.sets.proofs.Shift.{shifted}
 use Rattle.sets.specs.Set.{firsts}
 use borrow.Author.Needs.{needs}
 use lib.Pow.{pow-pos}
-use mathlib.Core.Path.{_≡_, sym, ap, _∙_}
+use mathlib.Core.Path.{_≡_, ap, _∙_}
 use native.Mathlib.Omega.{arith}
 use Rattle.sets.proofs.firsts.Statement.{statement}
 use Rattle.sets.proofs.firsts.Tie as tie

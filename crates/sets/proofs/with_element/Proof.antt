@@ -1,5 +1,4 @@
 -- `sets::with_element` meets its contract. Assumes nothing.
-use Prim.Native.Nat.{ℕ}
 use Rattle.sets.specs.Set.{with, union}
 use borrow.Author.Needs.{needs}
 use lib.Bits.{bitOr}

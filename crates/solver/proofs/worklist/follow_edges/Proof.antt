@@ -25,6 +25,9 @@ sub-follow-edge c = search needs
 follow-edge-requires : tie.Need-follow-edge-requires Inv-loop μ-loop
 follow-edge-requires c κs = search needs
 
+sub-wide : tie.Need-sub-wide Inv-loop μ-loop
+sub-wide c = search needs
+
 add-wide : tie.Need-add-wide Inv-loop μ-loop
 add-wide c = search needs
 
@@ -59,6 +62,7 @@ follow-edges-spec =
     loop-holds
     sub-follow-edge
     follow-edge-requires
+    sub-wide
     add-wide
     mul-wide
     element-copy-out-wide
