@@ -131,19 +131,24 @@ fn show_last(outcome: Outcome, cells: &[i32]) {
 }
 
 // An empty schedule; buffers that just fit; one answer and one cell too few.
+fn show_short(text: &[u8]) {
+    let mut answers = [99u8; 3];
+    let mut cells = [99i32; 1];
+    show(text, b"", &mut answers, &mut cells);
+    cells[0] = 98;
+    show(text, b"\x00\x01\x02", &mut answers, &mut cells);
+    cells[0] = 98;
+    show(text, b"\x00\x00\x00\x00", &mut answers, &mut cells);
+    show(text, b"\x00\x00\x00", &mut answers, &mut cells[..0]);
+}
+
+// What sum.table shows at the edges.
 fn show_edges() {
     let mut text = [0u8; 32978];
     let n = load(b"sum.table", &mut text);
     if n <= 32978 {
         show_sum(&text[..n]);
-        let mut answers = [99u8; 3];
-        let mut cells = [99i32; 1];
-        show(&text[..n], b"", &mut answers, &mut cells);
-        cells[0] = 98;
-        show(&text[..n], b"\x00\x01\x02", &mut answers, &mut cells);
-        cells[0] = 98;
-        show(&text[..n], b"\x00\x00\x00\x00", &mut answers, &mut cells);
-        show(&text[..n], b"\x00\x00\x00", &mut answers, &mut cells[..0]);
+        show_short(&text[..n]);
     }
 }
 

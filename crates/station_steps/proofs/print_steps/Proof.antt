@@ -14,35 +14,27 @@ Inv-loop schedule answers i₀ i = Unit {0}
 abbrev μ-loop : tie.MeasureT-loop
 μ-loop schedule answers i₀ i = length schedule - i
 
--- src/main.rt:20:5
 loop-holds : tie.Need-loop-holds Inv-loop μ-loop
 loop-holds c = tt
 
--- src/main.rt:22:24
 shared-slice-read-print-step : tie.Need-shared-slice-read-print-step Inv-loop μ-loop
 shared-slice-read-print-step c = search needs
 
--- src/main.rt:22:37
 shared-slice-read-print-step-2 : tie.Need-shared-slice-read-print-step-2 Inv-loop μ-loop
 shared-slice-read-print-step-2 c = search needs
 
--- src/main.rt:22:13
 print-step-requires : tie.Need-print-step-requires Inv-loop μ-loop
 print-step-requires c κs = tt
 
--- src/main.rt:24:9
 add-i : tie.Need-add-i Inv-loop μ-loop
 add-i c = search needs
 
--- src/main.rt:20:5
 loop-less : tie.Need-loop-less Inv-loop μ-loop
 loop-less c = search needs
 
--- src/main.rt:20:5
 loop-again : tie.Need-loop-again Inv-loop μ-loop
 loop-again c = tt
 
--- src/main.rt:18:1
 returns : tie.Need-returns Inv-loop μ-loop
 returns c = tt
 
