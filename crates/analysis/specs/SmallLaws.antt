@@ -34,18 +34,26 @@ use Rattle.analysis.specs.declared.Answer.{Answer}
 -- a refusal's number and line
 abbrev pub SmallVerdict : Verdict → Type 0
 SmallVerdict Accepted = Unit {0}
-SmallVerdict (Refused number line) = (number < 100) × (line < 1000)
+SmallVerdict (Refused number line) = (1 ≤ number) × (number < 100) × (line < 1000)
+
+-- the number of a refusal
+record Numbered (number : ℕ) : Type 0 where
+  some-number : 1 ≤ number
+  two-digits : number < 100
+
+numbered : (number : ℕ) → 1 ≤ number → number < 100 → Numbered number
+numbered number a b = record { some-number = a; two-digits = b }
 
 -- a refusal where a test says so, or what comes after
-refused-or : (b : Bool) (number line : ℕ) (later : Verdict) → number < 100 → (b ≡ true → line < 1000) → (b ≡ false → SmallVerdict later)
+refused-or : (b : Bool) (number line : ℕ) (later : Verdict) → Numbered number → (b ≡ true → line < 1000) → (b ≡ false → SmallVerdict later)
     → SmallVerdict (cond b (Refused number line) later)
-refused-or true number line later n l v = (n, l refl)
+refused-or true number line later n l v = (n .some-number, n .two-digits, l refl)
 refused-or false number line later n l v = v refl
 
 -- what comes after where a test passes, or a refusal without a line
-or-refused : (b : Bool) (number : ℕ) (later : Verdict) → number < 100 → (b ≡ true → SmallVerdict later) → SmallVerdict (cond b later (Refused number 0))
+or-refused : (b : Bool) (number : ℕ) (later : Verdict) → Numbered number → (b ≡ true → SmallVerdict later) → SmallVerdict (cond b later (Refused number 0))
 or-refused true number later n v = v refl
-or-refused false number later n v = (n, omega arith)
+or-refused false number later n v = (n .some-number, n .two-digits, omega arith)
 
 -- ---- the checks of the numbers
 
@@ -57,8 +65,8 @@ module _ (f : List ℤ) (h : Sized f) where
       let b : routines f ≤ 32 = h .routines-most in
       let unnamed = until (isNamed names) 1 (routines f - 1) in
       let cyclic = until (isAcyclic names) 0 (routines f) in
-      refused-or (ltb unnamed (routines f)) 11 (routineLine f unnamed) _ (omega arith) (λ e. omega (arith, ltb-true unnamed (routines f) e))
-      (λ _. refused-or (ltb cyclic (routines f)) 12 (routineLine f cyclic) Accepted (omega arith) (λ e. omega (arith, ltb-true cyclic (routines f) e)) (λ _. tt))
+      refused-or (ltb unnamed (routines f)) 11 (routineLine f unnamed) _ (numbered 11 (omega arith) (omega arith)) (λ e. omega (arith, ltb-true unnamed (routines f) e))
+      (λ _. refused-or (ltb cyclic (routines f)) 12 (routineLine f cyclic) Accepted (numbered 12 (omega arith) (omega arith)) (λ e. omega (arith, ltb-true cyclic (routines f) e)) (λ _. tt))
 
   statement-small : firstOf f (routines f) ≡ statements f → SmallVerdict (statementVerdict f)
   unfolding statementVerdict
@@ -68,8 +76,8 @@ module _ (f : List ℤ) (h : Sized f) where
       let c : statements f ≤ 512 = h .statements-most in
       let bad = badStatement f 0 (routines f) in
       let runs-on = until (endOk f) 0 (routines f) in
-      refused-or (ltb bad (statements f)) 9 (statementLine f bad) _ (omega arith) (λ e. omega (arith, ltb-true bad (statements f) e))
-      (λ _. refused-or (ltb runs-on (routines f)) 10 (statementLine f (lastOf f runs-on)) (namingVerdict f (namesIn f)) (omega arith)
+      refused-or (ltb bad (statements f)) 9 (statementLine f bad) _ (numbered 9 (omega arith) (omega arith)) (λ e. omega (arith, ltb-true bad (statements f) e))
+      (λ _. refused-or (ltb runs-on (routines f)) 10 (statementLine f (lastOf f runs-on)) (namingVerdict f (namesIn f)) (numbered 10 (omega arith) (omega arith))
       (λ e. omega (arith, ends-before f runs-on (routines f) (ltb-true runs-on (routines f) e)))
       (λ _. naming-small (namesIn f)))
 
@@ -80,17 +88,17 @@ module _ (f : List ℤ) (h : Sized f) where
       let b : routines f ≤ 32 = h .routines-most in
       let handle = until (handleOk f) 0 (handles f) in
       let routine = until (routineOk f) 0 (routines f) in
-      refused-or (ltb handle (handles f)) 6 (handleLine handle) _ (omega arith) (λ e. omega (arith, ltb-true handle (handles f) e))
-      (λ _. refused-or (ltb routine (routines f)) 7 (routineLine f routine) _ (omega arith) (λ e. omega (arith, ltb-true routine (routines f) e))
-      (λ _. or-refused (sumOk f) 8 (statementVerdict f) (omega arith) (λ e. statement-small (eqb-true (firstOf f (routines f)) (statements f) e))))
+      refused-or (ltb handle (handles f)) 6 (handleLine handle) _ (numbered 6 (omega arith) (omega arith)) (λ e. omega (arith, ltb-true handle (handles f) e))
+      (λ _. refused-or (ltb routine (routines f)) 7 (routineLine f routine) _ (numbered 7 (omega arith) (omega arith)) (λ e. omega (arith, ltb-true routine (routines f) e))
+      (λ _. or-refused (sumOk f) 8 (statementVerdict f) (numbered 8 (omega arith) (omega arith)) (λ e. statement-small (eqb-true (firstOf f (routines f)) (statements f) e))))
 
 numbers-small : (f : List ℤ) (lines : ℕ) → lines ≤ 673 → SmallVerdict (numbersVerdict f lines)
 unfolding numbersVerdict
 numbers-small f lines l =
     let line = until (leadingOk f) 1 (lines - 1) in
-    or-refused (headerOk f) 3 _ (omega arith)
-    (λ head. or-refused (lengthOk f lines) 4 _ (omega arith)
-    (λ _. refused-or (ltb line lines) 5 line (declarationVerdict f) (omega arith) (λ e. omega (arith, ltb-true line lines e))
+    or-refused (headerOk f) 3 _ (numbered 3 (omega arith) (omega arith))
+    (λ head. or-refused (lengthOk f lines) 4 _ (numbered 4 (omega arith) (omega arith))
+    (λ _. refused-or (ltb line lines) 5 line (declarationVerdict f) (numbered 5 (omega arith) (omega arith)) (λ e. omega (arith, ltb-true line lines e))
     (λ _. declaration-small f (header-sized f head))))
 
 -- ---- a text
@@ -103,14 +111,14 @@ text-short n e = leb-true n 32977 (both (ltb 0 n && eqb (n % 49) 0) (leb n 32977
 pub verdict-small : (text : List ℕ) → SmallVerdict (verdict text)
 unfolding verdict
 verdict-small text =
-    or-refused (textOk (length text)) 1 _ (omega arith)
+    or-refused (textOk (length text)) 1 _ (numbered 1 (omega arith) (omega arith))
     (λ e.
     let few : length text / 49 ≤ 673 = omega (arith, text-short (length text) e) in
     go (firstBad text) refl (numbersVerdict (numbersOf text) (length text / 49)) (numbers-small (numbersOf text) (length text / 49) few))
   where
     go : (b : Option ℕ) → firstBad text ≡ b → (v : Verdict) → SmallVerdict v → SmallVerdict (unlessBad b v)
     go none e v s = s
-    go (some i) e v s = (omega arith, omega (arith, first-bad-line text i e .below))
+    go (some i) e v s = (omega arith, omega arith, omega (arith, first-bad-line text i e .below))
 
 -- ---- an answer
 
@@ -140,4 +148,4 @@ answer-small text room = go (verdict text) refl (verdict-small text)
 
     go : (v : Verdict) → verdict text ≡ v → SmallVerdict v → SmallAnswer (answerBy v (reportText (tableIn text)) room)
     go Accepted e s = by-room (reportText (tableIn text)) (ltb room (length (reportText (tableIn text)))) (report-small e)
-    go (Refused number line) e s = record { number-small = s .0; line-small = s .1; bytes-small = omega arith }
+    go (Refused number line) e s = record { number-small = s .1; line-small = s .2; bytes-small = omega arith }
