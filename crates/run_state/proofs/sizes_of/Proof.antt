@@ -14,7 +14,7 @@ first-line-requires c κs = search needs
 
 returns : tie.Need-returns
 unfolding countsOf tableOf
-returns c = record { base-is = c .first-line .ensures; cells-are = ap (λ (k : Counts). k .cells) (c .before .counts-of .ensures); locks-are = ap (λ (k : Counts). k .locks) (c .before .counts-of .ensures) }
+returns c = record { base-is = c .first-line .ensures .0; cells-are = ap (λ (k : Counts). k .cells) (c .before .counts-of .ensures); locks-are = ap (λ (k : Counts). k .locks) (c .before .counts-of .ensures) }
 
 pub sizes-of-spec : {M : Type 1} → statement M
 sizes-of-spec = tie.close (tie.spec counts-of-requires first-line-requires returns)
