@@ -2,13 +2,13 @@
 use mathlib.Core.Path.{_≡_, refl, sym, ap, _∙_}
 use mathlib.Core.Bool.{Bool, true, false, cond}
 use mathlib.Core.List.{List}
-use Prim.Native.Nat.{ℕ, _+_, _*_, _≤_, _<_, min}
+use Prim.Native.Nat.{ℕ, _*_, _≤_, _<_, min}
 use native.Mathlib.Omega.{arith}
 use lib.Dec.{ltb}
 use lib.IntN.{ℤ, pos}
 use lib.ListN.{length, take, replicate, length-replicate}
 use Rattle.lines.specs.Line.{numbersOf, lineCount}
-use Rattle.table.specs.Header.{handles, routines, statements, statementLine}
+use Rattle.table.specs.Header.{routines, statements, statementLine}
 use Rattle.table.specs.Table.{tableOf}
 use Rattle.table.specs.Accepted as Facts
 use Rattle.table.specs.AcceptedLaws.{accepted}
@@ -25,7 +25,8 @@ use Rattle.analysis.specs.Reported.{tableIn, turnedDown, answerOf, repor
 use Rattle.analysis.specs.declared.Answer.{Answer}
 use Rattle.analysis.specs.declared.Examined.{Examined}
 use Rattle.analysis.specs.Lent.{Lent, Room}
-use Rattle.analysis.specs.SetsLaws.{routines-few, statements-few}
+use Rattle.findings.specs.FoundLaws.{statements-few}
+use Rattle.analysis.specs.SetsLaws.{routines-few}
 
 -- ---- what was printed: a report is never empty, so no byte means no room
 
@@ -123,10 +124,11 @@ module _ (N n m : ℕ) (text : List ℕ) (count : ℕ) (e : count ≡ lineCount 
 
   pub sized : min 1600 (3 * N) ≤ n → min 2048 (4 * N) ≤ m
       → (length (take (8 * count) (replicate (8 * N) (pos 0))) ≡ 8 * lineCount text) × Room (lineCount text) (replicate n 0) (replicate m 0)
-  sized a b =
-      (sym sized-long ∙ ap (λ (k : ℕ). 8 * k) e,
-      record {
-        zeros = ap (λ (k : ℕ). replicate {A = ℕ} k 0) (sym (length-replicate {A = ℕ} n 0));
-        work-long = omega (arith, length-replicate {A = ℕ} n 0);
-        edges-long = omega (arith, length-replicate {A = ℕ} m 0);
-      })
+  sized a b = (
+    sym sized-long ∙ ap (λ (k : ℕ). 8 * k) e,
+    record {
+      zeros = ap (λ (k : ℕ). replicate {A = ℕ} k 0) (sym (length-replicate {A = ℕ} n 0));
+      work-long = omega (arith, length-replicate {A = ℕ} n 0);
+      edges-long = omega (arith, length-replicate {A = ℕ} m 0);
+    },
+  )

@@ -8,14 +8,12 @@ use lib.IntN.{ℤ}
 use lib.ListN.{length, take, drop, replicate, length-append, length-take, length-drop}
 use lib.Seq.{take-at, drop-at}
 use borrow.Rule.Slice.PartMut.{putMid, take-put}
-use Rattle.table.specs.Header.{handles, routines, statements}
+use Rattle.table.specs.Header.{handles, routines}
 use Rattle.table.specs.Table.{Table, tableOf}
 use Rattle.table.specs.Accepted.{Accepted}
 use Rattle.table.specs.CutLaws.{take-replicate}
-use Rattle.table.specs.LookupLaws.{handles-length, routines-length, statements-length}
-use Rattle.table.specs.TabulateLaws.{length-tabulate}
+use Rattle.table.specs.LookupLaws.{handles-length, routines-length}
 use Rattle.report.specs.Layout.{Layout, oneEach}
-use Rattle.report.specs.Greatest.{greatest}
 use Rattle.report.specs.Flow.{flowSets}
 use Rattle.report.specs.Effect.{effects, gives}
 use Rattle.report.specs.Held.{heldSets}
@@ -57,11 +55,6 @@ module _ (t : Table) where
         e ∙ ap₂ {C = List ℕ} (λ (x y : List ℕ). x ++ y) (ap₂ {C = List ℕ} (λ (l m : List ℕ). futures t one l m false) is r)
         (ap₂ {C = List ℕ} (λ (l m : List ℕ). futures t one l m true) is w)
 
--- the held sets of a table are as many as its statements
-pub held-length : (f : List ℤ) (held : List ℕ) → held ≡ setsIn (tableOf f) .held → length held ≡ statements f
-unfolding setsOf heldSets greatest oneEach
-held-length f held e = ap length e ∙ length-tabulate (length (tableOf f .statements)) _ ∙ statements-length f
-
 -- ---- how many there are of each
 
 module _ (f : List ℤ) (acc : Accepted (tableOf f)) where
@@ -70,9 +63,6 @@ module _ (f : List ℤ) (acc : Accepted (tableOf f)) where
 
   pub routines-few : routines f ≤ 32
   routines-few = let h : length (tableOf f .routines) ≤ 32 = acc .routines-most in omega (arith, routines-length f)
-
-  pub statements-few : statements f ≤ 512
-  statements-few = let h : length (tableOf f .statements) ≤ 512 = acc .statements-most in omega (arith, statements-length f)
 
 -- ---- the first places of a list of zeros, filled anew
 

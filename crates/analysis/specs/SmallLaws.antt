@@ -1,9 +1,9 @@
 -- The numbers of a verdict and of an answer are small: packing or printing them loses nothing. Assumes nothing.
-use mathlib.Core.Path.{_≡_, refl, sym, _∙_, subst}
+use mathlib.Core.Path.{_≡_, refl}
 use mathlib.Core.Bool.{Bool, true, false, cond, _&&_}
 use mathlib.Core.List.{List}
 use mathlib.Core.Option.{Option, none, some}
-use Prim.Native.Nat.{ℕ, _+_, _-_, _*_, _/_, _%_, _^_, _≤_, _<_}
+use Prim.Native.Nat.{ℕ, _-_, _/_, _%_, _^_, _≤_, _<_}
 use native.Mathlib.Omega.{arith}
 use lib.Dec.{eqb, leb, ltb}
 use lib.IntN.{ℤ}
@@ -28,7 +28,7 @@ use Rattle.report.specs.Layout.{oneEach}
 use Rattle.report.specs.Findings.{setsOf, isStray}
 use Rattle.report.specs.Report.{reportText}
 use Rattle.report.specs.ReportTextLaws.{report-length, count-most}
-use Rattle.analysis.specs.Reported.{tableIn, answerOf, answerBy, turnedDown, reportAnswer}
+use Rattle.analysis.specs.Reported.{tableIn, answerBy, turnedDown, reportAnswer}
 use Rattle.analysis.specs.declared.Answer.{Answer}
 
 -- a refusal's number and line

@@ -2,8 +2,8 @@
 mod stages;
 
 ghost use mathlib.Core.Path.{_≡_};
-ghost use Prim.Native.Nat.{_*_, _≤_, min};
-ghost use lib.ListN.{length, replicate};
+ghost use Prim.Native.Nat.{_*_, _≤_};
+ghost use lib.ListN.{length};
 ghost use Rattle.lines.specs.Line.{lineCount};
 ghost use Rattle.analysis.specs.Reported.{reportAnswer, reportedInto, loadable, examinedIn};
 ghost use Rattle.analysis.specs.Lent.{Room};
@@ -75,7 +75,13 @@ fn report_short(text: &[u8], out: &mut [u8]) -> Examined
     let mut numbers = [0i32; 512];
     let mut work = [0u64; 192];
     let mut edges = [0u32; 256];
-    report_within(text, &mut numbers[..count], &mut work[..], &mut edges[..], out)
+    report_within(
+        text,
+        &mut numbers[..count],
+        &mut work[..],
+        &mut edges[..],
+        out,
+    )
 }
 
 // The report of a text of 192 lines at most.
@@ -88,7 +94,13 @@ fn report_middle(text: &[u8], out: &mut [u8]) -> Examined
     let mut numbers = [0i32; 1536];
     let mut work = [0u64; 576];
     let mut edges = [0u32; 768];
-    report_within(text, &mut numbers[..count], &mut work[..], &mut edges[..], out)
+    report_within(
+        text,
+        &mut numbers[..count],
+        &mut work[..],
+        &mut edges[..],
+        out,
+    )
 }
 
 // The report of any text.
@@ -100,7 +112,13 @@ fn report_long(text: &[u8], out: &mut [u8]) -> Examined
     let mut numbers = [0i32; 5384];
     let mut work = [0u64; 1600];
     let mut edges = [0u32; 2048];
-    report_within(text, &mut numbers[..count], &mut work[..], &mut edges[..], out)
+    report_within(
+        text,
+        &mut numbers[..count],
+        &mut work[..],
+        &mut edges[..],
+        out,
+    )
 }
 
 // The report of a text, in lists of a size for it. A text of no length that a text has is refused before any list is cleared.

@@ -16,13 +16,7 @@ ghost use Rattle.analysis.specs.Lent.{Lent};
 use report_printer::Printed;
 
 // Leaves in `held` what is held at each statement.
-fn find_held(
-    numbers: &[i32],
-    first: &[usize],
-    flow: &[u64],
-    held: &mut [u64],
-    edges: &mut [u32],
-)
+fn find_held(numbers: &[i32], first: &[usize], flow: &[u64], held: &mut [u64], edges: &mut [u32])
     requires { ⌜ Accepted (tableOf (now numbers)) ⌝ }
     requires { ⌜ now first ≡ firstStatements (now numbers) ⌝ }
     requires { ⌜ now flow ≡ setsIn (tableOf (now numbers)) .flow ⌝ }
@@ -143,9 +137,15 @@ pub fn examine(numbers: &[i32], work: &mut [u64], edges: &mut [u32], out: &mut [
     ensures buffer { λ _. ⌜ now (out .exit) ≡ printedOver (reportText (tableOf (now (numbers .entry)))) (now (out .entry)) ⌝ }
 {
     let handle = declarations::first_handles(numbers);
-    let counts = declarations::parameter_counts(numbers);
+    let counts = declarations::parameter_counts(numbers, &handle[..]);
     let handles = table::field_of(numbers, 0, 3);
     let mut flow = [0u64; 128];
-    dataflow::flow_sets(numbers, &handle[..], &counts[..], edges, &mut flow[..handles]);
+    dataflow::flow_sets(
+        numbers,
+        &handle[..],
+        &counts[..],
+        edges,
+        &mut flow[..handles],
+    );
     with_flow(numbers, &flow[..handles], work, edges, out)
 }

@@ -49,12 +49,6 @@ folding-done op last count f acc s h z =
 
 -- ---- the report's joins
 
-pub fold-same : (op : ℕ → ℕ → ℕ) (last from n : ℕ) (f g : ℕ → ℕ) → ((i : ℕ) → i < from + n → f i ≡ g i) → foldFrom op last from n f ≡ foldFrom op last from n g
-unfolding foldFrom
-fold-same op last from zero f g e = refl
-fold-same op last from (suc n) f g e =
-    ap₂ op (e from (omega arith)) (fold-same op last (from + 1) n f g (λ i h. e i (omega arith)))
-
 pub fold-union : (from n : ℕ) (f : ℕ → ℕ) → foldFrom union 0 from n f ≡ unionFrom from n f
 unfolding foldFrom unionFrom
 fold-union from zero f = refl

@@ -55,7 +55,7 @@ module _ (f : List ℤ) where
   pub statements-few : Accepted t → statements f ≤ 512
   statements-few acc = let h : length (t .statements) ≤ 512 = acc .statements-most in omega (arith, statements-length f)
 
-  pub cells-few : Accepted t → cells f ≤ 64
+  cells-few : Accepted t → cells f ≤ 64
   cells-few acc = let h : t .cells ≤ 64 = acc .cells-most in omega (arith, cells-is f)
 
   -- ---- shared cells, from the effects and the futures

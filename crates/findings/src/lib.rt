@@ -100,14 +100,7 @@ pub fn note_accesses(numbers: &[i32], flow: &[u64], held: &[u64], noted: &mut [u
     let mut s = table::field_of(numbers, 0, 5);
     while 0 < s {
         s -= 1;
-        note_access(
-            numbers,
-            s,
-            base + s,
-            flow,
-            lists::set_at(held, s),
-            noted,
-        );
+        note_access(numbers, s, base + s, flow, lists::set_at(held, s), noted);
     }
 }
 

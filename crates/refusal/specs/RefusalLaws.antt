@@ -1,14 +1,14 @@
 -- Line 50 has 49 bytes, and is written where both its numbers are fields and there is room. Assumes nothing.
 use mathlib.Core.Path.{_≡_, refl, sym, ap, _∙_}
 use mathlib.Core.Bool.{Bool, true, false, cond, _&&_}
-use mathlib.Core.List.{List, [], _∷_, _++_, map}
-use Prim.Native.Nat.{ℕ, _+_, _≤_, _<_}
+use mathlib.Core.List.{List, [], _∷_, map}
+use Prim.Native.Nat.{ℕ, _≤_, _<_}
 use native.Mathlib.Omega.{arith}
 use lib.Dec.{leb, ltb}
 use lib.IntN.{ℤ, pos}
-use lib.ListN.{length, drop}
+use lib.ListN.{length}
 use borrow.Author.Tests.{lt-ltb, le-ltb, le-leb, lt-leb, ltb-true, leb-true}
-use Rattle.lines.specs.Line.{lineText, allInField}
+use Rattle.lines.specs.Line.{allInField}
 use Rattle.lines.specs.LineLaws.{all-none, all-good, line-text-length}
 use Rattle.line_printer.specs.Print.{printedAt}
 use Rattle.refusal.specs.Refusal.{refusalLine, refusalText, refusalIn, over}

@@ -1,11 +1,9 @@
 -- Numbers as fields of a line: they are below 1,000,000, and a signed word holds them. Assumes nothing.
 use mathlib.Core.Path.{_≡_, ap, _∙_}
 use mathlib.Core.Bool.{Bool, true, false}
-use mathlib.Core.List.{List, [], _∷_, map}
-use Prim.Native.Nat.{ℕ, _<_, _^_}
+use Prim.Native.Nat.{ℕ, _<_}
 use native.Mathlib.Omega.{arith}
 use lib.IntN.{ℤ, pos}
-use lib.ListN.{getD}
 use borrow.Author.Tests.{ltb-true}
 use mir.Syntax.{w32}
 use mir.Val.{toZ, ofZ}

@@ -1,18 +1,24 @@
 -- Lines written one behind the other: the loop's invariant, and what a buffer holds after each. Assumes nothing.
 use mathlib.Core.Path.{_≡_, refl, sym, ap, ap₂, _∙_, subst}
-use mathlib.Core.Bool.{Bool, true, false}
+use mathlib.Core.Bool.{true, false}
 use mathlib.Core.List.{List, [], _∷_, _++_, map, append-nil, append-assoc, List·Memᴰ, List·Memᴰ·head}
-use Prim.Native.Nat.{ℕ, zero, suc, _+_, _-_, _*_, _≤_, _<_, zero-le}
+use Prim.Native.Nat.{ℕ, suc, _+_, _-_, _*_, _≤_, _<_, zero-le}
 use native.Mathlib.Omega.{arith}
 use native.Mathlib.Nat.{add-zero, add-assoc, le-refl}
-use lib.Dec.{leb}
 use lib.IntN.{ℤ, pos}
-use lib.ListN.{length, take, drop, getD, length-append, length-map, length-take, length-drop, take-append-drop}
+use lib.ListN.{length, take, drop, length-append, length-map, length-take, length-drop, take-append-drop}
 use lib.Seq.{take-length, take-paste, drop-paste, drop-drop, paste}
+<<<<<<< HEAD
 use borrow.Author.Tests.{le-leb, ltb-true}
 use Rattle.lines.specs.Line.{lineText, allInField}
 use Rattle.lines.specs.LineLaws.{all-at, line-text-length}
 use Rattle.line_printer.specs.Print.{printedAt}
+=======
+use borrow.Author.Tests.{le-leb}
+use Rattle.lines.specs.Line.{lineText}
+use Rattle.lines.specs.LineLaws.{line-text-length}
+use Rattle.line_printer.specs.Print.{printedAt}
+>>>>>>> analysis
 use Rattle.report.specs.Over.{joinedFrom}
 use Rattle.report.specs.Report.{textOf, strayLine}
 use Rattle.report.specs.ReportTextLaws.{Line8}
@@ -23,7 +29,7 @@ use Rattle.report_printer.specs.Lines.{textFrom, putAt, totalNumbers, ce
 -- ---- lines
 
 -- the bytes of a line are 49
-pub line-long : (l : List ℕ) → Line8 l → length (lineText (map pos l)) ≡ 49
+line-long : (l : List ℕ) → Line8 l → length (lineText (map pos l)) ≡ 49
 line-long l h =
     let a : length (lineText (map pos l)) ≡ 6 * length (map pos l) + 1 = line-text-length (map pos l) (h .range) in
     let b : length (map pos l) ≡ length l = length-map l pos in
@@ -57,12 +63,12 @@ put-paste : (out : List ℕ) (at : ℕ) (a : List ℕ) → putAt out at a ≡ pa
 unfolding putAt
 put-paste out at a = rw (take-length a)
 
-pub put-none : (out : List ℕ) (at : ℕ) → putAt out at [] ≡ out
+put-none : (out : List ℕ) (at : ℕ) → putAt out at [] ≡ out
 unfolding putAt
 put-none out at = rw (append-nil (take at out), add-zero at) (take-append-drop at out)
 
 -- one behind the other
-pub put-next : (out : List ℕ) (at : ℕ) (a b : List ℕ) → at ≤ length out → putAt (putAt out at a) (at + length a) b ≡ putAt out at (a ++ b)
+put-next : (out : List ℕ) (at : ℕ) (a b : List ℕ) → at ≤ length out → putAt (putAt out at a) (at + length a) b ≡ putAt out at (a ++ b)
 unfolding putAt
 put-next out at a b h =
     let p : List ℕ = paste out at a (length a) in
@@ -83,7 +89,7 @@ pub put-line : (out : List ℕ) (at : ℕ) (l : List ℕ) → Line8 l → at + 4
 unfolding putAt
 put-line out at l h r = rw (h .range, le-leb (at + 49) (length out) r, line-long l h)
 
-pub put-length : (out : List ℕ) (at : ℕ) (a : List ℕ) → at + length a ≤ length out → length (putAt out at a) ≡ length out
+put-length : (out : List ℕ) (at : ℕ) (a : List ℕ) → at + length a ≤ length out → length (putAt out at a) ≡ length out
 unfolding putAt
 put-length out at a h =
     let x : length (take at out ++ a ++ drop (at + length a) out) ≡ length (take at out ++ a) + length (drop (at + length a) out) = length-append (take at out ++ a) (drop (at + length a) out) in

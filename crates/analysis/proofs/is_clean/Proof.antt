@@ -2,7 +2,6 @@
 use mathlib.Core.Path.{ap}
 use Rattle.analysis.specs.declared.Examined.{Examined}
 use Rattle.analysis.specs.Reported.{examinedIn}
-use denote.Ref.{now}
 use borrow.Author.Needs.{needs}
 use Rattle.analysis.proofs.is_clean.Statement.{statement}
 use Rattle.analysis.proofs.is_clean.Tie as tie

@@ -3,7 +3,6 @@ use mathlib.Core.Path.{ap}
 use Rattle.analysis.specs.declared.Answer.{Answer}
 use Rattle.analysis.specs.declared.Examined.{Examined}
 use Rattle.analysis.specs.Reported.{examinedIn}
-use denote.Ref.{now}
 use borrow.Author.Needs.{needs}
 use Rattle.analysis.proofs.report.Statement.{statement}
 use Rattle.analysis.proofs.report.Tie as tie

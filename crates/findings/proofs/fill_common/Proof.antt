@@ -1,7 +1,6 @@
 -- `findings::fill_common` meets its contract. Assumes nothing.
 use Rattle.table.specs.TabulateLaws.{Begun, begun-none, begun-next}
-use Prim.Native.Nat.{ℕ, _-_, _≤_, zero-le}
-use mathlib.Core.List.{List}
+use Prim.Native.Nat.{_-_, _≤_, zero-le}
 use mathlib.Core.Path.{_≡_, refl}
 use native.Mathlib.Omega.{arith}
 use borrow.Author.Needs.{needs}

@@ -1,10 +1,8 @@
 -- `findings::note_access` meets its contract: READ, WRITE, and all others. Assumes nothing.
-use mathlib.Core.Path.{_≡_, sym, ap, _∙_}
-use mathlib.Core.Bool.{Bool}
+use mathlib.Core.Path.{sym, ap, _∙_}
 use lib.ListN.{getD}
 use Prim.Native.Nat.{ℕ}
 use native.Mathlib.Omega.{arith}
-use Rattle.findings.specs.Steps.{ownBy}
 use Rattle.findings.specs.NoteLaws.{noted-read, noted-write, noted-none}
 use Rattle.findings.specs.LineLaws.{read-reads, read-writes, write-reads, write-writes, other-none}
 use denote.Ref.{now}

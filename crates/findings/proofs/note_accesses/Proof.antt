@@ -1,10 +1,10 @@
 -- `findings::note_accesses` meets its contract. Assumes nothing.
-use mathlib.Core.Path.{_≡_, ap, _∙_}
+use mathlib.Core.Path.{_≡_}
 use native.Mathlib.Omega.{arith}
 use Prim.Native.Nat.{_≤_, _<_, _^_}
 use denote.Ref.{now}
 use Rattle.sets.specs.Set.{firsts}
-use Rattle.table.specs.Header.{locks, statements, statementLine}
+use Rattle.table.specs.Header.{statements, statementLine}
 use Rattle.findings.specs.NoteLaws.{Noting, noting-start, noting-next, noting-done, noting-few}
 use Rattle.findings.specs.FoundLaws.{statements-few}
 use borrow.Author.Needs.{needs}

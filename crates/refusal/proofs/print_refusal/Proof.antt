@@ -1,6 +1,6 @@
 -- `refusal::print_refusal` meets its contract. Assumes nothing.
 use mathlib.Core.Path.{_≡_, sym, ap, _∙_}
-use mathlib.Core.List.{List, [], _∷_, map}
+use mathlib.Core.List.{[], _∷_, map}
 use Prim.Native.Nat.{ℕ, _<_, _≤_}
 use mir.Syntax.{w32}
 use mir.Val.{toZ}

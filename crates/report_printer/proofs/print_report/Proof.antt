@@ -1,5 +1,5 @@
 -- `report_printer::print_report` meets its contract. Assumes nothing.
-use mathlib.Core.Path.{_≡_, sym, ap, _∙_}
+use mathlib.Core.Path.{_≡_, _∙_}
 use Prim.Native.Nat.{_+_, _*_, _≤_, _<_}
 use native.Mathlib.Omega.{arith}
 use lib.ListN.{length}
@@ -7,7 +7,6 @@ use denote.Ref.{now}
 use Rattle.table.specs.Header.{cells}
 use Rattle.table.specs.Table.{tableOf}
 use Rattle.report.specs.Report.{reportText}
-use Rattle.findings.specs.Steps.{unguardedIn}
 use Rattle.report_printer.specs.ReportedLaws.{report-bytes, totals-are, no-room, has-room}
 use borrow.Author.Needs.{needs}
 use Rattle.report_printer.proofs.print_report.Statement.{statement}

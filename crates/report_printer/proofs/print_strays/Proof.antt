@@ -1,8 +1,8 @@
 -- `report_printer::print_strays` meets its contract. Assumes nothing.
 use native.Mathlib.Omega.{arith}
-use mathlib.Core.Path.{_≡_, sym, ap, _∙_}
+use mathlib.Core.Path.{_≡_}
 use mathlib.Core.List.{_∷_, []}
-use Prim.Native.Nat.{ℕ, _-_, _<_, _^_}
+use Prim.Native.Nat.{_-_, _<_, _^_}
 use Rattle.table.specs.Header.{statements, statementLine}
 use Rattle.report.specs.Report.{strayLine}
 use Rattle.findings.specs.Steps.{strayIn}
