@@ -8,17 +8,10 @@ use native.Mathlib.Nat.{add-zero, add-assoc, le-refl}
 use lib.IntN.{ℤ, pos}
 use lib.ListN.{length, take, drop, length-append, length-map, length-take, length-drop, take-append-drop}
 use lib.Seq.{take-length, take-paste, drop-paste, drop-drop, paste}
-<<<<<<< HEAD
-use borrow.Author.Tests.{le-leb, ltb-true}
-use Rattle.lines.specs.Line.{lineText, allInField}
-use Rattle.lines.specs.LineLaws.{all-at, line-text-length}
-use Rattle.line_printer.specs.Print.{printedAt}
-=======
 use borrow.Author.Tests.{le-leb}
 use Rattle.lines.specs.Line.{lineText}
 use Rattle.lines.specs.LineLaws.{line-text-length}
 use Rattle.line_printer.specs.Print.{printedAt}
->>>>>>> analysis
 use Rattle.report.specs.Over.{joinedFrom}
 use Rattle.report.specs.Report.{textOf, strayLine}
 use Rattle.report.specs.ReportTextLaws.{Line8}
