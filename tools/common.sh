@@ -92,7 +92,7 @@ build() {
         stop "$why, and rt is not on the path: it is the prover of the kit $(pinned KIT) (README, The kit)"
     log=$here/target/build.log
     mkdir -p "$here/target" 2> /dev/null
-    { : > "$log"; } 2> /dev/null || stop "$why, and $here/target may not be written"
+    (: > "$log") 2> /dev/null || stop "$why, and $here/target may not be written"
     count=$(crates_below "$crate" | wc -l)
     say "$why: proving and building $((count)) crates, some minutes; log: $log"
     kit=$(rt version 2> /dev/null)

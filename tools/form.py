@@ -16,7 +16,7 @@ def numbers_of(line):
 
 
 def line_of(*numbers):
-    return "".join("%6d" % n for n in list(numbers) + [0] * (8 - len(numbers))) + "\n"
+    return "%6d%6d%6d%6d%6d%6d%6d%6d\n" % (numbers + (0,) * (8 - len(numbers)))
 
 
 class Handle:

@@ -28,7 +28,7 @@ Exit status:
 LIMITS = {"cell": 64, "lock": 16, "routine": 32, "statement": 512, "handle": 128}
 KEYWORDS = {"cells", "locks", "routine", "local", "cell", "lock"} | {name.lower() for name in OPERATIONS if name}
 CODES = {name: i for i, name in enumerate(OPERATIONS) if name}
-TOKEN = re.compile(r"[ \t]*(?:(#.*)|([A-Za-z_][A-Za-z0-9_]*)|([+-]?[0-9]+)|(.))")
+TOKEN = re.compile(r"(?P<comment>#.*)|(?P<name>[A-Za-z_][A-Za-z0-9_]*)|(?P<number>[+-]?[0-9]+)|(?P<sign>[^ \t])")
 
 
 class Mistake(Exception):
@@ -51,15 +51,7 @@ class Token:
 
 def tokens_of(text, line):
     """The words and signs of a line, a comment left out, and its end."""
-    out, place = [], 0
-    text = text.rstrip()
-    while place < len(text):
-        found = TOKEN.match(text, place)
-        place = found.end()
-        if found.group(1) is not None:
-            break
-        group = next(g for g in (2, 3, 4) if found.group(g) is not None)
-        out.append(Token({2: "name", 3: "number", 4: "sign"}[group], found.group(group), line, found.start(group) + 1))
+    out = [Token(found.lastgroup, found.group(), line, found.start() + 1) for found in TOKEN.finditer(text) if found.lastgroup != "comment"]
     last = out[-1] if out else None
     out.append(Token("end", "", line, last.column + len(last.text) if last else 1))
     return out
@@ -152,11 +144,9 @@ class Form:
         lines = text.split("\n")
         for i, line in enumerate(lines, 1):
             self.attempt(self.line, Reader(tokens_of(line.rstrip("\r"), i)))
-        self.close()
-        if not self.counts[CELL]:
-            self.mistakes.append(Mistake(1, 1, "expected a line 'cells NAME ...': a table has at least one cell"))
-        if not self.routines:
-            self.mistakes.append(Mistake(len(lines), 1, "expected 'routine NAME': a table has at least one routine"))
+        # What is told at the end is told of good lines only, so that one mistake makes no other ones.
+        if not self.mistakes:
+            self.whole(len(lines))
 
     def attempt(self, what, *given):
         try:
@@ -194,26 +184,11 @@ class Form:
             self.things[token.text] = (token, kind, self.counts[kind])
             self.counts[kind] += 1
 
-    def close(self):
-        """The end of a routine."""
-        if not self.routines:
-            return
-        routine = self.routines[-1]
-        for token in routine.pending:
-            self.mistakes.append(token.mistake("expected a statement behind the label '%s'" % token.text))
-        if not routine.statements:
-            self.mistakes.append(routine.token.mistake("expected a statement in the routine '%s', at least RETURN" % routine.token.text))
-        elif routine.statements[-1][1] not in (JUMP, RETURN):
-            self.mistakes.append(routine.statements[-1][0].mistake(
-                "expected JUMP or RETURN as the last statement of the routine '%s'" % routine.token.text))
-
     def routine(self, reader):
-        self.close()
         reader.take()
-        token = reader.next
-        routine = Routine(token, len(self.routines))
+        routine = Routine(reader.next, len(self.routines))
         self.routines.append(routine)
-        token = routine.token = reader.name("a name for the routine")
+        token = reader.name("a name for the routine")
         if token.text in self.by_name:
             raise token.mistake("expected a new name, and '%s' is a routine (line %d)" % (token.text, self.by_name[token.text].token.line))
         self.by_name[token.text] = routine
@@ -286,7 +261,6 @@ class Form:
         reader.take()
         routine.pending = []
         operands = []
-        # Put in first, so that a mistake in the operands makes no other ones.
         routine.statements.append((token, operation, operands))
         if sum(len(r.statements) for r in self.routines) > LIMITS["statement"]:
             raise token.mistake("expected at most %d statements" % LIMITS["statement"])
@@ -331,22 +305,37 @@ class Form:
 
     # what can only be told at the end
 
-    def resolve(self):
+    def whole(self, last):
         named = {}
+        if not self.counts[CELL]:
+            self.mistakes.append(Mistake(1, 1, "expected a line 'cells NAME ...': a table has at least one cell"))
+        if not self.routines:
+            self.mistakes.append(Mistake(last, 1, "expected 'routine NAME': a table has at least one routine"))
         for routine in self.routines:
-            for token, operation, operands in routine.statements:
-                self.attempt(self.resolve_one, routine, operation, operands, named)
+            self.attempt(self.ends, routine)
+            for _, operation, operands in routine.statements:
+                self.attempt(self.resolve, routine, operation, operands, named)
         for routine in self.routines[1:]:
             if routine.number not in named:
                 self.mistakes.append(routine.token.mistake("expected a CALL or START of the routine '%s' somewhere" % routine.token.text))
         self.no_way_round(named)
 
-    def resolve_one(self, routine, operation, operands, named):
-        if operation in (JUMP, JUMPZ) and operands:
+    @staticmethod
+    def ends(routine):
+        if not routine.statements:
+            raise routine.token.mistake("expected a statement in the routine '%s', at least RETURN" % routine.token.text)
+        if routine.pending:
+            raise routine.pending[0].mistake("expected a statement behind the label '%s'" % routine.pending[0].text)
+        token, operation, _ = routine.statements[-1]
+        if operation not in (JUMP, RETURN):
+            raise token.mistake("expected JUMP or RETURN as the last statement of the routine '%s'" % routine.token.text)
+
+    def resolve(self, routine, operation, operands, named):
+        if operation in (JUMP, JUMPZ):
             token = operands[0]
             if token.text not in routine.labels:
                 raise token.mistake(self.unknown("a label of this routine", token, routine.labels))
-        if operation in (CALL, START) and operands:
+        if operation in (CALL, START):
             token = operands[0]
             if token.text not in self.by_name:
                 raise token.mistake(self.unknown("a routine", token, self.by_name))
@@ -412,7 +401,6 @@ def read_form(text):
     """The form, or the mistakes in order."""
     made = Form()
     made.read(text)
-    made.resolve()
     return made, sorted(made.mistakes, key=lambda m: m.where)
 
 

@@ -313,16 +313,19 @@ def statement_words(table, s):
 
 def accesses(table, cell, reads, writes):
     """The accesses of a cell. A local's flow set has the cell at which it starts, so statements through such a local are accesses; where they are
-    as many as the report counts they are all. The others go through a parameter, or a local that POINT moves."""
+    as many as the report counts they are all. The others go through a parameter, or a local that POINT moves; where as many as these are
+    missing, these are the others."""
     lines, more, moved = [], [], table.moved()
     for operation, count, word in ((READ, reads, "read"), (WRITE, writes, "write")):
         of_kind = [s for s in table.statements if s.operation == operation]
         sure = [s for s in of_kind if table.handles[s.operands[0]].origin == LOCAL and table.handles[s.operands[0]].start == cell]
         lines += sure
         others = [s for s in of_kind if s not in sure and (table.handles[s.operands[0]].origin == PARAMETER or s.operands[0] in moved)]
-        if count > len(sure):
-            more.append("    %s through a parameter or a handle that POINT moves, among line%s %s" % (
-                many(count - len(sure), word), "" if len(others) == 1 else "s", ranges([table.editor(s.number) for s in others])))
+        if count - len(sure) == len(others):
+            lines += others
+        elif count > len(sure):
+            more.append("    %s more, through a parameter or a handle that POINT moves, among lines %s" % (
+                many(count - len(sure), word), ranges([table.editor(s.number) for s in others])))
     return ["    " + statement_words(table, s) for s in sorted(lines, key=lambda s: s.number)] + more
 
 
