@@ -116,7 +116,7 @@ def main():
     sizes = [s for s, _ in f["threads"]]
     notes = ["Spin's answer is exact; the check may warn where no order of steps goes wrong."]
     if "process" in f:
-        notes.append(f"The check is one call in a running program; to start a program for it takes {label(float('%.2g' % f['process'][0][1]))} more.")
+        notes.append(f"The check is one call in a running program; to start a program for it takes {label(float('%.1g' % f['process'][0][1]))} more.")
     why = ", ".join(dict.fromkeys(cuts.values()))
     panels = [
         Panel(90, 50, "Class exercise, by threads", "threads started, ten statements each (log scale of time)",
