@@ -255,8 +255,8 @@ class Form:
         operation = CODES.get(token.text.upper())
         if operation is None:
             near = difflib.get_close_matches(token.text.lower(), sorted(KEYWORDS), 1)
-            raise token.wrong("an operation (READ, WRITE, SET, ADD, TAKE, GIVE, POINT, CALL, START, JUMP, JUMPZ, RETURN), 'local', 'routine' or a label and ':'"
-                              + (" (did you mean '%s'?)" % near[0] if near else ""))
+            raise token.wrong("an operation (%s), 'local', 'routine' or a label and ':'%s" % (
+                ", ".join(OPERATIONS[1:]), " (did you mean '%s'?)" % near[0] if near else ""))
         routine = self.inside(token)
         reader.take()
         routine.pending = []
@@ -267,7 +267,11 @@ class Form:
         for i, kind in HANDLES.get(operation, []):
             if operation == POINT and i == 1:
                 kind = routine.handles[operands[0]][1]
-            operands.append(self.place(routine, reader.name("a %s" % KINDS[kind] if kind else "a handle"), kind))
+            name = reader.name("a %s" % KINDS[kind] if kind else "a handle")
+            if operation == POINT and i == 0 and name.text in self.things:
+                # The name of a cell always means that cell.
+                raise name.mistake("expected a handle that POINT can move, and '%s' is a %s" % (name.text, KINDS[self.things[name.text][1]]))
+            operands.append(self.place(routine, name, kind))
         if operation in (SET, ADD):
             operands.append(reader.number())
         elif operation in (JUMP, JUMPZ):

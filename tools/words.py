@@ -11,7 +11,7 @@ import sys
 sys.dont_write_bytecode = True
 sys.path.insert(0, os.path.dirname(os.path.abspath(__file__)))
 import form  # noqa: E402
-from form import CALL, CELL, JUMP, JUMPZ, KINDS, LOCAL, LOCK, OPERATIONS, PARAMETER, POINT, READ, RETURN, START, WRITE  # noqa: E402
+from form import CALL, CELL, JUMP, JUMPZ, KINDS, LOCAL, OPERATIONS, PARAMETER, POINT, READ, RETURN, START, WRITE  # noqa: E402
 
 RULES = {
     1: "the length is 0, no multiple of 49, or above 32,977",
@@ -207,8 +207,8 @@ def bad_arguments(table, s):
 
 def bad_statement(table, line):
     s = table.statements[line - table.statement_lines]
-    if not 1 <= s.operation <= 12:
-        return 2, "there is no operation %d; the operations are 1 to 12" % s.operation
+    if not 1 <= s.operation < len(OPERATIONS):
+        return 2, "there is no operation %d; the operations are 1 to %d" % (s.operation, len(OPERATIONS) - 1)
     if s.operation in (CALL, START):
         return bad_arguments(table, s)
     operands = form.HANDLES.get(s.operation, [])
@@ -228,9 +228,8 @@ def bad_statement(table, line):
 
 def bad_end(table, line):
     s = table.statements[line - table.statement_lines]
-    name = s.name if 1 <= s.operation <= 12 else str(s.operation)
     return 2, "routine %d ends with this statement, a %s; a RETURN or a JUMP is needed, or the routine's count on line %d is wrong" % (
-        s.routine, name, table.routine_lines + s.routine + 1)
+        s.routine, s.name, table.routine_lines + s.routine + 1)
 
 
 def named_by(table):
