@@ -92,7 +92,18 @@ build() {
         stop "$why, and rt is not on the path: it is the prover of the kit $(pinned KIT) (README, The kit)"
     log=$here/target/build.log
     mkdir -p "$here/target" 2> /dev/null
-    (: > "$log") 2> /dev/null || stop "$why, and $here/target may not be written"
+    (: >> "$log") 2> /dev/null || stop "$why, and $here/target may not be written"
+    # One build at a time, where there is flock; who had to wait looks again.
+    exec 9>> "$log"
+    if command -v flock > /dev/null 2>&1 && ! flock -n 9; then
+        say "$why, and another call is building: waiting for it"
+        flock 9
+        if [ -f "$product" ] && [ -z "$(newer_than "$product" "$crate")" ]; then
+            exec 9>&-
+            return
+        fi
+    fi
+    : > "$log"
     count=$(crates_below "$crate" | wc -l)
     say "$why: proving and building $((count)) crates, some minutes; log: $log"
     kit=$(rt version 2> /dev/null)
@@ -101,11 +112,11 @@ build() {
     : > "$here/target/build.began"
     monitor=
     if [ -t 2 ]; then
-        progress "$log" "$((count))" &
+        progress "$log" "$((count))" 9>&- &
         monitor=$!
         trap 'kill "$monitor" 2> /dev/null; exit 3' INT TERM HUP
     fi
-    (cd "$here" && exec rt "$@") < /dev/null > "$log" 2>&1
+    (cd "$here" && exec rt "$@") < /dev/null > "$log" 2>&1 9>&-
     ended=$?
     if [ -n "$monitor" ]; then
         kill "$monitor" 2> /dev/null
@@ -117,6 +128,7 @@ build() {
         stop "not built, after $(($(date +%s) - began)) s: $(tail -n 1 "$log"); log: $log"
     # Not later than the sources were read: an edit made meanwhile counts as newer.
     touch -r "$here/target/build.began" "$product"
+    exec 9>&-
     say "built in $(($(date +%s) - began)) s"
 }
 
