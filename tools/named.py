@@ -448,17 +448,20 @@ class Unread(Exception):
     pass
 
 
-def read_file(name):
-    """The bytes of a file, or of standard input, at most four million."""
+def read_file(name, most=1 << 22):
+    """The bytes of a file, or of standard input."""
     if name == "-" and sys.stdin is None:
         raise Unread("standard input is closed")
     if name == "-" and sys.stdin.isatty():
         complain("waiting for a text from the terminal; Ctrl-D ends it (table --help)")
     try:
         with open(name if name != "-" else 0, "rb") as f:
-            return f.read(1 << 22)
+            text = f.read(most + 1)
     except OSError as e:
         raise Unread("%s cannot be read: %s" % (name, e.strerror))
+    if len(text) > most:
+        raise Unread("%s has more than %d bytes" % (name, most))
+    return text
 
 
 def write(text):
@@ -503,7 +506,7 @@ def show(name):
     if done.returncode not in (0, 1, 2):
         return 3
     if done.returncode == 2:
-        for said in words.words_of(done.stdout.decode("ascii"), text[:65536]):
+        for said in words.words_of(done.stdout.decode("ascii"), text[:words.READ_AT_MOST]):
             complain("%s: %s" % (name, said))
         return 2
     return write(shown(text))

@@ -28,7 +28,7 @@ RULES = {
     12: "a routine reaches itself through CALLs and STARTs",
 }
 HEADER = [("1", 1, 1), ("cells", 1, 64), ("locks", 0, 16), ("handles", 0, 128), ("routines", 1, 32), ("statements", 1, 512), ("0", 0, 0), ("0", 0, 0)]
-MOST = 32977
+MOST, READ_AT_MOST = 32977, 65536
 
 
 def many(n, one, more=None):
@@ -45,7 +45,8 @@ def bad_length(text):
     if not text:
         return None, "The text is empty."
     if len(text) > MOST:
-        return None, "The text has %d bytes; the largest table has %d lines of 49 bytes, which is 32,977 bytes." % (len(text), MOST // 49)
+        return None, "The text has %d bytes%s; the largest table has %d lines of 49 bytes, which is 32,977 bytes." % (
+            len(text), " or more" if len(text) >= READ_AT_MOST else "", MOST // 49)
     lines = text.split(b"\n")
     for i, line in enumerate(lines[:-1]):
         if len(line) != 48:
@@ -386,7 +387,7 @@ def one(check, name):
     if name == "-" and sys.stdin.isatty():
         complain("waiting for a table text from the terminal; Ctrl-D ends it (check --help)")
     try:
-        text = sys.stdin.buffer.read(65536) if name == "-" else open(name, "rb").read(65536)
+        text = sys.stdin.buffer.read(READ_AT_MOST) if name == "-" else open(name, "rb").read(READ_AT_MOST)
     except OSError as e:
         return complain("%s cannot be read: %s" % (name, e.strerror))
     done = subprocess.run([check, "-"], input=text, stdout=subprocess.PIPE)
