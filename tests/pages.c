@@ -1,9 +1,10 @@
 /* `check` and `station_steps` over the static library, for tests/pages where those programs are not built.
  *
  *     pages check [TABLE]              the report of a table text, or line 50
- *     pages steps TABLE SCHEDULE       a line 55 for each step, or line 50
+ *     pages steps TABLE SCHEDULE       a line 55 for each step and a line for each cell, or line 50
  */
 #include <stdio.h>
+#include <stdlib.h>
 #include <string.h>
 
 #include "station.h"
@@ -33,11 +34,14 @@ static void check(size_t length) {
 
 static void steps(size_t length, size_t count) {
     struct station_answer ran = station_run(text, length, schedule, count, out, sizeof out, cells, 64);
-    if (ran.number)
+    if (ran.number) {
         print_three(50, ran.number, ran.line);
-    else
-        for (size_t i = 0; i < count; i++)
-            print_three(55, schedule[i], out[i]);
+        return;
+    }
+    for (size_t i = 0; i < count; i++)
+        print_three(55, schedule[i], out[i]);
+    for (int i = 0; i < atoi((const char *)text + 6); i++)
+        printf("cell %d %d\n", i, (int)cells[i]);
 }
 
 int main(int count, char **words) {

@@ -1,5 +1,6 @@
 #!/usr/bin/env python3
-"""plot.py TIMES SVG: draws the lines of TIMES, which bench/run writes: family, size, microseconds; for Spin `cut` where it was not finished."""
+"""plot.py TIMES SVG: draws the lines of TIMES, which bench/run writes: family, size, microseconds; for Spin `cut`, what ran out (memory or time) and its
+limit (megabytes or seconds) where it was not finished. The family `process` has one line: a call of the program behind `check`, started anew."""
 import sys
 from math import ceil, floor, log10
 
@@ -8,11 +9,15 @@ COLOURS = ["#1f5fa8", "#c0392b"]
 
 
 def read(path):
-    families = {}
+    """The points of each family, and what ran out for each cut one: (family, size): words."""
+    families, cuts = {}, {}
     for line in open(path):
-        family, size, value = line.split()[:3]
+        family, size, value, *more = line.split()
         families.setdefault(family, []).append((int(size), None if value == "cut" else float(value)))
-    return families
+        if value == "cut":
+            what, limit = more
+            cuts[family, int(size)] = f"out of memory ({int(limit):,} MB)" if what == "memory" else f"not finished in {limit} s"
+    return families, cuts
 
 
 def label(us):
@@ -36,8 +41,9 @@ def round_step(most, count):
 
 
 class Panel:
-    def __init__(self, left, top, title, x_label, curves, ticks, logarithmic):
+    def __init__(self, left, top, title, x_label, curves, ticks, logarithmic, cut="", notes=()):
         self.left, self.top, self.title, self.x_label, self.curves, self.ticks = left, top, title, x_label, curves, ticks
+        self.cut, self.notes = cut, notes
         values = [v for _, points in curves for _, v in points if v is not None]
         self.logarithmic = logarithmic
         if logarithmic:
@@ -78,7 +84,7 @@ class Panel:
         cut = [size for size, value in points if value is None]
         out += [text(self.x(size), self.top + 17, "×", "middle", 16, f'fill="{colour}"') for size in cut]
         if cut:
-            out.append(text(self.x(cut[0]) - 10, self.top + 16, "not finished", "end", 11, f'fill="{colour}"'))
+            out.append(text(self.x(cut[0]) - 10, self.top + 16, self.cut, "end", 11, f'fill="{colour}"'))
         return out
 
     def draw(self):
@@ -88,25 +94,44 @@ class Panel:
             y = self.top + HEIGHT + 60 + 18 * i
             out.append(f'<line x1="{self.left}" y1="{y - 4}" x2="{self.left + 24}" y2="{y - 4}" stroke="{COLOURS[i]}" stroke-width="2"/>')
             out.append(text(self.left + 32, y, name, "start"))
+        for i, note in enumerate(self.notes):
+            out.append(text(self.left, self.top + HEIGHT + 60 + 18 * (len(self.curves) + i), note, "start", 11, 'fill="#555555"'))
         return out
 
 
+TITLE = "Time of the proved check and of Spin"
+DESCRIPTION = """Four panels. First: the class exercise with 2 to 8 threads, on a logarithmic scale of time; the check stays between {low} and {high}, \
+Spin's search of all states takes many times longer with each thread{spin}. The other three: the check's time grows in proportion to the statements, and little with \
+handles and routines. Spin's answer is exact; the check may warn where no order of steps goes wrong."""
+
+
+def described(families, cuts):
+    check = [v for _, v in families["threads"]]
+    ended = [f"{words} at {size} threads" for (_, size), words in sorted(cuts.items())]
+    return DESCRIPTION.format(low=label(round(min(check), 1)), high=label(round(max(check), 1)), spin=", and ended " + ", ".join(ended) if ended else "")
+
+
 def main():
-    f = read(sys.argv[1])
+    f, cuts = read(sys.argv[1])
     sizes = [s for s, _ in f["threads"]]
+    notes = ["Spin's answer is exact; the check may warn where no order of steps goes wrong."]
+    if "process" in f:
+        notes.append(f"The check is one call in a running program; to start a program for it takes {label(float('%.1g' % f['process'][0][1]))} more.")
+    why = ", ".join(dict.fromkeys(cuts.values()))
     panels = [
         Panel(90, 50, "Class exercise, by threads", "threads started, ten statements each (log scale of time)",
-              [("the proved check", f["threads"]), ("Spin, search of all states (compiling not counted)", f.get("spin", []))], sizes, True),
+              [("the proved check", f["threads"]), ("Spin, search of all states (compiling not counted)", f.get("spin", []))], sizes, True, why, notes),
         Panel(600, 50, "The check, by statements", "statements, two routines",
               [("blocks of TAKE, READ, ADD, WRITE, GIVE", f["in-order"]), ("jumps against the order, one access at the end", f["against-order"])],
               [0, 128, 256, 384, 512], False),
-        Panel(90, 450, "The check, by handles", "handles, in 16 routines of 32 statements", [("the proved check", f["handles"])], [0, 32, 64, 96, 128], False),
-        Panel(600, 450, "The check, by routines", "routines, 512 statements in all", [("the proved check", f["routines"])], [0, 8, 16, 24, 32], False),
+        Panel(90, 490, "The check, by handles", "handles, in 16 routines of 32 statements", [("the proved check", f["handles"])], [0, 32, 64, 96, 128], False),
+        Panel(600, 490, "The check, by routines", "routines, 512 statements in all", [("the proved check", f["routines"])], [0, 8, 16, 24, 32], False),
     ]
     body = "\n".join(part for p in panels for part in p.draw())
-    head = '<svg xmlns="http://www.w3.org/2000/svg" width="1030" height="800" viewBox="0 0 1030 800" font-family="sans-serif">'
+    head = '<svg xmlns="http://www.w3.org/2000/svg" width="1030" height="840" viewBox="0 0 1030 840" font-family="sans-serif" role="img" aria-labelledby="title description">'
+    head += f'\n<title id="title">{TITLE}</title>\n<desc id="description">{described(f, cuts)}</desc>'
     with open(sys.argv[2], "w") as out:
-        out.write(f'{head}\n<rect width="1030" height="800" fill="white"/>\n{body}\n</svg>\n')
+        out.write(f'{head}\n<rect width="1030" height="840" fill="white"/>\n{body}\n</svg>\n')
 
 
 main()
