@@ -1,5 +1,4 @@
 pub mod Reported
-pub mod Lent
-pub mod SetsLaws
+pub mod Room
 pub mod ReportedLaws
 pub mod SmallLaws

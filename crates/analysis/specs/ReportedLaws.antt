@@ -24,9 +24,10 @@ use Rattle.report_printer.specs.Printed.{bytesIn, printedOver, countsNothing}
 use Rattle.analysis.specs.Reported.{tableIn, turnedDown, answerOf, reportAnswer, reportedInto, loadable, withClean, examinedIn}
 use Rattle.analysis.specs.declared.Answer.{Answer}
 use Rattle.analysis.specs.declared.Examined.{Examined}
-use Rattle.analysis.specs.Lent.{Lent, Room}
+use Rattle.stages.specs.Lent.{Lent}
+use Rattle.analysis.specs.Room.{Room}
 use Rattle.findings.specs.FoundLaws.{statements-few}
-use Rattle.analysis.specs.SetsLaws.{routines-few}
+use Rattle.stages.specs.SetsLaws.{routines-few}
 
 -- ---- what was printed: a report is never empty, so no byte means no room
 

@@ -1,12 +1,10 @@
 // The report of a table text, and whether its totals are 0.
-mod stages;
-
 ghost use mathlib.Core.Path.{_≡_};
 ghost use Prim.Native.Nat.{_*_, _≤_};
 ghost use lib.ListN.{length};
 ghost use Rattle.lines.specs.Line.{lineCount};
 ghost use Rattle.analysis.specs.Reported.{reportAnswer, reportedInto, loadable, examinedIn};
-ghost use Rattle.analysis.specs.Lent.{Room};
+ghost use Rattle.analysis.specs.Room.{Room};
 use table::Verdict;
 
 // What `report` answers: the number of the refusal, or 0, the line that goes with it, and how many bytes are written.

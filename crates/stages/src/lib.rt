@@ -12,7 +12,7 @@ ghost use Rattle.report.specs.Findings.{sharedCells};
 ghost use Rattle.report.specs.Report.{reportText};
 ghost use Rattle.findings.specs.Found.{setsIn};
 ghost use Rattle.report_printer.specs.Printed.{bytesIn, printedOver, countsNothing};
-ghost use Rattle.analysis.specs.Lent.{Lent};
+ghost use Rattle.stages.specs.Lent.{Lent};
 use report_printer::Printed;
 
 // Leaves in `held` what is held at each statement.

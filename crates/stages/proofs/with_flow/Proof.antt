@@ -1,14 +1,14 @@
--- `analysis::stages::with_flow` meets its contract. Assumes nothing.
+-- `stages::with_flow` meets its contract. Assumes nothing.
 use mathlib.Core.Path.{_≡_, sym, ap, _∙_}
 use Prim.Native.Nat.{ℕ, _+_, _-_, _*_, _≤_}
 use native.Mathlib.Omega.{arith}
 use lib.ListN.{length, replicate, length-take}
 use Rattle.table.specs.Header.{statements, routines}
-use Rattle.analysis.specs.SetsLaws.{zeros-front, behind-long, held-kept}
+use Rattle.stages.specs.SetsLaws.{zeros-front, behind-long, held-kept}
 use denote.Ref.{now}
 use borrow.Author.Needs.{needs}
-use Rattle.analysis.proofs.stages.with_flow.Statement.{statement}
-use Rattle.analysis.proofs.stages.with_flow.Tie as tie
+use Rattle.stages.proofs.with_flow.Statement.{statement}
+use Rattle.stages.proofs.with_flow.Tie as tie
 
 first-statements-requires : tie.Need-first-statements-requires
 first-statements-requires c κs = search needs

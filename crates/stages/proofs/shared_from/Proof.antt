@@ -1,12 +1,12 @@
--- `analysis::stages::shared_from` meets its contract. Assumes nothing.
+-- `stages::shared_from` meets its contract. Assumes nothing.
 use mathlib.Core.Path.{_∙_}
 use Rattle.table.specs.Table.{tableOf}
 use Rattle.findings.specs.FoundLaws.{shared-found}
-use Rattle.analysis.specs.SetsLaws.{later-known}
+use Rattle.stages.specs.SetsLaws.{later-known}
 use denote.Ref.{now}
 use borrow.Author.Needs.{needs}
-use Rattle.analysis.proofs.stages.shared_from.Statement.{statement}
-use Rattle.analysis.proofs.stages.shared_from.Tie as tie
+use Rattle.stages.proofs.shared_from.Statement.{statement}
+use Rattle.stages.proofs.shared_from.Tie as tie
 
 future-sets-requires : tie.Need-future-sets-requires
 future-sets-requires c κs = let p = c .before .before .before .before .before .before .before .before .pre in (p .0, (p .1 .0, (p .1 .1 .1 .1 .1 .1, p .1 .1 .1 .1 .1 .0)))

@@ -1,9 +1,9 @@
--- `analysis::stages::print_found` meets its contract. Assumes nothing.
+-- `stages::print_found` meets its contract. Assumes nothing.
 use denote.Ref.{now}
 use Rattle.findings.specs.FoundLaws.{found}
 use borrow.Author.Needs.{needs}
-use Rattle.analysis.proofs.stages.print_found.Statement.{statement}
-use Rattle.analysis.proofs.stages.print_found.Tie as tie
+use Rattle.stages.proofs.print_found.Statement.{statement}
+use Rattle.stages.proofs.print_found.Tie as tie
 
 note-accesses-requires : tie.Need-note-accesses-requires
 note-accesses-requires c κs = search needs

@@ -1,8 +1,8 @@
--- The lists that are lent for a table's sets and edges: how long they are. Assumes nothing.
+-- The lists that are lent for a table's sets and edges. Assumes nothing.
 use mathlib.Core.Path.{_≡_}
 use mathlib.Core.List.{List}
 use native.Mathlib.Omega.{arith}
-use Prim.Native.Nat.{ℕ, _+_, _*_, _≤_, min}
+use Prim.Native.Nat.{ℕ, _+_, _*_, _≤_}
 use lib.IntN.{ℤ}
 use lib.ListN.{length, replicate}
 use Rattle.table.specs.Header.{routines, statements}
@@ -16,9 +16,3 @@ pub record Lent (f : List ℤ) (work edges : List ℕ) : Type 0 where
 -- the edges may change
 pub lent-edges : {f : List ℤ} {work edges : List ℕ} (edges′ : List ℕ) → Lent f work edges → length edges′ ≡ length edges → Lent f work edges′
 lent-edges edges′ l e = record { zeros = l .zeros; work-long = l .work-long; edges-long = omega (arith, l .edges-long) }
-
--- for every table of so many lines
-pub record Room (lines : ℕ) (work edges : List ℕ) : Type 0 where
-  pub zeros : work ≡ replicate (length work) 0
-  pub work-long : min 1600 (3 * lines) ≤ length work
-  pub edges-long : min 2048 (4 * lines) ≤ length edges

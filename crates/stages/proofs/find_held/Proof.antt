@@ -1,14 +1,14 @@
--- `analysis::stages::find_held` meets its contract. Assumes nothing.
+-- `stages::find_held` meets its contract. Assumes nothing.
 use mathlib.Core.Path.{sym, _∙_}
 use Prim.Native.Nat.{ℕ, _≤_}
 use native.Mathlib.Omega.{arith}
 use denote.Ref.{now}
 use Rattle.table.specs.Table.{tableOf}
 use Rattle.table.specs.CutLaws.{cut-long}
-use Rattle.analysis.specs.SetsLaws.{routines-few, given-known, held-known, front-fits, front-is, front-long}
+use Rattle.stages.specs.SetsLaws.{routines-few, given-known, held-known, front-fits, front-is, front-long}
 use borrow.Author.Needs.{needs}
-use Rattle.analysis.proofs.stages.find_held.Statement.{statement}
-use Rattle.analysis.proofs.stages.find_held.Tie as tie
+use Rattle.stages.proofs.find_held.Statement.{statement}
+use Rattle.stages.proofs.find_held.Tie as tie
 
 field-of-requires : tie.Need-field-of-requires
 field-of-requires c κs = search needs

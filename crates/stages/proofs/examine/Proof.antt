@@ -1,15 +1,15 @@
--- `analysis::stages::examine` meets its contract. Assumes nothing.
+-- `stages::examine` meets its contract. Assumes nothing.
 use mathlib.Core.Path.{sym, _∙_}
 use Prim.Native.Nat.{ℕ, _≤_}
 use native.Mathlib.Omega.{arith}
 use Rattle.table.specs.Table.{tableOf}
 use Rattle.table.specs.CutLaws.{cut-long}
-use Rattle.analysis.specs.Lent.{lent-edges}
-use Rattle.analysis.specs.SetsLaws.{handles-few, flow-known, front-fits, front-is, front-long}
+use Rattle.stages.specs.Lent.{lent-edges}
+use Rattle.stages.specs.SetsLaws.{handles-few, flow-known, front-fits, front-is, front-long}
 use denote.Ref.{now}
 use borrow.Author.Needs.{needs}
-use Rattle.analysis.proofs.stages.examine.Statement.{statement}
-use Rattle.analysis.proofs.stages.examine.Tie as tie
+use Rattle.stages.proofs.examine.Statement.{statement}
+use Rattle.stages.proofs.examine.Tie as tie
 
 first-handles-requires : tie.Need-first-handles-requires
 first-handles-requires c κs = search needs
