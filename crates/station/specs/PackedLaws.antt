@@ -25,7 +25,7 @@ report-answer-unpacks text room =
 outcome-unpacks-by : (v : Verdict) → SmallVerdict v → (fit : Bool) → let o = outcomeBy v fit in Unpacks (packedOutcome o) (o .number) (o .line) 0
 outcome-unpacks-by Accepted small true = packed-unpacks 0 0 0 (omega arith) (omega arith) (omega arith)
 outcome-unpacks-by Accepted small false = packed-unpacks 13 0 0 (omega arith) (omega arith) (omega arith)
-outcome-unpacks-by (Refused number line) small fit = packed-unpacks number line 0 (small .0) (small .1) (omega arith)
+outcome-unpacks-by (Refused number line) small fit = packed-unpacks number line 0 (small .1) (small .2) (omega arith)
 
 pub run-outcome-unpacks : (text schedule answers : List ℕ) (cells : List ℤ)
     → let o = outcomeOf text schedule answers cells in Unpacks (packedOutcome o) (o .number) (o .line) 0
