@@ -172,7 +172,7 @@ def not_a_handle(table, s, number, kind):
     theirs = [h for h in own if not kind or table.handles[h].kind == kind]
     if number in theirs:
         return None
-    there = "; %s %s" % ("this is" if len(theirs) == 1 else "these are", ranges(theirs)) if theirs else ", which has none"
+    there = " (handle%s %s)" % ("" if len(theirs) == 1 else "s", ranges(theirs)) if theirs else ", which has none"
     if not 0 <= number < len(table.handles):
         return "it is %d, and %s is needed%s" % (number, wanted, there)
     h = table.handles[number]
