@@ -138,17 +138,20 @@ def bad_handle(table, line):
     if h.origin == PARAMETER and h.start != 0:
         return 5, "it is %d; a parameter has 0 there" % h.start
     most = table.cells if h.kind == CELL else table.locks
+    if h.origin == LOCAL and not most:
+        return 3, "it is a local of kind lock, and the table has no lock"
     if h.origin == LOCAL and not 0 <= h.start < most:
-        kind = KINDS[h.kind]
-        return 5, "it is %d; %s" % (h.start, "the %ss are 0 to %d" % (kind, most - 1) if most else "the table has no %s" % kind)
+        return 5, "it is %d; the %ss are 0 to %d" % (h.start, KINDS[h.kind], most - 1)
     return unused(fields, 5)
 
 
-def unused(fields, first):
-    for i in range(first, 8):
-        if fields[i] != 0:
-            return i + 1, "it is %d; it is unused and holds 0" % fields[i]
-    return None
+def unused(fields, first, what="it is unused"):
+    """The first field from place `first` on that is not 0; the others are named with it."""
+    found = [i + 1 for i in range(first, 8) if fields[i] != 0]
+    if not found:
+        return None
+    also = "" if len(found) == 1 else ", and so %s field%s %s" % ("is" if len(found) == 2 else "are", "" if len(found) == 2 else "s", ranges(found[1:]))
+    return found[0], "it is %d; %s and holds 0%s" % (fields[found[0] - 1], what, also)
 
 
 def bad_routine(table, line):
@@ -172,7 +175,7 @@ def not_a_handle(table, s, number, kind):
     theirs = [h for h in own if not kind or table.handles[h].kind == kind]
     if number in theirs:
         return None
-    there = "; %s %s" % ("this is" if len(theirs) == 1 else "these are", ranges(theirs)) if theirs else ", which has none"
+    there = " (handle%s %s)" % ("" if len(theirs) == 1 else "s", ranges(theirs)) if theirs else ", which has none"
     if not 0 <= number < len(table.handles):
         return "it is %d, and %s is needed%s" % (number, wanted, there)
     h = table.handles[number]
@@ -200,10 +203,7 @@ def bad_arguments(table, s):
         why = not_a_handle(table, s, s.operands[1 + i], p.kind)
         if why:
             return 4 + i, "argument %d of %d: %s" % (i + 1, len(parameters), why)
-    for i in range(3 + len(parameters), 8):
-        if s.fields[i] != 0:
-            return i + 1, "it is %d; routine %d has %s, and a field behind the arguments holds 0" % (s.fields[i], routine, many(len(parameters), "parameter"))
-    return None
+    return unused(s.fields, 3 + len(parameters), "routine %d has %s: it is unused" % (routine, many(len(parameters), "parameter")))
 
 
 def bad_statement(table, line):
