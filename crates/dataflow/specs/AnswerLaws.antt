@@ -15,9 +15,9 @@ use Rattle.table.specs.declared.Statement.{Statement}
 use Rattle.table.specs.declared.Statement.the-variants.{Read, Write, Set, Add, Take, Give, Point, Call, Start, Jump, JumpZero, Return}
 use Rattle.report.specs.OverLaws.{within-below}
 use Rattle.report.specs.Layout.{oneEach}
-use Rattle.report.specs.Flow.{passing, flowEdges, allFlowEdges, flowStarts, flowSets}
+use Rattle.report.specs.Flow.{passing, flowEdges, allFlowEdges, flowInitials, flowSets}
 use Rattle.report.specs.Effect.{overCopy, upFrom, namingEdges, callEdges as upCallEdges, effects, gives, effectOf}
-use Rattle.report.specs.Future.{callers, nextEffects, futureEdges, futureStarts, futures}
+use Rattle.report.specs.Future.{callers, nextEffects, futureEdges, futureInitials, futures}
 use Rattle.edges.specs.Equations.{Equation, Flow, Effects, Gives, Futures, edge, upEdges, nextEdges, callEdges, edgesAt, edgesFor, ownSet, inRoutine, effectAt, nextsEffect, futureInitial, initialAt, placesOf}
 use Rattle.edges.specs.EdgeLaws.{joined-same, Appended}
 use Rattle.edges.specs.RoomLaws.{ready-for}
@@ -87,7 +87,7 @@ module _ (t : Table) where
 
   module _ (w : Bool) (flow effect : List ℕ) where
     same-sets : (q : Equation) → least (reportEdges q) (tabulate (placesOf q t) (initialAt q w flow effect t)) ≡ answer q w flow effect t
-    unfolding reportEdges flowSets flowStarts effects gives inRoutine ownSet overCopy futures futureStarts futureInitial nextEffects nextsEffect effectAt effectOf oneEach
+    unfolding reportEdges flowSets flowInitials effects gives inRoutine ownSet overCopy futures futureInitials futureInitial nextEffects nextsEffect effectAt effectOf oneEach
     same-sets Flow = refl
     same-sets Effects = refl
     same-sets Gives = refl

@@ -10,7 +10,7 @@ ghost use Rattle.sets.specs.Least.{edgeOf, least};
 ghost use Rattle.table.specs.Header.{handles, routines, statements};
 ghost use Rattle.table.specs.Table.{tableOf};
 ghost use Rattle.table.specs.Tabulate.{tabulate};
-ghost use Rattle.table.specs.Layout.{firstStatements, firstHandles, parameterCounts};
+ghost use Rattle.table.specs.Extents.{firstStatements, firstHandles, parameterCounts};
 ghost use Rattle.table.specs.Accepted.{Accepted};
 ghost use Rattle.report.specs.Layout.{oneEach};
 ghost use Rattle.report.specs.Flow.{flowSets};

@@ -11,7 +11,7 @@ use Rattle.table.specs.Fields.{field}
 use Rattle.table.specs.Header.{handles, handleLine}
 use Rattle.table.specs.Handles.{routineOf, originOf, handlesFrom, parameters}
 use Rattle.table.specs.Routines.{countOf, firstOf}
-use Rattle.table.specs.LayoutLaws.{first-next, handles-next}
+use Rattle.table.specs.ExtentLaws.{first-next, handles-next}
 use Rattle.table.specs.TabulateLaws.{Begun, begun-next, zeros-at}
 
 -- ---- the first statements

@@ -10,7 +10,7 @@ ghost use Rattle.table.specs.Until.{until};
 ghost use Rattle.table.specs.Fields.{field};
 ghost use Rattle.table.specs.Header.{routines, handleLine};
 ghost use Rattle.table.specs.Routines.{sumOk};
-ghost use Rattle.table.specs.Layout.{firstStatements, firstHandles, parameterCounts};
+ghost use Rattle.table.specs.Extents.{firstStatements, firstHandles, parameterCounts};
 use lists::number_at;
 use routines::count_at;
 use table::field_of;

@@ -11,8 +11,8 @@ use borrow.Author.Tests.{ltb-true, ltb-false}
 use Rattle.table.specs.Header.{routines, statements}
 use Rattle.table.specs.Routines.{firstOf}
 use Rattle.table.specs.Table.{Table, tableOf, routine, argumentsIn, InRoutine}
-use Rattle.table.specs.Layout.{firstStatements, firstHandles, parameterCounts}
-use Rattle.table.specs.LayoutLaws as L
+use Rattle.table.specs.Extents.{firstStatements, firstHandles, parameterCounts}
+use Rattle.table.specs.ExtentLaws as L
 use Rattle.table.specs.TabulateLaws.{getD-tabulate}
 use Rattle.table.specs.LookupLaws.{routines-length, statements-length, routine-says, in-routine, routine-in}
 use Rattle.table.specs.RoutineLaws.{ends-before}

@@ -5,7 +5,7 @@ ghost use mathlib.Core.List.{[], _∷_};
 ghost use Prim.Native.Nat.{_<_, _≤_, _+_, _^_};
 ghost use Rattle.table.specs.Header.{statements, statementLine};
 ghost use Rattle.table.specs.Table.{tableOf, statement};
-ghost use Rattle.table.specs.Layout.{firstStatements, firstHandles, parameterCounts};
+ghost use Rattle.table.specs.Extents.{firstStatements, firstHandles, parameterCounts};
 ghost use Rattle.table.specs.Accepted.{Accepted};
 ghost use Rattle.report.specs.Layout.{ownerOf};
 ghost use Rattle.edges.specs.Equations.{Flow, Futures, upwards, edge, edgesAt, upEdges, nextEdges, callEdges, edgesFor};

@@ -7,25 +7,11 @@ fn say(text: &[u8]) {
     io::write_all(STDOUT_FILENO, text);
 }
 
-// How far a number is from 0.
-fn magnitude(x: i32) -> u64 {
-    let wide = x as i64;
-    if wide < 0 {
-        (0 - wide) as u64
-    } else {
-        wide as u64
-    }
-}
-
 fn say_number(x: i32) {
     if x < 0 {
         say(b"-");
     }
-    io::print_decimal(STDOUT_FILENO, magnitude(x));
-}
-
-fn wide(x: u8) -> u64 {
-    x as u64
+    io::print_decimal(STDOUT_FILENO, line_printer::magnitude(x) as u64);
 }
 
 // The answers, a number each.
@@ -33,7 +19,7 @@ fn say_answers(answers: &[u8]) {
     let mut i = 0;
     while i < answers.len() {
         say(b" ");
-        io::print_decimal(STDOUT_FILENO, wide(answers[i]));
+        io::print_decimal(STDOUT_FILENO, lists::wide_byte(answers[i]) as u64);
         i += 1;
     }
 }

@@ -5,7 +5,7 @@ ghost use lib.ListN.{length};
 ghost use Rattle.table.specs.Header.{handles, routines, statements};
 ghost use Rattle.table.specs.Table.{tableOf, statement};
 ghost use Rattle.table.specs.Tabulate.{tabulate};
-ghost use Rattle.table.specs.Layout.{firstStatements};
+ghost use Rattle.table.specs.Extents.{firstStatements};
 ghost use Rattle.table.specs.Accepted.{Accepted};
 ghost use Rattle.report.specs.Flow.{startOf};
 ghost use Rattle.edges.specs.Equations.{operationOf, ownSet, inRoutine, effectAt, nextsEffect, futureInitial};

@@ -44,14 +44,14 @@ fn all_in_range(numbers: [i32; 8]) -> bool
 }
 
 // A number without its sign.
-fn magnitude(n: i32) -> u32
-    requires { ⌜ inField n ≡ true ⌝ }
+pub fn magnitude(n: i32) -> u32
     ensures { λ r. ⌜ r ≡ natAbs n ⌝ }
 {
-    if n < 0 {
-        return (-n) as u32;
+    let wide = n as i64;
+    if wide < 0 {
+        return (0 - wide) as u32;
     }
-    n as u32
+    wide as u32
 }
 
 // Writes six spaces to a place; all other places stay.

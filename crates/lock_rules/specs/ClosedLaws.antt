@@ -19,8 +19,8 @@ use Rattle.table.specs.Routines.{firstOf}
 use Rattle.table.specs.Table.{Table, tableOf, routine, statement, argumentsIn, statementIn, InRoutine}
 use Rattle.table.specs.Tabulate.{tabulate}
 use Rattle.table.specs.TabulateLaws.{length-tabulate, getD-tabulate, is-tabulate, entry-behind}
-use Rattle.table.specs.Layout.{firstStatements}
-use Rattle.table.specs.LayoutLaws as L
+use Rattle.table.specs.Extents.{firstStatements}
+use Rattle.table.specs.ExtentLaws as L
 use Rattle.table.specs.LookupLaws.{handles-length, routines-length, statements-length, routine-says, in-routine, routine-in}
 use Rattle.table.specs.OperationLaws.{statement-in, by-operation}
 use Rattle.table.specs.Accepted.{Accepted, Names}

@@ -66,4 +66,3 @@ no-number f line =
     (λ h. absurd (omega (arith, h (omega arith))))
     (λ h. absurd (omega (arith, h (omega arith))))
     (λ op h. refl)
-

@@ -3,7 +3,7 @@ ghost use mathlib.Core.Path.{_≡_};
 ghost use lib.ListN.{length, replicate};
 ghost use Rattle.table.specs.Accepted.{Accepted};
 ghost use Rattle.table.specs.Header.{statements};
-ghost use Rattle.table.specs.Layout.{firstStatements};
+ghost use Rattle.table.specs.Extents.{firstStatements};
 ghost use Rattle.table.specs.Table.{tableOf};
 ghost use Rattle.table.specs.Tabulate.{tabulate};
 ghost use Rattle.report.specs.Greatest.{leaving};

@@ -50,9 +50,9 @@ allFlowEdges t k =
     joinedFrom 0 (k .statements) (λ p. flowEdges t k (k .statementCopy p) (k .statementAt p) (statement t (k .statementAt p)))
 
 -- the sets before anything flows
-unfoldable pub flowStarts : Table → Layout → List ℕ
-flowStarts t k = tabulate (k .handles) (λ p. startOf t (k .handleAt p))
+unfoldable pub flowInitials : Table → Layout → List ℕ
+flowInitials t k = tabulate (k .handles) (λ p. startOf t (k .handleAt p))
 
 -- "Flow: the least sets" under the rules above
 unfoldable pub flowSets : Table → Layout → List ℕ
-flowSets t k = least (allFlowEdges t k) (flowStarts t k)
+flowSets t k = least (allFlowEdges t k) (flowInitials t k)

@@ -20,7 +20,7 @@ use Rattle.table.specs.declared.Statement.the-variants.{Read, Write, Set, Add, 
 use Rattle.report.specs.OverLaws.{Within, none-in, joined-has, joined-from, below-within, within-below, tabulate-sets, tabulate-has, tabulate-from}
 use Rattle.report.specs.Layout.{Layout}
 use Rattle.report.specs.Fits.{Fits, HandlePlaced, HandleThere, copiesOf}
-use Rattle.report.specs.Flow.{flowAt, startOf, passing, flowEdges, allFlowEdges, flowStarts, flowSets}
+use Rattle.report.specs.Flow.{flowAt, startOf, passing, flowEdges, allFlowEdges, flowInitials, flowSets}
 use Rattle.report.specs.PlaceLaws.{place-at, among-all, of-some, parameter-own}
 use Rattle.report.specs.Rules.{Place, Passing, FlowStep, FlowRules}
 
@@ -65,13 +65,13 @@ startOf-below t h = go (eqb (declaration t h .origin) 1)
     go false = omega arith
 
 module _ (t : Table) (k : Layout) (acc : Accepted t) (fits : Fits t k) where
-  starts-sets : SetList (k .handles) (flowStarts t k)
-  unfolding flowStarts
+  starts-sets : SetList (k .handles) (flowInitials t k)
+  unfolding flowInitials
   starts-sets = tabulate-sets (k .handles) (λ p. startOf t (k .handleAt p)) (λ p. startOf-below t (k .handleAt p))
 
   pub flow-sets : SetList (k .handles) (flowSets t k)
   unfolding flowSets
-  flow-sets = least-sets (k .handles) (allFlowEdges t k) (flowStarts t k) starts-sets
+  flow-sets = least-sets (k .handles) (allFlowEdges t k) (flowInitials t k) starts-sets
 
   -- ---- the rules
 
@@ -80,7 +80,7 @@ module _ (t : Table) (k : Layout) (acc : Accepted t) (fits : Fits t k) where
         → has (getD (flowSets t k) (e .from) 0) x ≡ true → has (getD (flowSets t k) (e .to) 0) x ≡ true
     unfolding flowSets allFlowEdges
     carries σ q e m l x h =
-        least-edge (k .handles) (allFlowEdges t k) (flowStarts t k) starts-sets e
+        least-edge (k .handles) (allFlowEdges t k) (flowInitials t k) starts-sets e
         (among-all t k fits (λ p d z τ. flowEdges t k d z τ) e c s w σ q m) l x h
 
     parameter-placed : (q j : ℕ) → Names (statement t s) q → j < routine t q .parameters → HandlePlaced k (k .leads c s) (routine t q .handle + j)
@@ -118,9 +118,9 @@ module _ (t : Table) (k : Layout) (acc : Accepted t) (fits : Fits t k) where
     flow-step Return q o = tt
 
   starts : (p : ℕ) → p < k .handles → (x : ℕ) → has (startOf t (k .handleAt p)) x ≡ true → has (getD (flowSets t k) p 0) x ≡ true
-  unfolding flowSets flowStarts
+  unfolding flowSets flowInitials
   starts p l x h =
-      least-holds-start (k .handles) (allFlowEdges t k) (flowStarts t k) starts-sets .at p x (tabulate-has (k .handles) (λ p. startOf t (k .handleAt p)) p x l h)
+      least-holds-start (k .handles) (allFlowEdges t k) (flowInitials t k) starts-sets .at p x (tabulate-has (k .handles) (λ p. startOf t (k .handleAt p)) p x l h)
 
   pub flow-rules : FlowRules (copiesOf fits) (FlowHas k (flowSets t k))
   flow-rules = record {
@@ -182,9 +182,9 @@ module _ (t : Table) (k : Layout) (acc : Accepted t) (fits : Fits t k) where
       goes-along Return q o f e m x a = elim m [ ]
 
     everywhere : (p x : ℕ) → has (getD (flowSets t k) p 0) x ≡ true → At p x
-    unfolding flowSets allFlowEdges flowStarts
+    unfolding flowSets allFlowEdges flowInitials
     everywhere =
-        least-induction (k .handles) (allFlowEdges t k) (flowStarts t k) starts-sets At
+        least-induction (k .handles) (allFlowEdges t k) (flowInitials t k) starts-sets At
         (λ e m l x a.
         let r : (p : ℕ) × (p < k .statements) × List·Memᴰ e (flowEdges t k (k .statementCopy p) (k .statementAt p) (statement t (k .statementAt p))) =
         of-some t k fits (λ p d z τ. flowEdges t k d z τ) e m in

@@ -31,11 +31,11 @@ futureEdges t k =
     ∷ byNaming (record { from = p; to = callers k (k .leads (k .statementCopy p) (k .statementAt p)) } ∷ []) [] [] (statement t (k .statementAt p))))
 
 -- before anything goes along the edges: the effects of what may come next, and nothing for the CALLs of a copy
-unfoldable pub futureStarts : Table → Layout → List ℕ → List ℕ → Bool → List ℕ
-futureStarts t k flow effect w =
+unfoldable pub futureInitials : Table → Layout → List ℕ → List ℕ → Bool → List ℕ
+futureInitials t k flow effect w =
     tabulate (k .statements + k .copies)
     (λ p. let here = nextEffects t k flow effect w (k .statementCopy p) (k .statementAt p) in cond (ltb p (k .statements)) here 0)
 
 -- the reads or the writes in the futures
 unfoldable pub futures : Table → Layout → List ℕ → List ℕ → Bool → List ℕ
-futures t k flow effect w = least (futureEdges t k) (futureStarts t k flow effect w)
+futures t k flow effect w = least (futureEdges t k) (futureInitials t k flow effect w)

@@ -25,7 +25,7 @@ use Rattle.report.specs.Flow.{flowAt}
 use Rattle.report.specs.FlowLaws.{FlowHas}
 use Rattle.report.specs.Effect.{effectOf}
 use Rattle.report.specs.EffectLaws.{EffectHas, accessed-below, accessed-does, does-accessed}
-use Rattle.report.specs.Future.{callers, nextEffects, futureEdges, futureStarts, futures}
+use Rattle.report.specs.Future.{callers, nextEffects, futureEdges, futureInitials, futures}
 use Rattle.report.specs.NextLaws.{goes-next, next-goes, goes-placed, map-has, map-from}
 use Rattle.report.specs.PlaceLaws.{placed, place-at, at-placed, among-all, of-some}
 use Rattle.report.specs.Rules.{Place, Goes, Does, FutureRules}
@@ -52,13 +52,13 @@ module _ (t : Table) (k : Layout) (acc : Accepted t) (fits : Fits t k) (flow : L
       go true = unionAt-below (nexts (k .statementAt p) (statement t (k .statementAt p))) _ (effectOf-below w (k .statementCopy p))
       go false = omega arith
 
-  starts-sets : (w : Bool) → SetList (k .statements + k .copies) (futureStarts t k flow (effect w) w)
-  unfolding futureStarts
+  starts-sets : (w : Bool) → SetList (k .statements + k .copies) (futureInitials t k flow (effect w) w)
+  unfolding futureInitials
   starts-sets w = tabulate-sets (k .statements + k .copies) (startAt w) (startAt-below w)
 
   pub futures-sets : (w : Bool) → SetList (k .statements + k .copies) (futures t k flow (effect w) w)
   unfolding futures
-  futures-sets w = least-sets (k .statements + k .copies) (futureEdges t k) (futureStarts t k flow (effect w) w) (starts-sets w)
+  futures-sets w = least-sets (k .statements + k .copies) (futureEdges t k) (futureInitials t k flow (effect w) w) (starts-sets w)
 
   -- the edges that a statement makes
   abbrev nextEdges : ℕ → ℕ → ℕ → Statement → List Edge
@@ -75,7 +75,7 @@ module _ (t : Table) (k : Layout) (acc : Accepted t) (fits : Fits t k) (flow : L
       → has (getD (futures t k flow (effect w) w) (e .from) 0) x ≡ true → has (getD (futures t k flow (effect w) w) (e .to) 0) x ≡ true
   unfolding futures futureEdges
   along w c s v σ q e m l x h =
-      least-edge (k .statements + k .copies) (futureEdges t k) (futureStarts t k flow (effect w) w) (starts-sets w) e
+      least-edge (k .statements + k .copies) (futureEdges t k) (futureInitials t k flow (effect w) w) (starts-sets w) e
       (among-all t k fits edgesAt e c s v σ q m) l x h
 
   -- ---- the rules
@@ -88,9 +88,9 @@ module _ (t : Table) (k : Layout) (acc : Accepted t) (fits : Fits t k) (flow : L
 
   at-next : (c s s′ : ℕ) (w : Bool) (x : ℕ) → Place (copiesOf fits) c s → Goes s (statement t s) s′
       → Does (copiesOf fits) (FlowHas k flow) (EffectHas effect) c s′ (statement t s′) w x → Future c s w x
-  unfolding futures futureStarts nextEffects effectOf
+  unfolding futures futureInitials nextEffects effectOf
   at-next c s s′ w x v g d =
-      least-holds-start (k .statements + k .copies) (futureEdges t k) (futureStarts t k flow (effect w) w) (starts-sets w) .at (k .statementPlace c s) x
+      least-holds-start (k .statements + k .copies) (futureEdges t k) (futureInitials t k flow (effect w) w) (starts-sets w) .at (k .statementPlace c s) x
       (tabulate-has (k .statements + k .copies) (startAt w) (k .statementPlace c s) x (place-below c s v)
       (rw (lt-ltb (k .statementPlace c s) (k .statements) (placed t k fits c s v .there))
       (at-placed t k fits (λ p b z τ. has (unionAt (nexts z τ) (effectOf t k flow (effect w) w b)) x ≡ true) c s v (statement t s) refl
@@ -221,9 +221,9 @@ module _ (t : Table) (k : Layout) (acc : Accepted t) (fits : Fits t k) (flow : L
         go false e h = none-in x h
 
     everywhere : (p x : ℕ) → has (getD (futures t k flow (effect w) w) p 0) x ≡ true → Ahead p x
-    unfolding futures futureEdges futureStarts
+    unfolding futures futureEdges futureInitials
     everywhere =
-        least-induction (k .statements + k .copies) (futureEdges t k) (futureStarts t k flow (effect w) w) (starts-sets w) Ahead
+        least-induction (k .statements + k .copies) (futureEdges t k) (futureInitials t k flow (effect w) w) (starts-sets w) Ahead
         (λ e m l x a.
         let r : (p : ℕ) × (p < k .statements) × List·Memᴰ e (edgesAt p (k .statementCopy p) (k .statementAt p) (statement t (k .statementAt p))) =
         of-some t k fits edgesAt e m in

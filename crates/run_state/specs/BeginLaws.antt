@@ -6,7 +6,7 @@ use native.Mathlib.Omega.{arith}
 use lib.IntN.{ℤ, pos}
 use lib.ListN.{length, getD, set, length-set, replicate, length-replicate, getD-replicate}
 use Rattle.table.specs.Table.{Table, tableOf, routine, passed}
-use Rattle.table.specs.Layout.{firstStatements, firstHandles}
+use Rattle.table.specs.Extents.{firstStatements, firstHandles}
 use Rattle.table.specs.Accepted.{Accepted}
 use Rattle.table.specs.declared.Arguments.{Arguments}
 use Rattle.machine.specs.State.{Holder, free, thread, opened, start}

@@ -8,7 +8,7 @@ use lib.IntN.{ℤ, pos}
 use lib.ListN.{length, getD}
 use Rattle.table.specs.Header.{statements, statementLine}
 use Rattle.table.specs.Table.{Table, tableOf, declaration, routine, passed, InRoutine, OwnHandle}
-use Rattle.table.specs.Layout.{firstStatements, firstHandles}
+use Rattle.table.specs.Extents.{firstStatements, firstHandles}
 use Rattle.table.specs.Accepted.{Accepted}
 use Rattle.table.specs.declared.Arguments.{Arguments}
 use Rattle.machine.specs.State.{State, Frame, Thread, Holder, free, held, thread, refers}

@@ -11,9 +11,9 @@ use lib.ListN.{length, getD}
 use Rattle.table.specs.Fields.{field}
 use Rattle.table.specs.Header.{handles, routines, statements, statementLine}
 use Rattle.table.specs.Handles.{routineOf, handlesFrom}
-use Rattle.table.specs.Layout.{firstStatements, firstHandles}
+use Rattle.table.specs.Extents.{firstStatements, firstHandles}
 use Rattle.table.specs.TabulateLaws.{length-tabulate, getD-tabulate}
-use Rattle.table.specs.LayoutLaws.{handles-next, first-at, handle-at}
+use Rattle.table.specs.ExtentLaws.{handles-next, first-at, handle-at}
 use Rattle.table.specs.LookupLaws.{routines-length}
 use Rattle.table.specs.UntilLaws.{until-range}
 use Rattle.table.specs.Table.{Table, tableOf, declaration, routine, statement, passed, argumentsIn, declarationOf, routineAt, statementOf}

@@ -9,7 +9,7 @@ ghost use Prim.Native.Nat.{_*_, _≤_};
 ghost use lib.ListN.{length};
 ghost use Rattle.table.specs.Header.{statements, statementLine};
 ghost use Rattle.table.specs.Table.{tableOf};
-ghost use Rattle.table.specs.Layout.{firstHandles};
+ghost use Rattle.table.specs.Extents.{firstHandles};
 ghost use Rattle.table.specs.Accepted.{Accepted};
 ghost use Rattle.machine.specs.State.{start};
 ghost use Rattle.run_state.specs.Lists.{cellsIn};

@@ -1,4 +1,4 @@
-// Steps a table by a schedule and prints a line a step: 55, thread, answer, five zeros; or line 50 on refusal. The first argument names a file with the
+// Steps a table by a schedule and prints a line a step: 55, thread, answer, five zeros, and then each cell's value; or line 50 on refusal. The first argument names a file with the
 // table text, the second a file with the schedule, each byte a thread number.
 use libc::STDOUT_FILENO;
 
@@ -23,6 +23,40 @@ fn print_steps(schedule: &[u8], answers: &[u8]) {
     }
 }
 
+fn say(text: &[u8]) {
+    io::write_all(STDOUT_FILENO, text);
+}
+
+// A cell and its value: `cell K V`.
+fn print_cell(cell: usize, value: i32) {
+    say(b"cell ");
+    io::print_decimal(STDOUT_FILENO, cell as u64);
+    if value < 0 {
+        say(b" -");
+    } else {
+        say(b" ");
+    }
+    io::print_decimal(STDOUT_FILENO, line_printer::magnitude(value) as u64);
+    say(b"\n");
+}
+
+// The first cells, so many.
+fn print_cells(cells: &[i32], count: usize) {
+    let mut i = 0;
+    while i < count {
+        if i < cells.len() {
+            print_cell(i, cells[i]);
+        }
+        i += 1;
+    }
+}
+
+// The cells of an accepted text: as many as its header says.
+fn print_cells_of(text: &[u8], cells: &[i32]) {
+    let header = lines::read_line(text, 0);
+    print_cells(cells, table::field_of(&header.numbers[..], 0, 1));
+}
+
 fn print_refusal(number: u32, line: usize) {
     let mut out = [0u8; 49];
     if refusal::print_refusal(&mut out[..], number, line) == 49 {
@@ -36,6 +70,7 @@ fn step_through(text: &[u8], schedule: &[u8]) {
     let outcome = engine::run(text, schedule, &mut answers[..], &mut cells[..]);
     if outcome.number == 0 {
         print_steps(schedule, &answers[..]);
+        print_cells_of(text, &cells[..]);
     } else {
         print_refusal(outcome.number, outcome.line);
     }

@@ -12,7 +12,7 @@ use Rattle.lines.specs.Line.{numbersOf}
 use Rattle.table.specs.Header.{cells, locks, handles, routines, statements}
 use Rattle.table.specs.Handles.{routineOf, kindOf, things, handlesFrom, parameters}
 use Rattle.table.specs.Routines.{firstOf}
-use Rattle.table.specs.LayoutLaws.{handles-from-most}
+use Rattle.table.specs.ExtentLaws.{handles-from-most}
 use Rattle.table.specs.CheckLaws.{Passed, text-passed}
 use Rattle.table.specs.HandleLaws.{HandleRule, handle-rule, from-grows, own-from, own-upto, own-routine, few-handles, few-parameters, parameters-among, first-without, parameter-before, local-behind}
 use Rattle.table.specs.RoutineLaws as R

@@ -16,7 +16,7 @@ use Rattle.table.specs.CheckLaws.{until-before, until-at}
 use Rattle.table.specs.Header.{handles, routines, within, handleLine}
 use Rattle.table.specs.HeaderLaws.{both, between}
 use Rattle.table.specs.Handles.{routineOf, kindOf, originOf, startOf, things, handleFieldsOk, sameAbove, handleOrderOk, parameterOk, handleOk, handlesFrom, parameters}
-use Rattle.table.specs.LayoutLaws.{handles-next, handles-from-most}
+use Rattle.table.specs.ExtentLaws.{handles-next, handles-from-most}
 
 -- ---- the rule of one handle line, in its parts
 

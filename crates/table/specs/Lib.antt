@@ -8,8 +8,8 @@ pub mod Header
 pub mod HeaderLaws
 pub mod Handles
 pub mod Routines
-pub mod Layout
-pub mod LayoutLaws
+pub mod Extents
+pub mod ExtentLaws
 pub mod Statements
 pub mod Naming
 pub mod Verdict

@@ -13,8 +13,8 @@ use Rattle.table.specs.HeaderLaws.{Sized}
 use Rattle.table.specs.Handles.{handlesFrom, parameters}
 use Rattle.table.specs.Routines.{firstOf}
 use Rattle.table.specs.RoutineLaws.{first-grows}
-use Rattle.table.specs.Layout.{firstStatements, firstHandles, parameterCounts}
-use Rattle.table.specs.LayoutLaws.{first-at, handle-at, count-at, handles-from-most}
+use Rattle.table.specs.Extents.{firstStatements, firstHandles, parameterCounts}
+use Rattle.table.specs.ExtentLaws.{first-at, handle-at, count-at, handles-from-most}
 use Rattle.table.specs.TabulateLaws.{entry-behind}
 
 -- where the routines' statements begin, the counts adding up

@@ -9,7 +9,7 @@ use Rattle.table.specs.TabulateLaws.{length-tabulate, getD-tabulate}
 use Rattle.table.specs.Header.{cells, locks, handles, routines, statements}
 use Rattle.table.specs.Handles.{routineOf, kindOf, originOf, startOf, handlesFrom, parameters}
 use Rattle.table.specs.Routines.{countOf, firstOf}
-use Rattle.table.specs.LayoutLaws.{first-next}
+use Rattle.table.specs.ExtentLaws.{first-next}
 use Rattle.table.specs.Table.{tableOf, declaration, routine, statement, declarationOf, routineAt, statementOf, InRoutine}
 
 module _ (f : List ℤ) where

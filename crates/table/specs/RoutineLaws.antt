@@ -14,7 +14,7 @@ use Rattle.table.specs.Fields.{unused}
 use Rattle.table.specs.Header.{routines, statements, routineLine, within}
 use Rattle.table.specs.HeaderLaws.{both, between}
 use Rattle.table.specs.Routines.{countOf, routineOk, firstOf}
-use Rattle.table.specs.LayoutLaws.{first-next}
+use Rattle.table.specs.ExtentLaws.{first-next}
 use Rattle.table.specs.Statements.{operation, statementOk, badStatement, endOk, lastOf}
 use Rattle.table.specs.Until.{until}
 use Rattle.table.specs.CheckLaws.{Passed, until-before}

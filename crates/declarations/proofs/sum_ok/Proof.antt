@@ -7,7 +7,7 @@ use Prim.Native.Nat.{ℕ}
 use lib.ListN.{getD}
 use Rattle.table.specs.Header.{routines}
 use Rattle.table.specs.Routines.{sumOk}
-use Rattle.table.specs.LayoutLaws.{first-at}
+use Rattle.table.specs.ExtentLaws.{first-at}
 use Rattle.declarations.proofs.sum_ok.Statement.{statement}
 use Rattle.declarations.proofs.sum_ok.Tie as tie
 

@@ -26,7 +26,7 @@ put-spaces-requires : tie.Need-put-spaces-requires Inv-loop μ-loop
 put-spaces-requires c κs = c .before .before .pre .1
 
 magnitude-requires : tie.Need-magnitude-requires Inv-loop μ-loop
-magnitude-requires c κs = rw (toZ-ofZ {w = w32} {z = c .before .before .before .before .before .args .n} (c .before .before .before .before .before .fits .n)) (c .before .before .before .before .before .pre .0)
+magnitude-requires c κs = tt
 
 abs : (c : tie.After-magnitude Inv-loop μ-loop) → c .magnitude .result ≡ natAbs (c .before .before .before .before .before .before .args .n)
 abs c = c .magnitude .ensures ∙ ap natAbs (toZ-ofZ {w = w32} {z = c .before .before .before .before .before .before .args .n} (c .before .before .before .before .before .before .fits .n))

@@ -11,7 +11,7 @@ use Rattle.table.specs.Until.{until}
 use Rattle.table.specs.Header.{handles, routines}
 use Rattle.table.specs.Handles.{routineOf, handlesFrom, parameters}
 use Rattle.table.specs.Routines.{countOf, firstOf}
-use Rattle.table.specs.Layout.{firstStatements, firstHandles, parameterCounts}
+use Rattle.table.specs.Extents.{firstStatements, firstHandles, parameterCounts}
 use Rattle.table.specs.UntilLaws.{until-range}
 use Rattle.table.specs.TabulateLaws.{entry-below}
 
