@@ -1,4 +1,3 @@
 pub mod Reported
-pub mod Room
 pub mod ReportedLaws
 pub mod SmallLaws

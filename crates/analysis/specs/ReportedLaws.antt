@@ -2,11 +2,11 @@
 use mathlib.Core.Path.{_≡_, refl, sym, ap, _∙_}
 use mathlib.Core.Bool.{Bool, true, false, cond}
 use mathlib.Core.List.{List}
-use Prim.Native.Nat.{ℕ, _*_, _≤_, _<_, min}
+use Prim.Native.Nat.{ℕ, _*_, _≤_, _<_}
 use native.Mathlib.Omega.{arith}
 use lib.Dec.{ltb}
 use lib.IntN.{ℤ, pos}
-use lib.ListN.{length, take, replicate, length-replicate}
+use lib.ListN.{length, take, replicate}
 use Rattle.lines.specs.Line.{numbersOf, lineCount}
 use Rattle.table.specs.Header.{routines, statements, statementLine}
 use Rattle.table.specs.Table.{tableOf}
@@ -25,7 +25,6 @@ use Rattle.analysis.specs.Reported.{tableIn, turnedDown, answerOf, repor
 use Rattle.analysis.specs.declared.Answer.{Answer}
 use Rattle.analysis.specs.declared.Examined.{Examined}
 use Rattle.stages.specs.Lent.{Lent}
-use Rattle.analysis.specs.Room.{Room}
 use Rattle.findings.specs.FoundLaws.{statements-few}
 use Rattle.stages.specs.SetsLaws.{routines-few}
 
@@ -59,15 +58,9 @@ module _ (text : List ℕ) (v : Verdict) (numbers : List ℤ) (said : v ≡ verd
     pub read-accepted : Facts.Accepted (tableOf numbers)
     read-accepted = rw (filled yes) (accepted text is-accepted)
 
-    -- the lists that have room for the lines have room for the table
-    pub read-lent : {work edges : List ℕ} → length numbers ≡ 8 * lineCount text → Room (lineCount text) work edges → Lent numbers work edges
-    read-lent {work} {edges} many room =
-        let lines : length numbers ≡ 8 * statementLine numbers (statements numbers) = rw (filled yes) (text-long text is-accepted) in
-        let r : routines numbers ≤ 32 = routines-few numbers read-accepted in
-        let s : statements numbers ≤ 512 = statements-few numbers read-accepted in
-        let w : min 1600 (3 * lineCount text) ≤ length work = room .work-long in
-        let e : min 2048 (4 * lineCount text) ≤ length edges = room .edges-long in
-        record { zeros = room .zeros; work-long = omega arith; edges-long = omega arith }
+    -- there are as many numbers as the header says
+    pub read-long : length numbers ≡ 8 * statementLine numbers (statements numbers)
+    read-long = rw (filled yes) (text-long text is-accepted)
 
     some-byte : 0 < length (reportText (tableIn text))
     some-byte = omega (arith, report-length (tableIn text) (accepted text is-accepted))
@@ -117,19 +110,19 @@ pub bad-length-written : (text : List ℕ) → textOk (length text) ≡ false �
 unfolding reportedInto
 bad-length-written text e out = rw (bad-length text e)
 
--- ---- lists of zeros of a size, for texts of N lines at most
+-- ---- lists of zeros of a size
 
-module _ (N n m : ℕ) (text : List ℕ) (count : ℕ) (e : count ≡ lineCount text) (few : lineCount text ≤ N) where
-  pub sized-long : 8 * count ≡ length (take (8 * count) (replicate (8 * N) (pos 0)))
-  sized-long = cut-long (8 * count) (8 * N) (pos 0) (omega arith)
+-- for the numbers of a text of N lines at most
+module _ (N : ℕ) (text : List ℕ) (count : ℕ) (e : count ≡ lineCount text) (few : lineCount text ≤ N) where
+  pub sized : 8 * count ≡ length (take (8 * count) (replicate (8 * N) (pos 0)))
+  sized = cut-long (8 * count) (8 * N) (pos 0) (omega arith)
 
-  pub sized : min 1600 (3 * N) ≤ n → min 2048 (4 * N) ≤ m
-      → (length (take (8 * count) (replicate (8 * N) (pos 0))) ≡ 8 * lineCount text) × Room (lineCount text) (replicate n 0) (replicate m 0)
-  sized a b = (
-    sym sized-long ∙ ap (λ (k : ℕ). 8 * k) e,
-    record {
-      zeros = ap (λ (k : ℕ). replicate {A = ℕ} k 0) (sym (length-replicate {A = ℕ} n 0));
-      work-long = omega (arith, length-replicate {A = ℕ} n 0);
-      edges-long = omega (arith, length-replicate {A = ℕ} m 0);
-    },
-  )
+  pub sized-text : length (take (8 * count) (replicate (8 * N) (pos 0))) ≡ 8 * lineCount text
+  sized-text = sym sized ∙ ap (λ (k : ℕ). 8 * k) e
+
+-- for the sets and edges of any accepted table
+pub lent-long : (f : List ℤ) → Facts.Accepted (tableOf f) → Lent f (replicate 1600 0) (replicate 2048 0)
+lent-long f acc =
+    let r : routines f ≤ 32 = routines-few f acc in
+    let s : statements f ≤ 512 = statements-few f acc in
+    record { zeros = refl; work-long = omega arith; edges-long = omega arith }

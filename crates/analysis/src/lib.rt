@@ -3,8 +3,13 @@ ghost use mathlib.Core.Path.{_≡_};
 ghost use Prim.Native.Nat.{_*_, _≤_};
 ghost use lib.ListN.{length};
 ghost use Rattle.lines.specs.Line.{lineCount};
+ghost use Rattle.table.specs.Header.{statements, statementLine};
+ghost use Rattle.table.specs.Table.{tableOf};
+ghost use Rattle.table.specs.Accepted.{Accepted};
+ghost use Rattle.report.specs.Report.{reportText};
+ghost use Rattle.report_printer.specs.Printed.{bytesIn, printedOver, countsNothing};
 ghost use Rattle.analysis.specs.Reported.{reportAnswer, reportedInto, loadable, examinedIn};
-ghost use Rattle.analysis.specs.Room.{Room};
+use report_printer::Printed;
 use table::Verdict;
 
 // What `report` answers: the number of the refusal, or 0, the line that goes with it, and how many bytes are written.
@@ -22,23 +27,74 @@ struct Examined {
     clean: bool,
 }
 
-// The report of a text, with lists that have room for its numbers, its sets and its edges.
-fn report_within(
-    text: &[u8],
-    numbers: &mut [i32],
-    work: &mut [u64],
-    edges: &mut [u32],
-    out: &mut [u8],
-) -> Examined
+// The report of an accepted table of 64 lines at most: small lists are soon cleared.
+fn examine_short(numbers: &[i32], out: &mut [u8]) -> Printed
+    requires { ⌜ Accepted (tableOf (now numbers)) ⌝ }
+    requires { ⌜ length (now numbers) ≡ 8 * statementLine (now numbers) (statements (now numbers)) ⌝ }
+    requires { ⌜ length (now numbers) ≤ 512 ⌝ }
+    ensures bytes { λ r. ⌜ r .bytes ≡ bytesIn (reportText (tableOf (now (numbers .entry)))) (length (now (out .entry))) ⌝ }
+    ensures clean { λ r. ⌜ r .clean ≡ countsNothing (tableOf (now (numbers .entry))) ⌝ }
+    ensures buffer { λ _. ⌜ now (out .exit) ≡ printedOver (reportText (tableOf (now (numbers .entry)))) (now (out .entry)) ⌝ }
+{
+    let mut work = [0u64; 192];
+    let mut edges = [0u32; 256];
+    stages::examine(numbers, &mut work[..], &mut edges[..], out)
+}
+
+// The report of an accepted table of 192 lines at most.
+fn examine_middle(numbers: &[i32], out: &mut [u8]) -> Printed
+    requires { ⌜ Accepted (tableOf (now numbers)) ⌝ }
+    requires { ⌜ length (now numbers) ≡ 8 * statementLine (now numbers) (statements (now numbers)) ⌝ }
+    requires { ⌜ length (now numbers) ≤ 1536 ⌝ }
+    ensures bytes { λ r. ⌜ r .bytes ≡ bytesIn (reportText (tableOf (now (numbers .entry)))) (length (now (out .entry))) ⌝ }
+    ensures clean { λ r. ⌜ r .clean ≡ countsNothing (tableOf (now (numbers .entry))) ⌝ }
+    ensures buffer { λ _. ⌜ now (out .exit) ≡ printedOver (reportText (tableOf (now (numbers .entry)))) (now (out .entry)) ⌝ }
+{
+    let mut work = [0u64; 576];
+    let mut edges = [0u32; 768];
+    stages::examine(numbers, &mut work[..], &mut edges[..], out)
+}
+
+// The report of an accepted table.
+fn examine_long(numbers: &[i32], out: &mut [u8]) -> Printed
+    requires { ⌜ Accepted (tableOf (now numbers)) ⌝ }
+    requires { ⌜ length (now numbers) ≡ 8 * statementLine (now numbers) (statements (now numbers)) ⌝ }
+    ensures bytes { λ r. ⌜ r .bytes ≡ bytesIn (reportText (tableOf (now (numbers .entry)))) (length (now (out .entry))) ⌝ }
+    ensures clean { λ r. ⌜ r .clean ≡ countsNothing (tableOf (now (numbers .entry))) ⌝ }
+    ensures buffer { λ _. ⌜ now (out .exit) ≡ printedOver (reportText (tableOf (now (numbers .entry)))) (now (out .entry)) ⌝ }
+{
+    let mut work = [0u64; 1600];
+    let mut edges = [0u32; 2048];
+    stages::examine(numbers, &mut work[..], &mut edges[..], out)
+}
+
+// The report of an accepted table, in lists of a size for it.
+fn examine_sized(numbers: &[i32], out: &mut [u8]) -> Printed
+    requires { ⌜ Accepted (tableOf (now numbers)) ⌝ }
+    requires { ⌜ length (now numbers) ≡ 8 * statementLine (now numbers) (statements (now numbers)) ⌝ }
+    ensures bytes { λ r. ⌜ r .bytes ≡ bytesIn (reportText (tableOf (now (numbers .entry)))) (length (now (out .entry))) ⌝ }
+    ensures clean { λ r. ⌜ r .clean ≡ countsNothing (tableOf (now (numbers .entry))) ⌝ }
+    ensures buffer { λ _. ⌜ now (out .exit) ≡ printedOver (reportText (tableOf (now (numbers .entry)))) (now (out .entry)) ⌝ }
+{
+    if numbers.len() <= 512 {
+        return examine_short(numbers, out);
+    }
+    if numbers.len() <= 1536 {
+        return examine_middle(numbers, out);
+    }
+    examine_long(numbers, out)
+}
+
+// The report of a text, with a list that has room for its numbers.
+fn report_within(text: &[u8], numbers: &mut [i32], out: &mut [u8]) -> Examined
     requires { ⌜ length (now numbers) ≡ 8 * lineCount (now text) ⌝ }
-    requires { ⌜ Room (lineCount (now text)) (now work) (now edges) ⌝ }
     ensures answer { λ r. ⌜ r ≡ examinedIn (now (text .entry)) (length (now (out .entry))) ⌝ }
     ensures buffer { λ _. ⌜ now (out .exit) ≡ reportedInto (now (text .entry)) (now (out .entry)) ⌝ }
 {
     let verdict = reader::read_into(text, numbers);
     match verdict {
         Verdict::Accepted => {
-            let printed = stages::examine(numbers, work, edges, out);
+            let printed = examine_sized(numbers, out);
             if printed.bytes == 0 {
                 return Examined {
                     number: 13,
@@ -63,7 +119,7 @@ fn report_within(
     }
 }
 
-// The report of a text of 64 lines at most: small lists are soon cleared.
+// The report of a text of 64 lines at most.
 fn report_short(text: &[u8], out: &mut [u8]) -> Examined
     requires { ⌜ lineCount (now text) ≤ 64 ⌝ }
     ensures answer { λ r. ⌜ r ≡ examinedIn (now (text .entry)) (length (now (out .entry))) ⌝ }
@@ -71,15 +127,7 @@ fn report_short(text: &[u8], out: &mut [u8]) -> Examined
 {
     let count = 8 * lines::line_count(text);
     let mut numbers = [0i32; 512];
-    let mut work = [0u64; 192];
-    let mut edges = [0u32; 256];
-    report_within(
-        text,
-        &mut numbers[..count],
-        &mut work[..],
-        &mut edges[..],
-        out,
-    )
+    report_within(text, &mut numbers[..count], out)
 }
 
 // The report of a text of 192 lines at most.
@@ -90,15 +138,7 @@ fn report_middle(text: &[u8], out: &mut [u8]) -> Examined
 {
     let count = 8 * lines::line_count(text);
     let mut numbers = [0i32; 1536];
-    let mut work = [0u64; 576];
-    let mut edges = [0u32; 768];
-    report_within(
-        text,
-        &mut numbers[..count],
-        &mut work[..],
-        &mut edges[..],
-        out,
-    )
+    report_within(text, &mut numbers[..count], out)
 }
 
 // The report of any text.
@@ -108,18 +148,10 @@ fn report_long(text: &[u8], out: &mut [u8]) -> Examined
 {
     let count = 8 * lines::line_count(text);
     let mut numbers = [0i32; 5384];
-    let mut work = [0u64; 1600];
-    let mut edges = [0u32; 2048];
-    report_within(
-        text,
-        &mut numbers[..count],
-        &mut work[..],
-        &mut edges[..],
-        out,
-    )
+    report_within(text, &mut numbers[..count], out)
 }
 
-// The report of a text, in lists of a size for it. A text of no length that a text has is refused before any list is cleared.
+// The report of a text, its numbers in a list of a size for it. A text of no length that a text has is refused before any list is cleared.
 fn report_sized(text: &[u8], out: &mut [u8]) -> Examined
     ensures answer { λ r. ⌜ r ≡ examinedIn (now (text .entry)) (length (now (out .entry))) ⌝ }
     ensures buffer { λ _. ⌜ now (out .exit) ≡ reportedInto (now (text .entry)) (now (out .entry)) ⌝ }

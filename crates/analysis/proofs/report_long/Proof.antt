@@ -1,7 +1,7 @@
 -- `analysis::report_long` meets its contract. Assumes nothing.
 use native.Mathlib.Omega.{arith}
-use Rattle.analysis.specs.ReportedLaws.{sized-long, sized}
 use denote.Ref.{now}
+use Rattle.analysis.specs.ReportedLaws.{sized, sized-text}
 use borrow.Author.Needs.{needs}
 use Rattle.analysis.proofs.report_long.Statement.{statement}
 use Rattle.analysis.proofs.report_long.Tie as tie
@@ -16,16 +16,10 @@ array-borrow-prefix-numbers : tie.Need-array-borrow-prefix-numbers
 array-borrow-prefix-numbers c = search needs
 
 slice-aggregate-report-within : tie.Need-slice-aggregate-report-within
-slice-aggregate-report-within c = sized-long 673 1600 2048 (now (c .before .before .before .before .args .text)) _ (c .before .line-count .ensures) (omega arith)
-
-slice-aggregate-report-within-2 : tie.Need-slice-aggregate-report-within-2
-slice-aggregate-report-within-2 c = search needs
-
-slice-aggregate-report-within-3 : tie.Need-slice-aggregate-report-within-3
-slice-aggregate-report-within-3 c = search needs
+slice-aggregate-report-within c = sized 673 (now (c .before .before .before .before .args .text)) _ (c .before .line-count .ensures) (omega arith)
 
 report-within-requires : tie.Need-report-within-requires
-report-within-requires c κs = sized 673 1600 2048 (now (c .before .before .before .before .before .before .before .args .text)) _ (c .before .before .before .before .line-count .ensures) (omega arith) (omega arith) (omega arith)
+report-within-requires c κs = sized-text 673 (now (c .before .before .before .before .before .args .text)) _ (c .before .before .line-count .ensures) (omega arith)
 
 same-length : tie.Need-same-length
 same-length c = search needs
@@ -41,8 +35,6 @@ report-long-spec =
     mul-count
     array-borrow-prefix-numbers
     slice-aggregate-report-within
-    slice-aggregate-report-within-2
-    slice-aggregate-report-within-3
     report-within-requires
     same-length
     returns)

@@ -1,7 +1,6 @@
 -- `analysis::report_middle` meets its contract. Assumes nothing.
-use native.Mathlib.Omega.{arith}
-use Rattle.analysis.specs.ReportedLaws.{sized-long, sized}
 use denote.Ref.{now}
+use Rattle.analysis.specs.ReportedLaws.{sized, sized-text}
 use borrow.Author.Needs.{needs}
 use Rattle.analysis.proofs.report_middle.Statement.{statement}
 use Rattle.analysis.proofs.report_middle.Tie as tie
@@ -16,16 +15,10 @@ array-borrow-prefix-numbers : tie.Need-array-borrow-prefix-numbers
 array-borrow-prefix-numbers c = search needs
 
 slice-aggregate-report-within : tie.Need-slice-aggregate-report-within
-slice-aggregate-report-within c = sized-long 192 576 768 (now (c .before .before .before .before .args .text)) _ (c .before .line-count .ensures) (c .before .before .before .before .pre)
-
-slice-aggregate-report-within-2 : tie.Need-slice-aggregate-report-within-2
-slice-aggregate-report-within-2 c = search needs
-
-slice-aggregate-report-within-3 : tie.Need-slice-aggregate-report-within-3
-slice-aggregate-report-within-3 c = search needs
+slice-aggregate-report-within c = sized 192 (now (c .before .before .before .before .args .text)) _ (c .before .line-count .ensures) (c .before .before .before .before .pre)
 
 report-within-requires : tie.Need-report-within-requires
-report-within-requires c κs = sized 192 576 768 (now (c .before .before .before .before .before .before .before .args .text)) _ (c .before .before .before .before .line-count .ensures) (c .before .before .before .before .before .before .before .pre) (omega arith) (omega arith)
+report-within-requires c κs = sized-text 192 (now (c .before .before .before .before .before .args .text)) _ (c .before .before .line-count .ensures) (c .before .before .before .before .before .pre)
 
 same-length : tie.Need-same-length
 same-length c = search needs
@@ -41,8 +34,6 @@ report-middle-spec =
     mul-count
     array-borrow-prefix-numbers
     slice-aggregate-report-within
-    slice-aggregate-report-within-2
-    slice-aggregate-report-within-3
     report-within-requires
     same-length
     returns)
