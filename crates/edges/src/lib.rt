@@ -3,7 +3,7 @@
 ghost use mathlib.Core.Path.{_≡_};
 ghost use mathlib.Core.List.{[], _∷_};
 ghost use Prim.Native.Nat.{_<_, _≤_, _+_, _^_};
-ghost use Rattle.table.specs.Header.{statements, statementLine};
+ghost use Rattle.table.specs.Header.{statements};
 ghost use Rattle.table.specs.Table.{tableOf, statement};
 ghost use Rattle.table.specs.Extents.{firstStatements, firstHandles, parameterCounts};
 ghost use Rattle.table.specs.Accepted.{Accepted};

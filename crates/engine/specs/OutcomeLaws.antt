@@ -1,6 +1,6 @@
 -- What a call answers and leaves, by what is read of its text. Assumes nothing.
 use Prim.Native.Nat.{ℕ, _*_, _<_, _≤_}
-use mathlib.Core.Path.{_≡_, refl, sym, ap, _∙_, subst}
+use mathlib.Core.Path.{_≡_, sym, ap, _∙_, subst}
 use mathlib.Core.Bool.{true, false}
 use mathlib.Core.List.{List, _++_}
 use borrow.Author.Tests.{le-leb, lt-leb}
@@ -21,7 +21,7 @@ use Rattle.machine.specs.Step.{run}
 use Rattle.machine.specs.EngineLaws.{unlimited, engine-runs-as-machine}
 use Rattle.machine.specs.Engine.{engineRun, answers}
 use Rattle.engine.specs.declared.Outcome.{Outcome}
-use Rattle.engine.specs.Run.{tableIn, fits, outcomeOf, answersLeft, cellsLeft}
+use Rattle.engine.specs.Run.{tableIn, hasRoom, outcomeOf, answersLeft, cellsLeft}
 
 -- ---- what is read of a text
 
@@ -49,15 +49,15 @@ read-facts text v numbers k said filled q c =
 -- ---- what is left
 
 abbrev pub Left : List ℕ → List ℕ → List ℕ → List ℤ → Outcome → List ℕ → List ℤ → Type 0
-Left text schedule given cells r given′ cells′ =
-    (r ≡ outcomeOf text schedule given cells) × ((given′ ≡ answersLeft text schedule given cells) × (cells′ ≡ cellsLeft text schedule given cells))
+Left text schedule lent cells r lent′ cells′ =
+    (r ≡ outcomeOf text schedule lent cells) × ((lent′ ≡ answersLeft text schedule lent cells) × (cells′ ≡ cellsLeft text schedule lent cells))
 
-module _ (text schedule given : List ℕ) (cells : List ℤ) where
-  pub left-refused : (number line : ℕ) → verdict text ≡ Declared.Verdict.Refused number line → Left text schedule given cells (record { number = number; line = line }) given cells
+module _ (text schedule lent : List ℕ) (cells : List ℤ) where
+  pub left-refused : (number line : ℕ) → verdict text ≡ Declared.Verdict.Refused number line → Left text schedule lent cells (record { number = number; line = line }) lent cells
   unfolding outcomeOf answersLeft cellsLeft
   left-refused number line e = (rw e, (rw e, rw e))
 
-  left-short : verdict text ≡ Declared.Verdict.Accepted → fits text schedule given cells ≡ false → Left text schedule given cells (record { number = 13; line = 0 }) given cells
+  left-short : verdict text ≡ Declared.Verdict.Accepted → hasRoom text schedule lent cells ≡ false → Left text schedule lent cells (record { number = 13; line = 0 }) lent cells
   unfolding outcomeOf answersLeft cellsLeft
   left-short e f = (rw (e, f), (rw (e, f), rw (e, f)))
 
@@ -65,24 +65,24 @@ module _ (text schedule given : List ℕ) (cells : List ℤ) where
     count-is : k .cells ≡ tableIn text .cells
     count-is = q .cells-are ∙ ap (λ (f : List ℤ). tableOf f .cells) (q .numbers-are)
 
-    pub short-answers : length given < length schedule → Left text schedule given cells (record { number = 13; line = 0 }) given cells
-    short-answers l = left-short (q .verdict-is) (rw (lt-leb (length schedule) (length given) l))
+    pub short-answers : length lent < length schedule → Left text schedule lent cells (record { number = 13; line = 0 }) lent cells
+    short-answers l = left-short (q .verdict-is) (rw (lt-leb (length schedule) (length lent) l))
 
-    pub short-cells : length schedule ≤ length given → length cells < k .cells → Left text schedule given cells (record { number = 13; line = 0 }) given cells
-    short-cells a l = left-short (q .verdict-is) (rw (le-leb (length schedule) (length given) a, lt-leb (tableIn text .cells) (length cells) (subst (λ (n : ℕ). length cells < n) count-is l)))
+    pub short-cells : length schedule ≤ length lent → length cells < k .cells → Left text schedule lent cells (record { number = 13; line = 0 }) lent cells
+    short-cells a l = left-short (q .verdict-is) (rw (le-leb (length schedule) (length lent) a, lt-leb (tableIn text .cells) (length cells) (subst (λ (n : ℕ). length cells < n) count-is l)))
 
-    pub left-run : (given′ : List ℕ) (part : List ℤ) → length schedule ≤ length given → k .cells ≤ length cells
-        → given′ ≡ answers (tableOf numbers) (start (tableOf numbers)) schedule ++ drop (length schedule) given
+    pub left-run : (lent′ : List ℕ) (part : List ℤ) → length schedule ≤ length lent → k .cells ≤ length cells
+        → lent′ ≡ answers (tableOf numbers) (start (tableOf numbers)) schedule ++ drop (length schedule) lent
         → part ≡ engineRun (tableOf numbers) (start (tableOf numbers)) schedule .cells
-        → Left text schedule given cells (record { number = 0; line = 0 }) given′ (part ++ drop (k .cells) cells)
+        → Left text schedule lent cells (record { number = 0; line = 0 }) lent′ (part ++ drop (k .cells) cells)
     unfolding outcomeOf answersLeft cellsLeft
-    left-run given′ part a b x y =
-        let fit = le-leb (length schedule) (length given) a in
+    left-run lent′ part a b x y =
+        let fit = le-leb (length schedule) (length lent) a in
         let room = le-leb (tableIn text .cells) (length cells) (subst (λ (n : ℕ). n ≤ length cells) count-is b) in
         let v = q .verdict-is in (
           rw (v, fit, room),
           (
-            rw (v, fit, room) (x ∙ ap (λ (f : List ℤ). answers (tableOf f) (start (tableOf f)) schedule ++ drop (length schedule) given) (q .numbers-are)),
+            rw (v, fit, room) (x ∙ ap (λ (f : List ℤ). answers (tableOf f) (start (tableOf f)) schedule ++ drop (length schedule) lent) (q .numbers-are)),
             rw (v, fit, room)
                 (ap (λ (l : List ℤ). l ++ drop (k .cells) cells) (y ∙ ap (λ (f : List ℤ). engineRun (tableOf f) (start (tableOf f)) schedule .cells) (q .numbers-are))
                 ∙ ap (λ (n : ℕ). engineRun (tableIn text) (start (tableIn text)) schedule .cells ++ drop n cells) count-is),
@@ -90,9 +90,9 @@ module _ (text schedule given : List ℕ) (cells : List ℤ) where
         )
 
 -- the cells that an accepted call leaves are the machine's after the schedule without the steps that are answered 18 or 19
-pub cells-of-the-machine : (text schedule given : List ℕ) (cells : List ℤ) → verdict text ≡ Declared.Verdict.Accepted → fits text schedule given cells ≡ true
-    → cellsLeft text schedule given cells
+pub cells-of-the-machine : (text schedule lent : List ℕ) (cells : List ℤ) → verdict text ≡ Declared.Verdict.Accepted → hasRoom text schedule lent cells ≡ true
+    → cellsLeft text schedule lent cells
     ≡ run (tableIn text) (start (tableIn text)) (unlimited (tableIn text) (start (tableIn text)) schedule) .cells ++ drop (tableIn text .cells) cells
 unfolding cellsLeft
-cells-of-the-machine text schedule given cells v f =
+cells-of-the-machine text schedule lent cells v f =
     rw (v, f) (ap (λ (s : State). s .cells ++ drop (tableIn text .cells) cells) (engine-runs-as-machine (tableIn text) (start (tableIn text)) schedule))

@@ -1,6 +1,6 @@
 -- What `run` answers and leaves: refusals 1 to 12 of the text, then 13, else the machine's answers and cells. Assumes nothing.
 use Prim.Native.Nat.{ℕ}
-use mathlib.Core.Bool.{Bool, true, false, cond, _&&_}
+use mathlib.Core.Bool.{Bool, false, cond, _&&_}
 use mathlib.Core.List.{List, _++_}
 use lib.Dec.{leb}
 use lib.IntN.{ℤ}
@@ -29,23 +29,23 @@ runsBy Accepted fit = fit
 runsBy (Refused number line) fit = false
 
 -- the lent lists have the places that the schedule and the cells need
-abbrev pub fits : List ℕ → List ℕ → List ℕ → List ℤ → Bool
-fits text schedule given cells = leb (length schedule) (length given) && leb (tableIn text .cells) (length cells)
+abbrev pub hasRoom : List ℕ → List ℕ → List ℕ → List ℤ → Bool
+hasRoom text schedule lent cells = leb (length schedule) (length lent) && leb (tableIn text .cells) (length cells)
 
 -- what is returned
 unfoldable pub outcomeOf : List ℕ → List ℕ → List ℕ → List ℤ → Outcome
-outcomeOf text schedule given cells = let fit = fits text schedule given cells in outcomeBy (verdict text) fit
+outcomeOf text schedule lent cells = let fit = hasRoom text schedule lent cells in outcomeBy (verdict text) fit
 
 -- "fills one answer byte for each"; "Places past those written keep their contents"; a refused call changes nothing
 unfoldable pub answersLeft : List ℕ → List ℕ → List ℕ → List ℤ → List ℕ
-answersLeft text schedule given cells =
-    let fit = fits text schedule given cells in
-    let written = answers (tableIn text) (start (tableIn text)) schedule ++ drop (length schedule) given in
-    cond (runsBy (verdict text) fit) written given
+answersLeft text schedule lent cells =
+    let fit = hasRoom text schedule lent cells in
+    let written = answers (tableIn text) (start (tableIn text)) schedule ++ drop (length schedule) lent in
+    cond (runsBy (verdict text) fit) written lent
 
 -- "leaves the final cell values in a lent list"
 unfoldable pub cellsLeft : List ℕ → List ℕ → List ℕ → List ℤ → List ℤ
-cellsLeft text schedule given cells =
-    let fit = fits text schedule given cells in
+cellsLeft text schedule lent cells =
+    let fit = hasRoom text schedule lent cells in
     let written = engineRun (tableIn text) (start (tableIn text)) schedule .cells ++ drop (tableIn text .cells) cells in
     cond (runsBy (verdict text) fit) written cells

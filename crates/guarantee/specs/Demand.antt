@@ -1,14 +1,11 @@
 -- Demand 3: a text that is accepted and whose report counts no unguarded cell and no stray GIVE is safe after every list of thread numbers. Assumes nothing.
-use mathlib.Core.Path.{_≡_, refl, sym, ap, _∙_}
-use mathlib.Core.List.{List, [], _∷_, _++_, map}
-use mathlib.Core.Option.{Option, none, some}
+use mathlib.Core.Path.{_≡_, sym, ap, _∙_}
+use mathlib.Core.List.{List, [], _∷_}
+use mathlib.Core.Option.{some}
 use Prim.Native.Nat.{ℕ, _-_}
-use native.Mathlib.Omega.{arith}
 use lib.IntN.{ℤ, pos}
-use lib.ListN.{length, getD, drop, length-append}
-use lib.Seq.{drop-append-seam}
-use Rattle.lines.specs.Line.{lineOf, lineText, numbersOf}
-use Rattle.lines.specs.LineLaws.{printed-reads-back, line-text-length}
+use lib.ListN.{length, getD, drop}
+use Rattle.lines.specs.Line.{lineOf, numbersOf}
 use Rattle.table.specs.Table.{Table, tableOf}
 use Rattle.table.specs.Accepted.{Accepted}
 use Rattle.table.specs.AcceptedLaws.{accepted}

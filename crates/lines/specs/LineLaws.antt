@@ -1,21 +1,18 @@
 -- A line that is printed reads back as its numbers, and bytes that are a line are the ones that are printed for its numbers. The
 -- numbers of a text are those of its fields, each at its place. Assumes nothing.
 use mathlib.Core.Path.{_≡_, refl, sym, ap, _∙_}
-use Prim.Native.Nat.{ℕ, zero, suc, _+_, _*_, _/_, _%_, _≤_, _<_}
+use Prim.Native.Nat.{ℕ, zero, suc, _+_, _*_, _<_}
 use native.Mathlib.Omega.{arith}
 use mathlib.Core.Bool.{Bool, true, false}
 use mathlib.Core.Option.{Option, none, some}
 use mathlib.Core.List.{List, [], _∷_, _++_}
-use lib.Dec.{ltb}
-use lib.IntN.{ℤ, pos, negsuc}
-use lib.Signed.{mag}
-use lib.ListN.{length, getD, take, drop, length-append, take-append-drop, List·getD-eq-default}
+use lib.IntN.{ℤ, pos}
+use lib.ListN.{length, getD, take, drop, length-append, take-append-drop}
 use lib.Seq.{take-at, drop-at, drop-drop}
-use borrow.Author.Tests.{ltb-true, ltb-false}
 use Rattle.lines.specs.Field.{fieldOf, fieldText, inField}
 use Rattle.lines.specs.FieldLaws.{FieldIs, field-text-length, printed-field-reads-back, read-field-prints-back}
 use Rattle.lines.specs.Line.{fieldsOf, lineOf, lineText, lineAt, allInField, isSome, orZeros, goodLine, lineCount, firstBad, lineNumbers, numbersOf, pageAnswer, pageOf}
-use Rattle.lines.specs.LineLoops.{Joined, joined-some, end-some, fields-end, fields-cons, line-sized, numbers-sized, pieces-at, line-field}
+use Rattle.lines.specs.LineLoops.{Joined, joined-some, end-some, fields-end, fields-cons, line-sized, pieces-at, line-field}
 use Rattle.lines.specs.LowestLaws.{Lowest, some-lowest}
 
 -- all in the range, one case each
@@ -128,28 +125,6 @@ pub number-at : (t : List ℕ) (i j : ℕ) → i < lineCount t → j < 8 → goo
     → fieldOf (take 6 (drop (49 * i + 6 * j) t)) ≡ some (getD (numbersOf t) (8 * i + j) (pos 0))
 number-at t i j h l g =
     rw (number-of-line t i j h l, ← line-field t (49 * i) j l) (fields-at 8 j (lineAt t i) (lineNumbers (lineAt t i)) (good-line t i g) l)
-
-zeros-in-field : allInField (orZeros none) ≡ true
-unfolding allInField
-zeros-in-field = refl
-
-pub line-in-field : (bs : List ℕ) → allInField (lineNumbers bs) ≡ true
-line-in-field bs = go (lineOf bs) refl
-  where
-    go : (o : Option (List ℤ)) → lineOf bs ≡ o → allInField (orZeros o) ≡ true
-    go none e = zeros-in-field
-    go (some zs) e = read-prints-back bs zs e .range
-
--- every number of a text is in the range of a field
-pub numbers-in-field : (t : List ℕ) (k : ℕ) → inField (getD (numbersOf t) k (pos 0)) ≡ true
-numbers-in-field t k = go (ltb k (8 * lineCount t)) refl
-  where
-    go : (b : Bool) → ltb k (8 * lineCount t) ≡ b → inField (getD (numbersOf t) k (pos 0)) ≡ true
-    go true e =
-        let h : k < 8 * lineCount t = ltb-true k (8 * lineCount t) e in
-        let q : k ≡ 8 * (k / 8) + k % 8 = omega arith in
-        rw (q, number-of-line t (k / 8) (k % 8) (omega arith) (omega arith)) (all-at (lineNumbers (lineAt t (k / 8))) (k % 8) (line-in-field (lineAt t (k / 8))))
-    go false e = rw (List·getD-eq-default (numbersOf t) (pos 0) {n = k} (rw numbers-sized (ltb-false k (8 * lineCount t) e)))
 
 -- what a page is
 

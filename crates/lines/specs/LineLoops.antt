@@ -12,9 +12,8 @@ use lib.Dec.{eqb}
 use lib.IntN.{ℤ, pos}
 use lib.ListN.{length, getD, take, drop, set, replicate, length-append, length-replicate, length-set, length-take, length-drop, drop-of-length-le, List·getD-append}
 use lib.Seq.{drop-cons, drop-drop, take-take, take-all, take-suc-set, getD-append-add, getD-take, getD-drop}
-use borrow.Author.Tests.{eq-eqb, ne-eqb, eqb-true, eqb-false}
+use borrow.Author.Tests.{eq-eqb, ne-eqb, eqb-true}
 use Rattle.lines.specs.Field.{fieldOf}
-use Rattle.lines.specs.FieldLoops.{field-short}
 use Rattle.lines.specs.Line.{endOf, joined, fieldsOf, lineOf, lineAt, orZeros, goodLine, lineCount, firstBad, lineNumbers, pieces, numbersOf, padded, badAnswer}
 use Rattle.lines.specs.declared.FirstBad as B
 use Rattle.lines.specs.LowestLaws.{Passed, passed-start, passed-next, passed-stop, passed-done}

@@ -11,7 +11,7 @@ use borrow.Author.Tests.{ltb-true, ltb-false, lt-ltb}
 use lib.Dec.{ltb}
 use lib.IntN.{ℤ}
 use lib.ListN.{length, getD, replicate, length-replicate, getD-replicate}
-use Rattle.sets.specs.Set.{has, union, minus, isSingle}
+use Rattle.sets.specs.Set.{has, union, minus}
 use Rattle.sets.specs.SetLaws.{has-union-left, has-union-right, union-cases, has-firsts, inside-both}
 use Rattle.sets.specs.Least.{Inside}
 use Rattle.table.specs.Header.{handles, routines, statements, statementLine}
@@ -36,10 +36,10 @@ use Rattle.report.specs.OneEach.{one-each-fits, statement-below}
 use Rattle.report.specs.Operations.{isReturn}
 use Rattle.report.specs.FlowLaws.{FlowHas}
 use Rattle.report.specs.EffectLaws.{GivesHas}
-use Rattle.report.specs.Held.{allLocks, onlyLock, atReturns, heldSets}
+use Rattle.report.specs.Held.{allLocks, atReturns, heldSets}
 use Rattle.report.specs.HeldLaws.{only-from, only-has, return-is, held-rules, held-greatest}
 use Rattle.report.specs.NextLaws.{goes-placed}
-use Rattle.report.specs.Rules.{Place, Goes, Only, After, AtReturns, HeldRules}
+use Rattle.report.specs.Rules.{Place, Goes, After, AtReturns, HeldRules}
 use Rattle.lock_rules.specs.Steps.{behind}
 use Rattle.lock_rules.specs.Rules.{Setting, fixedOf, setting, Small, Lost, Rule, Closed, Solved, operation, operand}
 use Rattle.lock_rules.specs.declared.Fixed.{Fixed}

@@ -1,6 +1,5 @@
 -- Statements by the number of their operation. Assumes nothing.
-use mathlib.Core.Path.{_≡_, refl, sym}
-use mathlib.Core.Bool.{true}
+use mathlib.Core.Path.{_≡_, refl}
 use mathlib.Core.List.{List}
 use Prim.Native.Nat.{ℕ, zero, suc, _<_}
 use native.Mathlib.Omega.{arith}
@@ -9,8 +8,6 @@ use Rattle.table.specs.Table.{statementIn}
 use Rattle.table.specs.OperationLaws.{by-operation}
 use Rattle.table.specs.declared.Statement.{Statement}
 use Rattle.table.specs.declared.Statement.the-variants.{Read, Write, Set, Add, Take, Give, Point, Call, Start, Jump, JumpZero, Return}
-use Rattle.report.specs.OverLaws.{never}
-use Rattle.report.specs.Operations.{isReturn}
 
 -- the number of a statement's operation
 abbrev pub numberOf : Statement → ℕ

@@ -53,4 +53,4 @@ engineRun t state (n ∷ ns) = engineRun t (after state (engineStep t state n)) 
 unfoldable pub answers : Table → State → List ℕ → List ℕ
 unfolding engineStep
 answers t state [] = []
-answers t state (n ∷ ns) = let given = engineStep t state n in answer given ∷ answers t (after state given) ns
+answers t state (n ∷ ns) = let reply = engineStep t state n in answer reply ∷ answers t (after state reply) ns

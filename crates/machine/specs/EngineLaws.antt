@@ -21,9 +21,9 @@ unfoldable pub unlimited : Table → State → List ℕ → List ℕ
 unfolding engineStep
 unlimited t state [] = []
 unlimited t state (n ∷ ns) =
-    let given = engineStep t state n in
-    let rest = unlimited t (after state given) ns in
-    cond (leb 18 (answer given)) rest (n ∷ rest)
+    let reply = engineStep t state n in
+    let rest = unlimited t (after state reply) ns in
+    cond (leb 18 (answer reply)) rest (n ∷ rest)
 
 -- ---- a limit is 18 or 19, and the machine's own refusals are below
 
@@ -49,7 +49,7 @@ limitOf-known : (t : Table) (started : ℕ) (fs : List Frame) → (limitOf t sta
 limitOf-known t started [] = inl refl
 limitOf-known t started (f ∷ older) = limit-known started (length (f ∷ older)) (statement t (f .next))
 
-within-low : (given : Answer) → Within given → answer given < 18
+within-low : (reply : Answer) → Within reply → answer reply < 18
 within-low (moved new) h = omega arith
 within-low (refused k) h = omega arith
 
@@ -65,9 +65,9 @@ engine-runs-as-machine t state (n ∷ ns) =
     over = limitOf t (length (state .threads)) (thread state n .frames)
 
     go : (b : Bool) → eqb over 0 ≡ b → (rest : State → List ℕ)
-        → let given = cond b (step t state n) (refused over) in
-        let new = after state given in
-        run t new (rest new) ≡ run t state (cond (leb 18 (answer given)) (rest new) (n ∷ rest new))
+        → let reply = cond b (step t state n) (refused over) in
+        let new = after state reply in
+        run t new (rest new) ≡ run t state (cond (leb 18 (answer reply)) (rest new) (n ∷ rest new))
     go true e rest = rw (lt-leb 18 (answer (step t state n)) (within-low (step t state n) (step-within t state n)))
     go false e rest =
         rw (le-leb 18 over (⊎-elim (λ none. absurd (eqb-false over 0 e none)) (λ some. some) (limitOf-known t (length (state .threads)) (thread state n .frames))))

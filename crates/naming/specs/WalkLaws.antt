@@ -10,20 +10,20 @@ use Rattle.sets.specs.declared.Which.the-variants.{Element, Nothing}
 use Rattle.table.specs.Naming.{walk}
 
 -- with no routine left the walk ends
-pub walk-spent : (names : List ℕ) (todo seen left : ℕ) → left ≡ 0 → seen ≡ walk names todo seen left
+pub walk-spent : (names : List ℕ) (worklist seen left : ℕ) → left ≡ 0 → seen ≡ walk names worklist seen left
 unfolding walk
-walk-spent names todo seen left e = rw e
+walk-spent names worklist seen left e = rw e
 
 -- with nothing to do the walk ends
-pub walk-nothing : (names : List ℕ) (todo seen left : ℕ) → lowest todo ≡ Nothing → seen ≡ walk names todo seen left
+pub walk-nothing : (names : List ℕ) (worklist seen left : ℕ) → lowest worklist ≡ Nothing → seen ≡ walk names worklist seen left
 unfolding walk
-walk-nothing names todo seen zero e = refl
-walk-nothing names todo seen (suc left) e = rw e
+walk-nothing names worklist seen zero e = refl
+walk-nothing names worklist seen (suc left) e = rw e
 
 -- else it goes on with what the lowest names
-pub walk-element : (names : List ℕ) (todo seen left i : ℕ) → 1 ≤ left → lowest todo ≡ Element i
-    → walk names (minus (union todo (getD names i 0)) (with seen i)) (with seen i) (left - 1) ≡ walk names todo seen left
+pub walk-element : (names : List ℕ) (worklist seen left i : ℕ) → 1 ≤ left → lowest worklist ≡ Element i
+    → walk names (minus (union worklist (getD names i 0)) (with seen i)) (with seen i) (left - 1) ≡ walk names worklist seen left
 unfolding walk
-walk-element names todo seen zero i h e = absurd (not-suc-le-zero h)
-walk-element names todo seen (suc left) i h e =
+walk-element names worklist seen zero i h e = absurd (not-suc-le-zero h)
+walk-element names worklist seen (suc left) i h e =
     let one-less : suc left - 1 ≡ left = omega arith in rw (one-less, e)

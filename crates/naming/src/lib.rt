@@ -77,18 +77,18 @@ pub fn all_named(names: &[u64], count: usize) -> u64
     all
 }
 
-// The routines reached from those in `todo`, beside those in `seen`, `left` routines being left.
-fn walk_down(names: &[u64], todo: u64, seen: u64, left: usize) -> u64
-    ensures { λ x. ⌜ x ≡ walk (now (names .entry)) todo seen left ⌝ }
+// The routines reached from those in `worklist`, beside those in `seen`, `left` routines being left.
+fn walk_down(names: &[u64], worklist: u64, seen: u64, left: usize) -> u64
+    ensures { λ x. ⌜ x ≡ walk (now (names .entry)) worklist seen left ⌝ }
 {
     if left == 0 {
         return seen;
     }
-    match sets::lowest(todo) {
+    match sets::lowest(worklist) {
         Which::Nothing => seen,
         Which::Element(i) => {
             let now_seen = sets::with_element(seen, i);
-            let next = sets::difference(sets::union(todo, set_at(names, i)), now_seen);
+            let next = sets::difference(sets::union(worklist, set_at(names, i)), now_seen);
             walk_down(names, next, now_seen, left - 1)
         }
     }

@@ -6,7 +6,7 @@ use mathlib.Core.List.{List, [], _∷_, _++_}
 use lib.IntN.{ℤ, pos, negsuc}
 use lib.Count.{trailingZeros}
 use Rattle.table.specs.Table.{Table, tableOf}
-use Rattle.machine.specs.State.{State, Frame, free, thread}
+use Rattle.machine.specs.State.{State, Frame, thread}
 use Rattle.machine.specs.Step.{step, after, wrap}
 use Rattle.table.specs.declared.Verdict.{Verdict}
 use Rattle.table.specs.declared.Verdict.the-variants.{Accepted, Refused}

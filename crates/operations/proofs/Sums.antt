@@ -1,5 +1,5 @@
 -- Sums of two 32-bit numbers, and where they lie after wrapping. Assumes nothing.
-use mathlib.Core.Path.{_≡_, refl, _∙_, ap₂}
+use mathlib.Core.Path.{_≡_, refl}
 use mathlib.Core.Bool.{Bool, true, false, cond}
 use Prim.Native.Nat.{ℕ, suc, _+_, _-_, _<_, _≤_, _^_}
 use native.Mathlib.Omega.{arith}

@@ -3,7 +3,6 @@ mod numbers;
 
 ghost use mathlib.Core.Path.{_≡_};
 ghost use mathlib.Core.Bool.{cond};
-ghost use mathlib.Core.Logic.{_⊎_};
 ghost use Prim.Native.Nat.{_+_, _*_, _-_, _<_, _≤_};
 ghost use lib.IntN.{pos, _+ℤ_};
 ghost use lib.ListN.{getD, set, length};

@@ -129,10 +129,6 @@ module _ (t : Table) (k : Layout) (fits : Fits t k) (flow : List ℕ) (below : (
   givenOf-below : (c : ℕ) (σ : Statement) → givenOf c σ < 2 ^ 64
   givenOf-below c σ = given-below (flowAt k flow c) (λ h. below (k .handlePlace c h)) σ
 
-  pub gives-sets : SetList (k .copies) (gives t k flow)
-  unfolding gives
-  gives-sets = up-sets t k fits givenOf givenOf-below (callEdges t k)
-
   pub gives-rules : GivesRules (copiesOf fits) (FlowHas k flow) (GivesHas (gives t k flow))
   unfolding gives given callEdges upFrom byNaming
   gives-rules = record {

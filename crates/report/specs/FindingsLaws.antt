@@ -4,7 +4,6 @@ use mathlib.Core.Path.{_≡_, refl, sym, ap, _∙_, subst}
 use mathlib.Core.Bool.{Bool, true, false, cond, not, _&&_, _||_}
 use mathlib.Core.Logic.{_⊎_, inl, inr, _↔_}
 use mathlib.Core.List.{List·Memᴰ}
-use native.Mathlib.Omega.{arith}
 use lib.Count.{trailingZeros}
 use lib.ListN.{length, getD}
 use borrow.Author.Tests.{eqb-true, eq-eqb, not-false}

@@ -9,7 +9,7 @@ use Rattle.sets.specs.Set.{has, minus}
 use Rattle.sets.specs.SetLaws.{has-minus, minus-below}
 use Rattle.sets.specs.Least.{SetList, Inside, Steady}
 use Rattle.sets.specs.Rules.{put-length, put-cases, still-put, put-steady, same-steady, then-steady, then-still}
-use Rattle.sets.specs.Settled.{settled-sets, settled-closed, settled-is, settled-induction}
+use Rattle.sets.specs.Settled.{settled-sets, settled-closed, settled-induction}
 use Rattle.table.specs.TabulateLaws.{getD-tabulate}
 use Rattle.report.specs.Greatest.{Way, leaving, narrow, narrowAll, leftOut, greatest}
 use Rattle.report.specs.OverLaws.{never, none-in, both-true, true-both, by-length, tabulate-from}
@@ -164,21 +164,6 @@ module _ (all : ℕ) (small : all < 2 ^ 64) where
         apart : (i e : ℕ) → has (getD (leftOut all n ws) i 0) e ≡ true → G i e → ⊥
         apart = settled-induction n (narrowAll all ws) steady (λ i e. G i e → ⊥) step (replicate n 0) empty-sets
             (λ i e h. none-in e (ap (λ (y : ℕ). has y e) (sym (zeros n i)) ∙ h))
-
-    -- a list inside what is left out, from which no way leaves out more, is what is left out
-    pub left-out-is : (r : List ℕ) → SetList n r → Inside r (leftOut all n ws)
-        → ((w : Way) → List·Memᴰ w ws → w .to < n → (x : ℕ) → has (minus all (w .brings (leaving all r))) x ≡ true → has (getD r (w .to) 0) x ≡ true)
-        → r ≡ leftOut all n ws
-    unfolding leftOut
-    left-out-is r h a c =
-        settled-is n (narrowAll all ws) steady (replicate n 0) r empty-sets h
-        (record { at = λ i x e. none-in x (ap (λ (y : ℕ). has y x) (sym (zeros n i)) ∙ e) }) a
-        (record { at = closed })
-      where
-        closed : (i x : ℕ) → has (getD (narrowAll all ws r) i 0) x ≡ true → has (getD r i 0) x ≡ true
-        closed =
-            all-carries (λ i x. has (getD r i 0) x ≡ true) n ws (λ w m q f x l b. c w m l x (out-more w (mono w m) q r (record { at = f }) x b)) r (h .places)
-            (λ i x e. e)
 
     -- what is left out is left out by some way
     left-out-by : (p x : ℕ) → has (getD (leftOut all n ws) p 0) x ≡ true

@@ -1,5 +1,5 @@
 -- The lists as they are filled at first show where a run begins. Assumes nothing.
-use Prim.Native.Nat.{ℕ, zero, suc, _+_, _-_, _<_}
+use Prim.Native.Nat.{ℕ, zero, suc, _-_, _<_}
 use mathlib.Core.Path.{_≡_, refl, sym, ap, _∙_, subst}
 use mathlib.Core.List.{List, [], _∷_, map}
 use native.Mathlib.Omega.{arith}
@@ -9,8 +9,7 @@ use Rattle.table.specs.Table.{Table, tableOf, routine, passed}
 use Rattle.table.specs.Extents.{firstStatements, firstHandles}
 use Rattle.table.specs.Accepted.{Accepted}
 use Rattle.table.specs.declared.Arguments.{Arguments}
-use Rattle.machine.specs.State.{Holder, free, thread, opened, start}
-use Rattle.run_state.specs.Lists.{startedIn, nextsIn, countsIn, accumulatorsIn, ownersIn, cellsIn}
+use Rattle.machine.specs.State.{Holder, free, thread, start}
 use Rattle.run_state.specs.ListLaws.{part-replicate, view-count, view-started}
 use Rattle.run_state.specs.Shown.{Arrays, arrays, view, valuePlace, startValue, holderOf, Shows, ListsShow, Entering, Entered}
 use Rattle.run_state.specs.ShownLaws.{ThreadIn, opened-shown}

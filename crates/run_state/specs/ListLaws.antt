@@ -7,11 +7,11 @@ use native.Mathlib.Omega.{arith}
 use borrow.Author.Tests.{ltb-true, ltb-false, lt-ltb, le-ltb}
 use lib.Dec.{ltb}
 use lib.IntN.{ℤ}
-use lib.ListN.{length, getD, take, drop, set, length-take, length-drop, length-set, replicate, length-replicate, getD-replicate, List·getD-eq-default}
+use lib.ListN.{length, getD, take, drop, set, length-take, length-drop, replicate, length-replicate, getD-replicate, List·getD-eq-default}
 use lib.Seq.{getD-take, getD-drop, getD-set-same, getD-set-other, drop-set-add, drop-set-lt, take-set-lt, take-set-le, set-out, ext-getD}
 use Rattle.table.specs.Table.{Table}
 use Rattle.run_state.specs.Lists.{part, put, countPlace, startedPlace, nextsIn, countsIn, startedIn, ownersIn, putOwner, accumulatorsIn, cellsIn, putCell}
-use Rattle.run_state.specs.Shown.{Arrays, arrays, view}
+use Rattle.run_state.specs.Shown.{arrays, view}
 
 -- ---- one part
 

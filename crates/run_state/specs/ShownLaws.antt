@@ -1,7 +1,7 @@
 -- What the arrays show after a change: one thread's frames, one thread more, a new frame. Assumes nothing.
-use Prim.Native.Nat.{ℕ, zero, suc, _+_, _-_, _*_, _%_, _<_, _≤_}
+use Prim.Native.Nat.{ℕ, _+_, _-_, _*_, _%_, _<_, _≤_}
 use mathlib.Core.Path.{_≡_, refl, sym, ap, _∙_, subst}
-use mathlib.Core.Bool.{Bool, true, false, cond}
+use mathlib.Core.Bool.{Bool, true, false}
 use mathlib.Core.List.{List, [], _∷_, _++_, map}
 use native.Mathlib.Omega.{arith}
 use native.Mathlib.Decide.{ℕ-discrete}
@@ -10,13 +10,12 @@ use lib.Dec.{eqb, ltb}
 use lib.IntN.{ℤ, pos}
 use lib.ListN.{length, getD, set, length-set, length-append, List·getD-append}
 use lib.Seq.{getD-set-same, getD-set-other, getD-append-seam}
-use Rattle.table.specs.Table.{Table, declaration, routine, passed, InRoutine, OwnHandle}
+use Rattle.table.specs.Table.{Table, declaration, routine, passed, OwnHandle}
 use Rattle.table.specs.Tabulate.{tabulate}
 use Rattle.table.specs.TabulateLaws.{length-tabulate, getD-tabulate}
 use Rattle.table.specs.Accepted.{Accepted}
 use Rattle.table.specs.declared.Arguments.{Arguments}
-use Rattle.machine.specs.State.{State, Frame, Thread, Holder, ended, thread, refers, entered, opened}
-use Rattle.machine.specs.Step.{going, pointing}
+use Rattle.machine.specs.State.{State, Frame, Thread, Holder, ended, thread, entered, opened}
 use Rattle.run_state.specs.Shown.{Arrays, valuePlace, holderOf, ShowsFrame, ShowsFrames, ShowsThread, Lengths, Shows, startValue, Entered}
 
 -- ---- frames are shown as before where their slots are as before

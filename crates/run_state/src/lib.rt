@@ -13,7 +13,7 @@ ghost use Rattle.table.specs.Extents.{firstHandles};
 ghost use Rattle.table.specs.Accepted.{Accepted};
 ghost use Rattle.machine.specs.State.{start};
 ghost use Rattle.run_state.specs.Lists.{cellsIn};
-ghost use Rattle.run_state.specs.Shown.{ListsShow, Fixed, Sized};
+ghost use Rattle.run_state.specs.Shown.{ListsShow, Sized};
 
 // What a step asks of the table's header: the line of statement 0, and how many cells and locks there are.
 pub struct Sizes {

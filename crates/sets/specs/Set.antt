@@ -1,6 +1,6 @@
 -- Sets of numbers below 64, each as one number: what the operations are. Assumes nothing.
 use mathlib.Core.Bool.{Bool, true, false}
-use Prim.Native.Nat.{ℕ, suc, _-_, _/_, _%_, _^_}
+use Prim.Native.Nat.{ℕ, _-_, _/_, _%_, _^_}
 use Prim.Native.Nat.{min}
 use lib.Dec.{eqb, ltb}
 use lib.Bits.{bitOr, bitAnd, bitXor}

@@ -3,16 +3,15 @@
 use mathlib.Core.Path.{_≡_, refl, sym, ap, _∙_, subst}
 use mathlib.Core.Bool.{Bool, true, false, not, _&&_, _||_, or-true, or-false}
 use Prim.Native.Nat.{ℕ, zero, suc, _+_, _-_, _*_, _/_, _%_, _^_, _≤_, _<_, zero-le, suc-le-suc, min}
-use native.Mathlib.Nat.{le-trans, le-of-eq, le-of-suc-le-suc, suc-inj, add-le-add, zero-add, mod-lt, pow-suc, zero-lt-suc, lt-of-lt-of-le, lt-of-le-of-lt, zero-div, div-eq-of-lt}
+use native.Mathlib.Nat.{le-trans, le-of-eq, le-of-suc-le-suc, suc-inj, add-le-add, zero-add, mod-lt, pow-suc, zero-lt-suc, lt-of-lt-of-le, zero-div, div-eq-of-lt}
 use native.Mathlib.Omega.{arith}
 use lib.Dec.{eqb, ltb, eqb·suc-suc, eqb·suc-zero, eqb·zero-suc, leb·suc-suc}
-use lib.Arith.{bin-ind, lt-one}
+use lib.Arith.{bin-ind}
 use lib.Pow.{pow-pos, pow-mono, pow-lt, shr-shr}
-use lib.Bits.{bitOr, bitAnd, bitXor, or-shr, or-mod, and-shr, and-mod, xor-shr, xor-mod, or-lt, or-comm, or-zero-l, and-le-l, and-le-r, or-add-and}
+use lib.Bits.{bitOr, bitAnd, bitXor, or-shr, or-mod, and-shr, and-mod, xor-shr, xor-mod, or-lt, or-comm, or-zero-l, and-le-r, or-add-and}
 use lib.Count.{ones, onesIn, ones-step, under, trailingZeros}
 use borrow.Author.Tests.{eqb-true, eqb-false, eq-eqb, ne-eqb, ltb-true, ltb-false, lt-ltb, le-ltb}
 use Rattle.sets.specs.Set.{has, firsts, one, with, union, inter, minus, subset, isEmpty, count, isSingle, only, lowest}
-use Rattle.sets.specs.declared.Which.{Which}
 use Rattle.sets.specs.declared.Which.the-variants.{Element, Nothing}
 
 -- ---- the definitions by a test, one equation a case

@@ -9,7 +9,7 @@ use mathlib.Core.Path.{_≡_, sym, subst}
 use mathlib.Core.Bool.{true}
 use mathlib.Core.List.{List}
 use Prim.Native.Nat.{ℕ}
-use Rattle.machine.specs.State.{State, start}
+use Rattle.machine.specs.State.{start}
 use Rattle.machine.specs.Step.{run}
 use Rattle.machine.specs.Engine.{engineRun}
 use Rattle.machine.specs.EngineLaws.{unlimited, engine-runs-as-machine}

@@ -1,6 +1,5 @@
 -- Packing loses nothing: what include/station.h takes out of a packed answer is the answer, for every text, schedule and buffer. Assumes nothing.
 use Prim.Native.Nat.{ℕ}
-use mathlib.Core.Path.{_≡_, refl}
 use mathlib.Core.Bool.{Bool, true, false}
 use mathlib.Core.List.{List}
 use native.Mathlib.Omega.{arith}
@@ -11,8 +10,7 @@ use Rattle.table.specs.declared.Verdict.the-variants.{Accepted, Refused}
 use Rattle.packing.specs.Packed.{Unpacks, packed-unpacks}
 use Rattle.analysis.specs.Reported.{reportAnswer}
 use Rattle.analysis.specs.SmallLaws.{SmallVerdict, verdict-small, answer-small}
-use Rattle.engine.specs.declared.Outcome.{Outcome}
-use Rattle.engine.specs.Run.{outcomeBy, fits, outcomeOf}
+use Rattle.engine.specs.Run.{outcomeBy, hasRoom, outcomeOf}
 use Rattle.station.specs.Packed.{packedAnswer, packedOutcome}
 
 pub report-answer-unpacks : (text : List ℕ) (room : ℕ)
@@ -30,4 +28,4 @@ outcome-unpacks-by (Refused number line) small fit = packed-unpacks number line 
 pub run-outcome-unpacks : (text schedule answers : List ℕ) (cells : List ℤ)
     → let o = outcomeOf text schedule answers cells in Unpacks (packedOutcome o) (o .number) (o .line) 0
 unfolding outcomeOf
-run-outcome-unpacks text schedule answers cells = outcome-unpacks-by (verdict text) (verdict-small text) (fits text schedule answers cells)
+run-outcome-unpacks text schedule answers cells = outcome-unpacks-by (verdict text) (verdict-small text) (hasRoom text schedule answers cells)

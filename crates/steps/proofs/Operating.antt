@@ -23,7 +23,7 @@ use Rattle.table.specs.declared.Statement.the-variants.{Read, Write, Set, Add, 
 use Rattle.machine.specs.State.{State}
 use Rattle.machine.specs.Step.{wrap, isZero}
 use Rattle.run_state.specs.declared.Sizes.{Sizes}
-use Rattle.run_state.specs.Lists.{nextsIn, countsIn, startedIn, ownersIn, accumulatorsIn, cellsIn, countPlace, startedPlace, putOwner, putCell, part}
+use Rattle.run_state.specs.Lists.{nextsIn, countsIn, startedIn, ownersIn, accumulatorsIn, cellsIn, countPlace, startedPlace, putCell}
 use Rattle.run_state.specs.ListLaws.{started-there, view-next, view-count, view-started, view-owner, view-accumulator, view-cell}
 use Rattle.run_state.specs.Shown.{Arrays, arrays, view, valuePlace, Shows, Fixed, Standing, Reaching, Naming}
 use Rattle.run_state.specs.TableLaws.{statement-read, reaching, LookedUp, looked-up, naming}

@@ -1,8 +1,8 @@
 -- Each operation on the arrays is the engine's step. Assumes nothing.
-use Prim.Native.Nat.{ℕ, zero, suc, _+_, _-_, _*_, _%_, _<_, _≤_}
+use Prim.Native.Nat.{ℕ, zero, suc, _+_, _-_, _*_, _<_, _≤_}
 use mathlib.Core.Path.{_≡_, refl, sym, ap, ap₂, _∙_, subst}
 use mathlib.Core.Bool.{Bool, true, false, cond}
-use mathlib.Core.List.{List, [], _∷_, _++_, map}
+use mathlib.Core.List.{List, [], _∷_, map}
 use native.Mathlib.Omega.{arith}
 use native.Mathlib.Decide.{ℕ-discrete}
 use native.Mathlib.Numerals.{add-one}
@@ -11,23 +11,21 @@ use lib.Dec.{eqb}
 use lib.IntN.{ℤ, pos, _+ℤ_}
 use lib.ListN.{length, getD, set, length-set, List·getD-map, List·getD-eq-default}
 use lib.Seq.{getD-set-same, getD-set-other, set-comm}
-use Rattle.table.specs.Table.{Table, declaration, routine, statement, passed, InRoutine, OwnHandle}
+use Rattle.table.specs.Table.{Table, routine, statement, passed, InRoutine, OwnHandle}
 use Rattle.table.specs.Accepted.{Accepted, GoesOn, Operands, Passes}
 use Rattle.table.specs.declared.Arguments.{Arguments}
 use Rattle.table.specs.declared.Handle.{Handle}
 use Rattle.table.specs.declared.Target.{Target}
 use Rattle.table.specs.declared.Statement.{Statement}
 use Rattle.table.specs.declared.Statement.the-variants.{Read, Write, Set, Add, Take, Give, Point, Call, Start, Jump, JumpZero, Return}
-use Rattle.machine.specs.State.{State, Frame, Thread, Holder, free, held, ended, thread, holder, refers, opened}
-use Rattle.machine.specs.Step.{Answer, moved, refused, wrap, isZero, going, pointing, with-thread, goes-on, operate, stepped, step, after}
+use Rattle.machine.specs.State.{State, Frame, Holder, free, held, ended, thread, holder, refers, opened}
+use Rattle.machine.specs.Step.{moved, refused, wrap, isZero, going, pointing, with-thread, goes-on, operate, stepped, step}
 use Rattle.machine.specs.Engine.{limit, engineStep}
-use Rattle.operations.specs.declared.Step.{Step}
 use Rattle.operations.specs.declared.Step.the-variants.{Ran, Refused, Nothing}
 use Rattle.operations.specs.Step.{stepOf}
-use Rattle.operations.specs.declared.Place.{Place}
 use Rattle.operations.specs.Operation.{Placed}
-use Rattle.run_state.specs.Shown.{Arrays, arrays, valuePlace, holderOf, ShowsFrame, ShowsFrames, ShowsThread, Lengths, Shows, Entered}
-use Rattle.run_state.specs.ShownLaws.{Kept, kept-both, kept-next, kept-value, kept-entered, frame-kept, frames-kept, Changed, ThreadIn, one-thread, added, own-apart, opened-shown}
+use Rattle.run_state.specs.Shown.{Arrays, arrays, valuePlace, holderOf, ShowsFrame, ShowsFrames, Lengths, Shows, Entered}
+use Rattle.run_state.specs.ShownLaws.{Kept, kept-both, kept-next, kept-value, kept-entered, frame-kept, frames-kept, one-thread, added, own-apart, opened-shown}
 use Rattle.steps.specs.Stepped.{Stepped}
 
 -- ---- locks

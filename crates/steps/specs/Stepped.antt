@@ -30,14 +30,14 @@ Steps t words values registers words′ values′ registers′ n step =
     (state : State) → ListsShow t words values registers state → Stepped t (view t words′ values′ registers′) state n step
 
 -- a schedule's steps: one answer for each in the first places of a list, the rest of it as it was, and the engine's state after them
-pub record Followed (t : Table) (words values : List ℕ) (registers : List ℤ) (schedule given given′ : List ℕ) (state : State) : Type 0 where
-  pub answered : given′ ≡ answers t state schedule ++ drop (length schedule) given
+pub record Followed (t : Table) (words values : List ℕ) (registers : List ℤ) (schedule lent lent′ : List ℕ) (state : State) : Type 0 where
+  pub answered : lent′ ≡ answers t state schedule ++ drop (length schedule) lent
   pub shows : ListsShow t words values registers (engineRun t state schedule)
 
 -- of every state that the lists show before, what the steps of a schedule leave
 abbrev pub Follows : Table → List ℕ → List ℕ → List ℤ → List ℕ → List ℕ → List ℤ → List ℕ → List ℕ → List ℕ → Type 0
-Follows t words values registers words′ values′ registers′ schedule given given′ =
-    (state : State) → ListsShow t words values registers state → Followed t words′ values′ registers′ schedule given given′ state
+Follows t words values registers words′ values′ registers′ schedule lent lent′ =
+    (state : State) → ListsShow t words values registers state → Followed t words′ values′ registers′ schedule lent lent′ state
 
 -- a thread that is at a statement of its newest frame
 pub record Here (numbers : List ℤ) (first handle : List ℕ) (sizes : Sizes) (words values : List ℕ) (registers : List ℤ) (at : Place) (σ : Statement) : Type 0 where

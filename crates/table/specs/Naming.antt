@@ -39,12 +39,12 @@ abbrev pub onWhich : Which → ℕ → (ℕ → ℕ) → ℕ
 onWhich Nothing none some = none
 onWhich (Element i) none some = some i
 
--- the routines reached from the set `todo`, beside those of `seen`: take one of `todo`, then what it names and has not been seen.
+-- the routines reached from the set `worklist`, beside those of `seen`: take one of `worklist`, then what it names and has not been seen.
 -- Each call sees one routine more, so `left`, the number of routines left, falls.
 unfoldable pub walk : List ℕ → ℕ → ℕ → ℕ → ℕ
-walk names todo seen zero = seen
-walk names todo seen (suc left) =
-    onWhich (lowest todo) seen (λ i. walk names (minus (union todo (getD names i 0)) (with seen i)) (with seen i) left)
+walk names worklist seen zero = seen
+walk names worklist seen (suc left) =
+    onWhich (lowest worklist) seen (λ i. walk names (minus (union worklist (getD names i 0)) (with seen i)) (with seen i) left)
 
 -- the routines that routine r reaches through CALLs and STARTs
 unfoldable pub reached : List ℕ → ℕ → ℕ

@@ -74,95 +74,95 @@ parted a b i h = go (has b i) refl
 
 module _ (names : List ℕ) (small : (i : ℕ) → getD names i 0 < 2 ^ 32) where
   -- the state of a walk: what is seen and what is to do are apart, and what a seen one names is one of both
-  record Walking (todo seen : ℕ) : Type 0 where
-    todo-small : todo < 2 ^ 32
+  record Walking (worklist seen : ℕ) : Type 0 where
+    worklist-small : worklist < 2 ^ 32
     seen-small : seen < 2 ^ 32
-    apart : (i : ℕ) → In todo i → has seen i ≡ false
-    named : (i j : ℕ) → In seen i → In (getD names i 0) j → In (union seen todo) j
+    apart : (i : ℕ) → In worklist i → has seen i ≡ false
+    named : (i j : ℕ) → In seen i → In (getD names i 0) j → In (union seen worklist) j
 
   -- a set that holds both and is closed under naming
-  record Covers (todo seen all : ℕ) : Type 0 where
-    holds : Inside (union seen todo) all
+  record Covers (worklist seen all : ℕ) : Type 0 where
+    holds : Inside (union seen worklist) all
     closed : (i : ℕ) → In all i → Inside (getD names i 0) all
 
   after : ℕ → ℕ → ℕ → ℕ
-  after todo seen i = minus (union todo (getD names i 0)) (with seen i)
+  after worklist seen i = minus (union worklist (getD names i 0)) (with seen i)
 
   -- nothing that is seen or to do is lost
-  kept : (todo seen i j : ℕ) → i < 32 → In (union seen todo) j → In (union (with seen i) (after todo seen i)) j
+  kept : (worklist seen i j : ℕ) → i < 32 → In (union seen worklist) j → In (union (with seen i) (after worklist seen i)) j
   unfolding after
-  kept todo seen i j b h =
-      union-cases seen todo j
-      (λ o. has-union-left (with seen i) (after todo seen i) j (with-old seen i j b o))
-      (λ o. parted (union todo (getD names i 0)) (with seen i) j (has-union-left todo (getD names i 0) j o))
+  kept worklist seen i j b h =
+      union-cases seen worklist j
+      (λ o. has-union-left (with seen i) (after worklist seen i) j (with-old seen i j b o))
+      (λ o. parted (union worklist (getD names i 0)) (with seen i) j (has-union-left worklist (getD names i 0) j o))
       h
 
-  walking-next : (todo seen i : ℕ) → Walking todo seen → In todo i → i < 32 → Walking (after todo seen i) (with seen i)
+  walking-next : (worklist seen i : ℕ) → Walking worklist seen → In worklist i → i < 32 → Walking (after worklist seen i) (with seen i)
   unfolding after
-  walking-next todo seen i w h b =
+  walking-next worklist seen i w h b =
       record {
-        todo-small = minus-below 32 (with seen i) (union-below 32 (w .todo-small) (small i));
+        worklist-small = minus-below 32 (with seen i) (union-below 32 (w .worklist-small) (small i));
         seen-small = with-bound seen i (w .seen-small) b;
-        apart = λ j k. minus-out (union todo (getD names i 0)) (with seen i) j k .1;
+        apart = λ j k. minus-out (union worklist (getD names i 0)) (with seen i) j k .1;
         named = λ k j p q. with-cases seen i k b p
-            (λ o. kept todo seen i j b (w .named k j o q))
-            (λ e. parted (union todo (getD names i 0)) (with seen i) j
-            (has-union-right todo (getD names i 0) j (subst (λ (x : ℕ). In (getD names x 0) j) e q)));
+            (λ o. kept worklist seen i j b (w .named k j o q))
+            (λ e. parted (union worklist (getD names i 0)) (with seen i) j
+            (has-union-right worklist (getD names i 0) j (subst (λ (x : ℕ). In (getD names x 0) j) e q)));
       }
 
   -- with all 32 seen there is nothing to do
-  full : (todo seen i : ℕ) → Walking todo seen → 32 ≤ count seen → In todo i → ⊥
-  full todo seen i w c h =
-      let l = in-below todo i (w .todo-small) h in
+  full : (worklist seen i : ℕ) → Walking worklist seen → 32 ≤ count seen → In worklist i → ⊥
+  full worklist seen i w c h =
+      let l = in-below worklist i (w .worklist-small) h in
       let more = count-with seen i (omega arith) (w .apart i h) in
       let most = count-below 32 (with seen i) (with-bound seen i (w .seen-small) l) in
       omega arith
 
   -- the walk ends with nothing to do
-  done : (todo seen : ℕ) → Walking todo seen → ((i : ℕ) → In todo i → ⊥) → Covers todo seen seen
-  done todo seen w none =
+  done : (worklist seen : ℕ) → Walking worklist seen → ((i : ℕ) → In worklist i → ⊥) → Covers worklist seen seen
+  done worklist seen w none =
       record {
-        holds = λ i h. union-cases seen todo i (λ o. o) (λ o. absurd (none i o)) h;
-        closed = λ i h j k. union-cases seen todo j (λ o. o) (λ o. absurd (none j o)) (w .named i j h k);
+        holds = λ i h. union-cases seen worklist i (λ o. o) (λ o. absurd (none i o)) h;
+        closed = λ i h j k. union-cases seen worklist j (λ o. o) (λ o. absurd (none j o)) (w .named i j h k);
       }
 
-  walk-covers : (left todo seen : ℕ) → Walking todo seen → 32 ≤ count seen + left → Covers todo seen (walk names todo seen left)
+  walk-covers : (left worklist seen : ℕ) → Walking worklist seen → 32 ≤ count seen + left → Covers worklist seen (walk names worklist seen left)
   unfolding walk after
-  walk-covers zero todo seen w c = done todo seen w (λ i h. full todo seen i w (omega arith) h)
-  walk-covers (suc left) todo seen w c = go (lowest todo) refl (walk-covers left)
+  walk-covers zero worklist seen w c = done worklist seen w (λ i h. full worklist seen i w (omega arith) h)
+  walk-covers (suc left) worklist seen w c = go (lowest worklist) refl (walk-covers left)
     where
       next : ℕ → ℕ
-      next i = walk names (after todo seen i) (with seen i) left
+      next i = walk names (after worklist seen i) (with seen i) left
 
-      go : (o : Which) → lowest todo ≡ o → ((a b : ℕ) → Walking a b → 32 ≤ count b + left → Covers a b (walk names a b left)) → Covers todo seen (onWhich o seen next)
-      go Nothing e ih = done todo seen w (λ i h. in-empty i (subst (λ (x : ℕ). In x i) (lowest-nothing todo e) h))
+      go : (o : Which) → lowest worklist ≡ o → ((a b : ℕ) → Walking a b → 32 ≤ count b + left → Covers a b (walk names a b left)) → Covers worklist seen (onWhich o seen next)
+      go Nothing e ih = done worklist seen w (λ i h. in-empty i (subst (λ (x : ℕ). In x i) (lowest-nothing worklist e) h))
       go (Element i) e ih =
-          let small-todo : todo < 2 ^ 32 = w .todo-small in
-          let h : In todo i = lowest-is todo i (omega arith) e .0 in
-          let l : i < 32 = in-below todo i small-todo h in
+          let small-worklist : worklist < 2 ^ 32 = w .worklist-small in
+          let h : In worklist i = lowest-is worklist i (omega arith) e .0 in
+          let l : i < 32 = in-below worklist i small-worklist h in
           let more = count-with seen i (omega arith) (w .apart i h) in
-          let r = ih (after todo seen i) (with seen i) (walking-next todo seen i w h l) (omega arith) in
-          record { holds = λ j k. r .holds j (kept todo seen i j l k); closed = r .closed }
+          let r = ih (after worklist seen i) (with seen i) (walking-next worklist seen i w h l) (omega arith) in
+          record { holds = λ j k. r .holds j (kept worklist seen i j l k); closed = r .closed }
 
   -- ---- the walk reaches nothing but what a closed set that holds its start holds
 
-  walk-least : (all : ℕ) → ((i : ℕ) → In all i → Inside (getD names i 0) all) → (left todo seen : ℕ) → todo < 2 ^ 32 → Inside todo all → Inside seen all
-      → Inside (walk names todo seen left) all
+  walk-least : (all : ℕ) → ((i : ℕ) → In all i → Inside (getD names i 0) all) → (left worklist seen : ℕ) → worklist < 2 ^ 32 → Inside worklist all → Inside seen all
+      → Inside (walk names worklist seen left) all
   unfolding walk after
-  walk-least all closed zero todo seen b t s = s
-  walk-least all closed (suc left) todo seen b t s = go (lowest todo) refl (walk-least all closed left)
+  walk-least all closed zero worklist seen b t s = s
+  walk-least all closed (suc left) worklist seen b t s = go (lowest worklist) refl (walk-least all closed left)
     where
       next : ℕ → ℕ
-      next i = walk names (after todo seen i) (with seen i) left
+      next i = walk names (after worklist seen i) (with seen i) left
 
-      go : (o : Which) → lowest todo ≡ o → ((a b : ℕ) → a < 2 ^ 32 → Inside a all → Inside b all → Inside (walk names a b left) all)
+      go : (o : Which) → lowest worklist ≡ o → ((a b : ℕ) → a < 2 ^ 32 → Inside a all → Inside b all → Inside (walk names a b left) all)
           → Inside (onWhich o seen next) all
       go Nothing e ih = s
       go (Element i) e ih =
-          let h : In todo i = lowest-is todo i (omega arith) e .0 in
-          let l : i < 32 = in-below todo i b h in
-          ih (after todo seen i) (with seen i) (minus-below 32 (with seen i) (union-below 32 b (small i)))
-          (λ j k. union-cases todo (getD names i 0) j (t j) (closed i (t i h) j) (minus-out (union todo (getD names i 0)) (with seen i) j k .0))
+          let h : In worklist i = lowest-is worklist i (omega arith) e .0 in
+          let l : i < 32 = in-below worklist i b h in
+          ih (after worklist seen i) (with seen i) (minus-below 32 (with seen i) (union-below 32 b (small i)))
+          (λ j k. union-cases worklist (getD names i 0) j (t j) (closed i (t i h) j) (minus-out (union worklist (getD names i 0)) (with seen i) j k .0))
           (λ j k. with-cases seen i j l k (s j) (λ e′. subst (In all) (sym e′) (t i h)))
 
   -- ---- what a routine reaches
@@ -171,7 +171,7 @@ module _ (names : List ℕ) (small : (i : ℕ) → getD names i 0 < 2 ^ 32) wher
   unfolding reached
   reached-covers r =
       let start : Walking (getD names r 0) 0 =
-      record { todo-small = small r; seen-small = omega arith; apart = λ i h. has-empty i; named = λ i j h k. in-empty i h } in
+      record { worklist-small = small r; seen-small = omega arith; apart = λ i h. has-empty i; named = λ i j h k. in-empty i h } in
       walk-covers 32 (getD names r 0) 0 start (omega arith)
 
   pub reached-named : (r : ℕ) → Inside (getD names r 0) (reached names r)

@@ -7,7 +7,6 @@ use mathlib.Core.List.{List, _++_}
 use mathlib.Core.Path.{sym, ap₂, _∙_}
 use Prim.Native.Nat.{ℕ}
 use native.Mathlib.Omega.{arith}
-use lib.ListN.{length}
 use lib.Seq.{length-take-le}
 use borrow.Author.Needs.{needs}
 use Rattle.dataflow.proofs.future_sets.Statement.{statement}

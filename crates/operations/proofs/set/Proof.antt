@@ -1,7 +1,5 @@
 -- `operations::set` meets its contract. Assumes nothing.
 use mathlib.Core.Path.{_∙_}
-use mir.Val.{SFits}
-use mir.Syntax.{w32}
 use mir.Facts.{toZ-ofZ}
 use borrow.Author.Needs.{needs}
 use Rattle.operations.proofs.set.Statement.{statement}

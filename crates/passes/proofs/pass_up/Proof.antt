@@ -2,7 +2,6 @@
 use Prim.Native.Nat.{_-_, _%_, _≤_}
 use Rattle.passes.specs.PassLaws.{passed-start, passed-as, passed-up, passed-up-two}
 use Rattle.passes.specs.Pass.{Passed}
-use lib.ListN.{length}
 use mathlib.Core.Path.{_≡_, refl}
 use native.Mathlib.Omega.{arith}
 use borrow.Author.Needs.{needs}

@@ -1,5 +1,5 @@
 -- `run_state::frames::enter` meets its contract. Assumes nothing.
-use mathlib.Core.Path.{sym, ap, _∙_, refl}
+use mathlib.Core.Path.{_∙_}
 use Prim.Native.Nat.{_-_}
 use native.Mathlib.Omega.{arith}
 use borrow.Author.Needs.{needs}

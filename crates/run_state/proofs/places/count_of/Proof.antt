@@ -1,6 +1,5 @@
 -- `run_state::places::count_of` meets its contract. Assumes nothing.
-use mathlib.Core.Path.{sym, ap, _∙_, refl}
-use native.Mathlib.Omega.{arith}
+use mathlib.Core.Path.{_∙_, refl}
 use Rattle.run_state.specs.ListLaws.{part-at}
 use borrow.Author.Needs.{needs}
 use Rattle.run_state.proofs.places.count_of.Statement.{statement}

@@ -1,5 +1,5 @@
 -- `run_state::places::next_of` meets its contract. Assumes nothing.
-use mathlib.Core.Path.{sym, ap, _∙_, refl}
+use mathlib.Core.Path.{_∙_}
 use native.Mathlib.Omega.{arith}
 use Rattle.run_state.specs.ListLaws.{part-at}
 use borrow.Author.Needs.{needs}

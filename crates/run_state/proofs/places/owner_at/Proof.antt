@@ -1,6 +1,5 @@
 -- `run_state::places::owner_at` meets its contract. Assumes nothing.
-use mathlib.Core.Path.{sym, ap, _∙_, refl}
-use native.Mathlib.Omega.{arith}
+use mathlib.Core.Path.{_∙_, refl}
 use Rattle.run_state.specs.ListLaws.{part-at, part-past}
 use borrow.Author.Needs.{needs}
 use Rattle.run_state.proofs.places.owner_at.Statement.{statement}
