@@ -22,6 +22,7 @@ pub mod FlowLaws
 pub mod EffectLaws
 pub mod HeldLaws
 pub mod FutureLaws
+pub mod StageLaws
 pub mod Unique
 pub mod ReportRules
 pub mod FindingsLaws
