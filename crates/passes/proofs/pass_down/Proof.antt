@@ -46,7 +46,7 @@ same-length : tie.Need-same-length Inv-loop μ-loop
 same-length c = search needs
 
 returns : tie.Need-returns Inv-loop μ-loop
-returns c = 
+returns c =
     let e : c .before .before .before .before .before .before .loop .k ≡ 0 + 1 = omega arith in
     passed-down _ _ 0 (omega arith) (passed-as _ _ e refl (c .before .before .before .before .before .before .loop .inv .1)) (c .before .before .put-edge3 .ensures)
 
