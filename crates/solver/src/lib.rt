@@ -3,7 +3,8 @@
 mod worklist;
 
 ghost use mathlib.Core.Path.{_≡_};
-ghost use Rattle.sets.specs.Least.{edgesOf, least};
+ghost use mathlib.Core.List.{map};
+ghost use Rattle.sets.specs.Least.{edgeOf, edgesOf, least};
 ghost use Rattle.passes.specs.Pass.{Stepped};
 use crate::worklist::follow;
 
@@ -49,4 +50,12 @@ pub fn solve(sets: &mut [u64], edges: &[u32], also: &[u16], order: Order)
         going = step(sets, edges, also, order, turn);
         turn = (turn + 1) % 8;
     }
+}
+
+// Makes the sets the least ones that hold them and in which, for every edge, the set that it comes from is inside the set that it leads to.
+pub fn solve_plain(sets: &mut [u64], edges: &[u32], order: Order)
+    ensures { λ _. ⌜ now (sets .exit) ≡ least (map edgeOf (now (edges .entry))) (now (sets .entry)) ⌝ }
+{
+    let also = [0u16; 0];
+    solve(sets, edges, &also[..], order);
 }
