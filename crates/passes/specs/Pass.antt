@@ -29,7 +29,7 @@ pub record Solving (edges also s₀ s : List ℕ) (going : Bool) : Type 0 where
   pub within : (r : List ℕ) → length s₀ ≡ length r → Closed (edgesOf edges also) r → Inside s₀ r → Inside s r
   pub closed : going ≡ false → Closed (edgesOf edges also) s
 
--- a step of the solver: a pass, or, where `turn` is 4, the worklist. A pass that changes something leaves less room
-pub record Stepped (edges also s₀ s : List ℕ) (turn : ℕ) (going : Bool) : Type 0 where
+-- a step of the solver: a pass, and what the worklist makes of it. One that changes something leaves less room
+pub record Stepped (edges also s₀ s : List ℕ) (going : Bool) : Type 0 where
   pub solving : Solving edges also s₀ s going
-  pub less : (turn ≡ 4 → ⊥) → going ≡ true → room s < room s₀
+  pub less : going ≡ true → room s < room s₀

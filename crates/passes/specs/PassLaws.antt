@@ -74,28 +74,12 @@ inside-any (x ∷ l) (suc k) a b h = inside-any l k a b (le-of-suc-le-suc h)
 
 -- ---- a pass
 
--- what is left to do: twice the room, one more before the worklist's turn, and two while going on
-due : ℕ → ℕ
-due turn = elim (eqb turn 4) [ true ↦ 1 | false ↦ 0 ]
-
+-- what is left to do: the room, and one more while going on
 flag : Bool → ℕ
 flag b = elim b [ true ↦ 1 | false ↦ 0 ]
 
-pub left : List ℕ → ℕ → Bool → ℕ
-left s turn going = 2 * room s + due turn + 2 * flag going
-
-due-most : (turn : ℕ) → due turn ≤ 1
-unfolding due
-due-most turn = go (eqb turn 4)
-  where
-    go : (b : Bool) → (elim b [ true ↦ 1 | false ↦ 0 ]) ≤ 1
-    go true = omega arith
-    go false = omega arith
-
-flag-most : (b : Bool) → flag b ≤ 1
-unfolding flag
-flag-most true = omega arith
-flag-most false = omega arith
+pub left : List ℕ → Bool → ℕ
+left s going = room s + flag going
 
 module _ (edges also : List ℕ) where
   pub passed-start : (s : List ℕ) (lo hi : ℕ) → hi ≤ lo → Passed edges also s s false lo hi
@@ -214,40 +198,28 @@ module _ (edges also : List ℕ) where
   -- ---- steps
 
   -- a pass is a step
-  pub pass-step : {s s′ : List ℕ} {b : Bool} (turn : ℕ) → Passed edges also s s′ b 0 (length edges) → Stepped edges also s s′ turn b
-  pass-step {s} {s′} turn p = record {
+  pub pass-step : {s s′ : List ℕ} {b : Bool} → Passed edges also s s′ b 0 (length edges) → Stepped edges also s s′ b
+  pass-step {s} {s′} p = record {
     solving = record {
       places = p .places;
       holds = p .holds;
       within = p .within;
       closed = λ e. subst (Closed (edgesOf edges also)) (sym (p .still e .0)) (numbers-closed edges also s (λ k b. p .still e .1 k (omega arith) b));
     };
-    less = λ d e. p .moved e;
+    less = λ e. p .moved e;
   }
 
-  -- and so is the worklist, at its turn
-  pub worklist-step : {s s′ : List ℕ} {turn : ℕ} → turn ≡ 4 → Solving edges also s s′ true → Stepped edges also s s′ turn true
-  worklist-step e p = record { solving = p; less = λ d g. absurd (d e) }
+  -- and so is one with the worklist behind it, where it changed something
+  pub worklist-step : {s s′ s″ : List ℕ} {b : Bool} → b ≡ true → Stepped edges also s s′ b → Solving edges also s′ s″ true → Stepped edges also s s″ b
+  worklist-step {s} {s′} {s″} e p q =
+      let less : room s″ ≤ room s′ = room-le s′ s″ (sym (q .places)) (q .holds) in
+      record { solving = subst (Solving edges also s s″) (sym e) (solving-both (p .solving) q); less = λ c. lt-of-le-of-lt less (p .less c) }
 
   -- what is left to do falls with every step
-  pub step-less : {s s′ : List ℕ} {b b′ : Bool} (turn : ℕ) → b ≡ true → Stepped edges also s s′ turn b′ → left s′ ((turn + 1) % 8) b′ < left s turn b
-  unfolding left due flag
-  step-less {s} {s′} {b} {b′} turn e p =
-      subst (λ (x : Bool). left s′ ((turn + 1) % 8) b′ < left s turn x) (sym e) (go (eqb turn 4) refl b′ p)
+  pub step-less : {s s′ : List ℕ} {b b′ : Bool} → b ≡ true → Stepped edges also s s′ b′ → left s′ b′ < left s b
+  unfolding left flag
+  step-less {s} {s′} {b} {b′} e p = subst (λ (x : Bool). left s′ b′ < left s x) (sym e) (go b′ p)
     where
-      go : (x : Bool) → eqb turn 4 ≡ x → (y : Bool) → Stepped edges also s s′ turn y → left s′ ((turn + 1) % 8) y < left s turn true
-      go true i y q =
-          let four : turn ≡ 4 = eqb-true turn 4 i in
-          let now : due turn ≡ 1 = ap due four in
-          let then : due ((turn + 1) % 8) ≡ 0 = ap (λ (t : ℕ). due ((t + 1) % 8)) four in
-          let less : room s′ ≤ room s = room-le s s′ (sym (q .solving .places)) (q .solving .holds) in
-          let f : flag y ≤ 1 = flag-most y in
-          omega arith
-      go false i true q =
-          let less : room s′ < room s = q .less (eqb-false turn 4 i) refl in
-          let d : due ((turn + 1) % 8) ≤ 1 = due-most ((turn + 1) % 8) in
-          omega arith
-      go false i false q =
-          let less : room s′ ≤ room s = room-le s s′ (sym (q .solving .places)) (q .solving .holds) in
-          let d : due ((turn + 1) % 8) ≤ 1 = due-most ((turn + 1) % 8) in
-          omega arith
+      go : (y : Bool) → Stepped edges also s s′ y → left s′ y < left s true
+      go true q = let less : room s′ < room s = q .less refl in omega arith
+      go false q = let less : room s′ ≤ room s = room-le s s′ (sym (q .solving .places)) (q .solving .holds) in omega arith

@@ -32,8 +32,22 @@ pub fn also_of(also: &[u16], k: usize, f: usize) -> usize
     f
 }
 
-// Puts what is in the sets at f and at a into the set at t, and returns whether that changed anything or something had changed before.
-pub fn put_along(sets: &mut [u64], f: usize, a: usize, t: usize, changed: bool) -> bool
+// Marks place p, one bit in 16 words. Nothing is promised of marks: they only say where to look first.
+fn mark(marks: &mut [u64; 16], p: usize) {
+    let i = p % 1024 / 64;
+    marks[i] = sets::with_element(marks[i], p % 64);
+}
+
+// Puts what is in the sets at f and at a into the set at t, marks t if that changed anything, and returns whether it did or something had changed
+// before.
+pub fn put_along(
+    sets: &mut [u64],
+    marks: &mut [u64; 16],
+    f: usize,
+    a: usize,
+    t: usize,
+    changed: bool,
+) -> bool
     ensures { λ r. ⌜ Put (record { from = f; also = a; to = t }) (now (sets .entry)) (now (sets .exit)) changed r ⌝ }
 {
     if t < sets.len() {
@@ -43,6 +57,7 @@ pub fn put_along(sets: &mut [u64], f: usize, a: usize, t: usize, changed: bool) 
                 let new = old | sets[f] & sets[a];
                 if new != old {
                     sets[t] = new;
+                    mark(marks, t);
                     return true;
                 }
             }
@@ -52,17 +67,24 @@ pub fn put_along(sets: &mut [u64], f: usize, a: usize, t: usize, changed: bool) 
 }
 
 // Goes along edge `k`, and returns as put_along does.
-pub fn put_edge(sets: &mut [u64], edges: &[u32], also: &[u16], k: usize, changed: bool) -> bool
+pub fn put_edge(
+    sets: &mut [u64],
+    marks: &mut [u64; 16],
+    edges: &[u32],
+    also: &[u16],
+    k: usize,
+    changed: bool,
+) -> bool
     requires { ⌜ k < length (now edges) ⌝ }
     ensures { λ r. ⌜ Put (edgeAt (now (edges .entry)) (now (also .entry)) k) (now (sets .entry)) (now (sets .exit)) changed r ⌝ }
 {
     let f = from_of(edges[k]);
     let t = to_of(edges[k]);
-    put_along(sets, f, also_of(also, k, f), t, changed)
+    put_along(sets, marks, f, also_of(also, k, f), t, changed)
 }
 
-// Goes along every edge once, from the first to the last, and returns whether anything changed. Two edges a turn: that runs faster.
-pub fn pass_up(sets: &mut [u64], edges: &[u32], also: &[u16]) -> bool
+// Goes along every edge once, from the first to the last, marks the places that changed, and returns whether any did. Two edges a turn: that runs faster.
+pub fn pass_up(sets: &mut [u64], marks: &mut [u64; 16], edges: &[u32], also: &[u16]) -> bool
     ensures { λ r. ⌜ Passed (now (edges .entry)) (now (also .entry)) (now (sets .entry)) (now (sets .exit)) r 0 (length (now (edges .entry))) ⌝ }
 {
     let n = edges.len();
@@ -70,29 +92,29 @@ pub fn pass_up(sets: &mut [u64], edges: &[u32], also: &[u16]) -> bool
     let mut changed = false;
     let mut k = 0;
     while k < pairs {
-        changed = put_edge(sets, edges, also, k, changed);
-        changed = put_edge(sets, edges, also, k + 1, changed);
+        changed = put_edge(sets, marks, edges, also, k, changed);
+        changed = put_edge(sets, marks, edges, also, k + 1, changed);
         k += 2;
     }
     if k < n {
-        return put_edge(sets, edges, also, k, changed);
+        return put_edge(sets, marks, edges, also, k, changed);
     }
     changed
 }
 
-// Goes along every edge once, from the last to the first, and returns whether anything changed. Two edges a turn.
-pub fn pass_down(sets: &mut [u64], edges: &[u32], also: &[u16]) -> bool
+// Goes along every edge once, from the last to the first, marks the places that changed, and returns whether any did. Two edges a turn.
+pub fn pass_down(sets: &mut [u64], marks: &mut [u64; 16], edges: &[u32], also: &[u16]) -> bool
     ensures { λ r. ⌜ Passed (now (edges .entry)) (now (also .entry)) (now (sets .entry)) (now (sets .exit)) r 0 (length (now (edges .entry))) ⌝ }
 {
     let mut changed = false;
     let mut k = edges.len();
     while 1 < k {
-        changed = put_edge(sets, edges, also, k - 1, changed);
-        changed = put_edge(sets, edges, also, k - 2, changed);
+        changed = put_edge(sets, marks, edges, also, k - 1, changed);
+        changed = put_edge(sets, marks, edges, also, k - 2, changed);
         k -= 2;
     }
     if 0 < k {
-        return put_edge(sets, edges, also, 0, changed);
+        return put_edge(sets, marks, edges, also, 0, changed);
     }
     changed
 }

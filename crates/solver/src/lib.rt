@@ -14,29 +14,36 @@ pub enum Order {
     LastToFirst,
 }
 
-// The given order where `turn` is even, else the other.
-fn way(order: Order, turn: usize) -> Order {
-    if turn % 2 == 0 {
-        return order;
-    }
+// The other order.
+fn turned(order: Order) -> Order {
     match order {
         Order::FirstToLast => Order::LastToFirst,
         Order::LastToFirst => Order::FirstToLast,
     }
 }
 
-// One pass, every other turn in the other order; at turn 4 the worklist instead, in the other order. Returns whether anything may be left to put.
-fn step(sets: &mut [u64], edges: &[u32], also: &[u16], order: Order, turn: usize) -> bool
-    ensures { λ r. ⌜ Stepped (now (edges .entry)) (now (also .entry)) (now (sets .entry)) (now (sets .exit)) turn r ⌝ }
+// One pass in an order, which marks the places that changed. Returns whether any did.
+fn pass(sets: &mut [u64], marks: &mut [u64; 16], edges: &[u32], also: &[u16], order: Order) -> bool
+    ensures { λ r. ⌜ Stepped (now (edges .entry)) (now (also .entry)) (now (sets .entry)) (now (sets .exit)) r ⌝ }
 {
-    if turn == 4 {
-        follow(sets, edges, also, way(order, 1));
-        return true;
+    match order {
+        Order::FirstToLast => passes::pass_up(sets, marks, edges, also),
+        Order::LastToFirst => passes::pass_down(sets, marks, edges, also),
     }
-    match way(order, turn) {
-        Order::FirstToLast => passes::pass_up(sets, edges, also),
-        Order::LastToFirst => passes::pass_down(sets, edges, also),
+}
+
+// One pass; if it is the second and changed anything, the worklist goes on from there, in the other order. Returns whether anything may be left to put.
+fn step(sets: &mut [u64], edges: &[u32], also: &[u16], order: Order, turn: usize) -> bool
+    ensures { λ r. ⌜ Stepped (now (edges .entry)) (now (also .entry)) (now (sets .entry)) (now (sets .exit)) r ⌝ }
+{
+    let mut marks = [0u64; 16];
+    let changed = pass(sets, &mut marks, edges, also, order);
+    if changed {
+        if turn == 1 {
+            follow(sets, &mut marks, edges, also, turned(order));
+        }
     }
+    changed
 }
 
 // Makes the sets the least ones that hold them and in which, for every edge, what is in both sets that it comes from is in the

@@ -10,10 +10,10 @@ use Rattle.passes.proofs.pass_down.Statement.{statement}
 use Rattle.passes.proofs.pass_down.Tie as tie
 
 abbrev Inv-loop : tie.InvT-loop
-Inv-loop sets₀ edges also changed₀ k₀ sets changed k = (k ≤ length edges) × Passed edges also sets₀ sets changed k (length edges)
+Inv-loop sets₀ marks₀ edges also changed₀ k₀ sets marks changed k = (k ≤ length edges) × Passed edges also sets₀ sets changed k (length edges)
 
 abbrev μ-loop : tie.MeasureT-loop
-μ-loop sets₀ edges also changed₀ k₀ sets changed k = k
+μ-loop sets₀ marks₀ edges also changed₀ k₀ sets marks changed k = k
 
 loop-holds : tie.Need-loop-holds Inv-loop μ-loop
 loop-holds c = (omega arith, passed-start _ _ _ _ _ (omega arith))
@@ -37,7 +37,7 @@ loop-less : tie.Need-loop-less Inv-loop μ-loop
 loop-less c = search needs
 
 loop-again : tie.Need-loop-again Inv-loop μ-loop
-loop-again c = (omega arith, passed-down-two _ _ _ (c .before .before .before .before .before .before .before .before .loop-test .taken) (c .before .before .before .before .before .before .before .before .before .loop .inv .0) (c .before .before .before .before .before .before .before .before .before .loop .inv .1) (c .before .before .before .before .before .before .put-edge .ensures) (c .before .before .put-edge2 .ensures))
+loop-again c = (omega arith, passed-down-two _ _ _ (c .before .before .before .before .before .before .before .before .before .before .loop-test .taken) (c .before .before .before .before .before .before .before .before .before .before .before .loop .inv .0) (c .before .before .before .before .before .before .before .before .before .before .before .loop .inv .1) (c .before .before .before .before .before .before .before .put-edge .ensures) (c .before .before .put-edge2 .ensures))
 
 put-edge-requires-3 : tie.Need-put-edge-requires-3 Inv-loop μ-loop
 put-edge-requires-3 c κs = search needs
@@ -47,8 +47,8 @@ same-length c = search needs
 
 returns : tie.Need-returns Inv-loop μ-loop
 returns c =
-    let e : c .before .before .before .before .before .before .loop .k ≡ 0 + 1 = omega arith in
-    passed-down _ _ 0 (omega arith) (passed-as _ _ e refl (c .before .before .before .before .before .before .loop .inv .1)) (c .before .before .put-edge3 .ensures)
+    let e : c .before .before .before .before .before .before .before .loop .k ≡ 0 + 1 = omega arith in
+    passed-down _ _ 0 (omega arith) (passed-as _ _ e refl (c .before .before .before .before .before .before .before .loop .inv .1)) (c .before .before .put-edge3 .ensures)
 
 same-length-2 : tie.Need-same-length-2 Inv-loop μ-loop
 same-length-2 c = search needs

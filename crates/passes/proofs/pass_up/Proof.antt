@@ -9,10 +9,10 @@ use Rattle.passes.proofs.pass_up.Statement.{statement}
 use Rattle.passes.proofs.pass_up.Tie as tie
 
 abbrev Inv-loop : tie.InvT-loop
-Inv-loop sets₀ edges also n pairs changed₀ k₀ sets changed k = (k ≤ pairs) × (k % 2 ≡ 0) × Passed edges also sets₀ sets changed 0 k
+Inv-loop sets₀ marks₀ edges also n pairs changed₀ k₀ sets marks changed k = (k ≤ pairs) × (k % 2 ≡ 0) × Passed edges also sets₀ sets changed 0 k
 
 abbrev μ-loop : tie.MeasureT-loop
-μ-loop sets₀ edges also n pairs changed₀ k₀ sets changed k = pairs - k
+μ-loop sets₀ marks₀ edges also n pairs changed₀ k₀ sets marks changed k = pairs - k
 
 sub-pairs : tie.Need-sub-pairs Inv-loop μ-loop
 sub-pairs c = search needs
@@ -36,7 +36,7 @@ loop-less : tie.Need-loop-less Inv-loop μ-loop
 loop-less c = search needs
 
 loop-again : tie.Need-loop-again Inv-loop μ-loop
-loop-again c = (omega arith, omega arith, passed-up-two _ _ _ (omega arith) (c .before .before .before .before .before .before .before .before .before .loop .inv .2) (c .before .before .before .before .before .before .put-edge .ensures) (c .before .before .put-edge2 .ensures))
+loop-again c = (omega arith, omega arith, passed-up-two _ _ _ (omega arith) (c .before .before .before .before .before .before .before .before .before .before .before .loop .inv .2) (c .before .before .before .before .before .before .before .put-edge .ensures) (c .before .before .put-edge2 .ensures))
 
 put-edge-requires-3 : tie.Need-put-edge-requires-3 Inv-loop μ-loop
 put-edge-requires-3 c κs = search needs
@@ -45,7 +45,7 @@ same-length : tie.Need-same-length Inv-loop μ-loop
 same-length c = search needs
 
 returns : tie.Need-returns Inv-loop μ-loop
-returns c = passed-as _ _ refl (omega arith) (passed-up _ _ _ (c .before .before .before .before .if1 .taken) (c .before .before .before .before .before .before .loop .inv .2) (c .before .before .put-edge3 .ensures))
+returns c = passed-as _ _ refl (omega arith) (passed-up _ _ _ (c .before .before .before .before .before .if1 .taken) (c .before .before .before .before .before .before .before .loop .inv .2) (c .before .before .put-edge3 .ensures))
 
 same-length-2 : tie.Need-same-length-2 Inv-loop μ-loop
 same-length-2 c = search needs

@@ -29,11 +29,14 @@ mul-sets c = search needs
 slice-write-sets : tie.Need-slice-write-sets
 slice-write-sets c = search needs
 
+mark-requires : tie.Need-mark-requires
+mark-requires c κs = search needs
+
 same-length : tie.Need-same-length
 same-length c = search needs
 
 returns : tie.Need-returns
-returns c = put-more _ _ _ (c .before .before .before .before .before .before .before .args .sets .now) _ (c .before .before .before .before .before .before .if1 .taken) (λ i. omega (arith, c .before .slice-known3 .given i)) (c .if4 .taken)
+returns c = put-more _ _ _ (c .before .before .before .before .before .before .before .before .before .before .args .sets .now) _ (c .before .before .before .before .before .before .before .before .if1 .taken) (λ i. omega (arith, c .before .before .before .before .slice-known3 .given i)) (c .before .before .if4 .taken)
 
 returns-2 : tie.Need-returns-2
 returns-2 c = put-nothing _ _ _ _ _ (c .if4 .left)
@@ -59,6 +62,7 @@ put-along-spec =
     slice-read-new-2
     mul-sets
     slice-write-sets
+    mark-requires
     same-length
     returns
     returns-2

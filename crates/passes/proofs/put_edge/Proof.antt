@@ -37,7 +37,7 @@ same-length c = search needs
 
 returns : tie.Need-returns
 unfolding edgeAt
-returns c = put-as (c .before .before .before .before .before .before .before .from-of .ensures) (c .before .before .before .also-of .ensures ∙ ap (λ (f : ℕ). getD (c .before .before .before .before .before .before .before .before .before .before .before .before .args .also .now) (c .before .before .before .before .before .before .before .before .before .before .before .before .args .k) f) (c .before .before .before .before .before .before .before .from-of .ensures)) (c .before .before .before .before .before .to-of .ensures) (c .before .before .put-along .ensures)
+returns c = put-as (c .before .before .before .before .before .before .before .before .from-of .ensures) (c .before .before .before .also-of .ensures ∙ ap (λ (f : ℕ). getD (c .before .before .before .before .before .before .before .before .before .before .before .before .before .args .also .now) (c .before .before .before .before .before .before .before .before .before .before .before .before .before .args .k) f) (c .before .before .before .before .before .before .before .before .from-of .ensures)) (c .before .before .before .before .before .before .to-of .ensures) (c .before .before .put-along .ensures)
 
 pub put-edge-spec : {M : Type 1} → statement M
 put-edge-spec =

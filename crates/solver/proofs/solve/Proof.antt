@@ -11,7 +11,7 @@ abbrev Inv-loop : tie.InvT-loop
 Inv-loop sets₀ edges also order turn₀ going₀ sets turn going = (turn < 8) × Solving edges also sets₀ sets going
 
 abbrev μ-loop : tie.MeasureT-loop
-μ-loop sets₀ edges also order turn₀ going₀ sets turn going = left sets turn going
+μ-loop sets₀ edges also order turn₀ going₀ sets turn going = left sets going
 
 loop-holds : tie.Need-loop-holds Inv-loop μ-loop
 loop-holds c = (omega arith, solving-start _ _ _)
@@ -23,7 +23,7 @@ add-turn : tie.Need-add-turn Inv-loop μ-loop
 add-turn c = search needs
 
 loop-less : tie.Need-loop-less Inv-loop μ-loop
-loop-less c = step-less _ _ _ (c .before .before .before .before .loop-test .taken) (c .before .before .step .ensures)
+loop-less c = step-less _ _ (c .before .before .before .before .loop-test .taken) (c .before .before .step .ensures)
 
 loop-again : tie.Need-loop-again Inv-loop μ-loop
 loop-again c = (omega arith, solving-both _ _ (c .before .before .before .before .before .loop .inv .1) (c .before .before .step .ensures .solving))

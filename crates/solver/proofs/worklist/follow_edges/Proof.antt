@@ -8,10 +8,10 @@ use Rattle.solver.proofs.worklist.follow_edges.Statement.{statement}
 use Rattle.solver.proofs.worklist.follow_edges.Tie as tie
 
 abbrev Inv-loop : tie.InvT-loop
-Inv-loop sets₀ edges also links worklist₀ first last₀ at₀ sets worklist last at = (at < 65536) × Solving edges also sets₀ sets true
+Inv-loop sets₀ worklist₀ edges also links first last₀ at₀ sets worklist last at = (at < 65536) × Solving edges also sets₀ sets true
 
 abbrev μ-loop : tie.MeasureT-loop
-μ-loop sets₀ edges also links worklist₀ first last₀ at₀ sets worklist last at = 65536 - last
+μ-loop sets₀ worklist₀ edges also links first last₀ at₀ sets worklist last at = 65536 - last
 
 wide-requires : tie.Need-wide-requires Inv-loop μ-loop
 wide-requires c κs = search needs

@@ -8,10 +8,10 @@ use Rattle.solver.proofs.worklist.follow_places.Statement.{statement}
 use Rattle.solver.proofs.worklist.follow_places.Tie as tie
 
 abbrev Inv-loop : tie.InvT-loop
-Inv-loop sets₀ edges also links worklist₀ words order i₀ idle₀ left₀ sets worklist i idle left = (i < 16) × (idle ≤ 16) × Solving edges also sets₀ sets true
+Inv-loop sets₀ worklist₀ edges also links words order i₀ idle₀ left₀ sets worklist i idle left = (i < 16) × (idle ≤ 16) × Solving edges also sets₀ sets true
 
 abbrev μ-loop : tie.MeasureT-loop
-μ-loop sets₀ edges also links worklist₀ words order i₀ idle₀ left₀ sets worklist i idle left = left
+μ-loop sets₀ worklist₀ edges also links words order i₀ idle₀ left₀ sets worklist i idle left = left
 
 loop-holds : tie.Need-loop-holds Inv-loop μ-loop
 loop-holds c = (search needs, search needs, solving-start _ _ _)

@@ -6,10 +6,10 @@ use Rattle.solver.proofs.worklist.link_edges.Statement.{statement}
 use Rattle.solver.proofs.worklist.link_edges.Tie as tie
 
 abbrev Inv-loop : tie.InvT-loop
-Inv-loop edges links₀ worklist₀ k₀ links worklist k = k ≤ length edges
+Inv-loop edges links₀ k₀ links k = k ≤ length edges
 
 abbrev μ-loop : tie.MeasureT-loop
-μ-loop edges links₀ worklist₀ k₀ links worklist k = k
+μ-loop edges links₀ k₀ links k = k
 
 loop-holds : tie.Need-loop-holds Inv-loop μ-loop
 loop-holds c = search needs
@@ -56,9 +56,6 @@ mul-links-3 c = search needs
 element-write-links-2 : tie.Need-element-write-links-2 Inv-loop μ-loop
 element-write-links-2 c = search needs
 
-mark-requires : tie.Need-mark-requires Inv-loop μ-loop
-mark-requires c κs = search needs
-
 loop-less : tie.Need-loop-less Inv-loop μ-loop
 loop-less c = search needs
 
@@ -89,7 +86,6 @@ link-edges-spec =
     sub-links-2
     mul-links-3
     element-write-links-2
-    mark-requires
     loop-less
     loop-again
     returns)
