@@ -10,6 +10,7 @@ pub mod Handles
 pub mod Routines
 pub mod Extents
 pub mod ExtentLaws
+pub mod View
 pub mod Statements
 pub mod Naming
 pub mod Verdict
