@@ -25,6 +25,7 @@ pub mod RoutineLaws
 pub mod Lists
 pub mod LookupLaws
 pub mod OperationLaws
+pub mod ViewLaws
 pub mod StatementLaws
 pub mod NamingLaws
 pub mod AcceptedLaws

@@ -126,20 +126,20 @@ On r P = (n : ℕ) × (r ≡ To n) × P n
 abbrev pub Each : Reference → (ℕ → Type 0) → Type 0
 Each r P = (n : ℕ) → r ≡ To n → P n
 
--- the set of what it refers to, empty if to nothing
+-- what f says of what it refers to, or else d
+abbrev pub onOr : {A : Type 0} → Reference → (ℕ → A) → A → A
+onOr (To n) f d = f n
+onOr Nothing f d = d
+
+-- the set, the list and the test of what it refers to: empty and false if it is nothing
 abbrev pub setOn : Reference → (ℕ → ℕ) → ℕ
-setOn (To n) f = f n
-setOn Nothing f = 0
+setOn r f = onOr r f 0
 
--- the list of what it refers to, empty if to nothing
 abbrev pub listOn : {A : Type 0} → Reference → (ℕ → List A) → List A
-listOn (To n) f = f n
-listOn Nothing f = []
+listOn r f = onOr r f []
 
--- the test of what it refers to, false if it is nothing
 abbrev pub testOn : Reference → (ℕ → Bool) → Bool
-testOn (To n) f = f n
-testOn Nothing f = false
+testOn r f = onOr r f false
 
 -- the list if the test is true, else the empty one
 abbrev pub when : {A : Type 0} → Bool → List A → List A
