@@ -5,7 +5,7 @@ use Prim.Native.Nat.{ℕ}
 use mathlib.Core.Bool.{Bool}
 use mathlib.Core.List.{List, [], _∷_}
 use lib.ListN.{getD}
-use Rattle.sets.specs.Least.{Edge, least}
+use Rattle.sets.specs.Least.{Edge, plain, least}
 use Rattle.table.specs.Table.{Table, routine, statement}
 use Rattle.table.specs.Tabulate.{tabulate}
 use Rattle.report.specs.Over.{joinedFrom, unionFrom}
@@ -19,7 +19,7 @@ overCopy t k f c = unionFrom (routine t (k .routineOf c) .first) (routine t (k .
 
 -- from the copy that a CALL or START leads to, to the copy that it stands in
 unfoldable pub upFrom : Layout → ℕ → Edge
-upFrom k p = record { from = k .leads (k .statementCopy p) (k .statementAt p); to = k .statementCopy p }
+upFrom k p = plain (k .leads (k .statementCopy p) (k .statementAt p)) (k .statementCopy p)
 
 -- up every CALL and every START
 unfoldable pub namingEdges : Table → Layout → List Edge

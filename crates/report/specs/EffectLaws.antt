@@ -6,7 +6,7 @@ use mathlib.Core.List.{List, [], _∷_, List·Memᴰ, List·Memᴰ·head, List·
 use native.Mathlib.Omega.{arith}
 use lib.ListN.{getD}
 use Rattle.sets.specs.Set.{has}
-use Rattle.sets.specs.Least.{SetList, Edge, least}
+use Rattle.sets.specs.Least.{SetList, Edge, plain, least}
 use Rattle.sets.specs.LeastLaws.{least-sets, least-holds-start, least-edge, least-induction}
 use Rattle.table.specs.Table.{Table, routine, statement}
 use Rattle.table.specs.Tabulate.{tabulate}
@@ -66,16 +66,16 @@ module _ (t : Table) (k : Layout) (fits : Fits t k) (own : ℕ → Statement →
       (tabulate-has (k .copies) (λ c. overCopy t k (λ s. own c (statement t s)) c) c x (w .there)
       (union-has _ _ (λ s. own c (statement t s)) s x (record { low = w .inside .low; high = w .inside .high }) (ap (λ (τ : Statement). has (own c τ) x) e ∙ h)))
 
-  up-edge : (c s : ℕ) → c < k .copies → List·Memᴰ (record { from = k .leads c s; to = c }) es → (x : ℕ)
+  up-edge : (c s : ℕ) → c < k .copies → List·Memᴰ (plain (k .leads c s) c) es → (x : ℕ)
       → has (getD (least es owns) (k .leads c s) 0) x ≡ true → has (getD (least es owns) c 0) x ≡ true
-  up-edge c s l m x h = least-edge (k .copies) es owns owns-sets (record { from = k .leads c s; to = c }) m l x h
+  up-edge c s l m x h = least-edge (k .copies) es owns owns-sets (plain (k .leads c s) c) m l x h h
 
   up-induction : (P : ℕ → ℕ → Type 0) → ((e : Edge) → List·Memᴰ e es → (x : ℕ) → P (e .from) x → P (e .to) x)
       → ((c s : ℕ) → Place (copiesOf fits) c s → (x : ℕ) → has (own c (statement t s)) x ≡ true → P c x)
       → (c x : ℕ) → has (getD (least es owns) c 0) x ≡ true → P c x
   unfolding overCopy
   up-induction P f g =
-      least-induction (k .copies) es owns owns-sets P (λ e m l x h. f e m x h)
+      least-induction (k .copies) es owns owns-sets P (λ e m l x h b. f e m x h)
       (λ c x h.
       let r : (c < k .copies) × (has (overCopy t k (λ s. own c (statement t s)) c) x ≡ true) =
       tabulate-from (k .copies) (λ c. overCopy t k (λ s. own c (statement t s)) c) c x h in
@@ -135,7 +135,7 @@ module _ (t : Table) (k : Layout) (fits : Fits t k) (flow : List ℕ) (below : (
     by-give = λ c s x h w e a. own-has t k fits givenOf givenOf-below (callEdges t k) c s w (Give h) e x a;
     by-call = λ c s x q a w e g.
         up-edge t k fits givenOf givenOf-below (callEdges t k) c s (w .there)
-        (among-all t k fits (λ p d z τ. byNaming (record { from = k .leads d z; to = d } ∷ []) [] [] τ) _ c s w (Call q a) e (List·Memᴰ·head refl)) x g;
+        (among-all t k fits (λ p d z τ. byNaming (plain (k .leads d z) d ∷ []) [] [] τ) _ c s w (Call q a) e (List·Memᴰ·head refl)) x g;
   }
 
   module _ (other : ℕ → ℕ → Type 0) (rules : GivesRules (copiesOf fits) (FlowHas k flow) other) where
@@ -155,7 +155,7 @@ module _ (t : Table) (k : Layout) (fits : Fits t k) (flow : List ℕ) (below : (
     by-given c s w Return e x a = none-in x a
 
     up-call : (c s : ℕ) → Place (copiesOf fits) c s → (σ : Statement) → statement t s ≡ σ → (e : Edge)
-        → List·Memᴰ e (byNaming (record { from = k .leads c s; to = c } ∷ []) [] [] σ) → (x : ℕ) → other (e .from) x → other (e .to) x
+        → List·Memᴰ e (byNaming (plain (k .leads c s) c ∷ []) [] [] σ) → (x : ℕ) → other (e .from) x → other (e .to) x
     unfolding byNaming
     up-call c s w (Read h) q e m x a = elim m [ ]
     up-call c s w (Write h) q e m x a = elim m [ ]
@@ -165,7 +165,7 @@ module _ (t : Table) (k : Layout) (fits : Fits t k) (flow : List ℕ) (below : (
     up-call c s w (Give h) q e m x a = elim m [ ]
     up-call c s w (Point h g) q e m x a = elim m [ ]
     up-call c s w (Call r b) q e m x a =
-        let i : e ≡ record { from = k .leads c s; to = c } = List·Memᴰ·eq-of-singleton m in
+        let i : e ≡ plain (k .leads c s) c = List·Memᴰ·eq-of-singleton m in
         subst (λ (d : Edge). other (d .to) x) (sym i) (rules .by-call c s x r b w q (subst (λ (d : Edge). other (d .from) x) i a))
     up-call c s w (Start r b) q e m x a = elim m [ ]
     up-call c s w (Jump z) q e m x a = elim m [ ]
@@ -179,9 +179,9 @@ module _ (t : Table) (k : Layout) (fits : Fits t k) (flow : List ℕ) (below : (
         up-induction t k fits givenOf givenOf-below (callEdges t k) other
         (λ e m x a.
         let r : (p : ℕ) × (p < k .statements)
-        × List·Memᴰ e (byNaming (record { from = k .leads (k .statementCopy p) (k .statementAt p); to = k .statementCopy p } ∷ []) [] []
+        × List·Memᴰ e (byNaming (plain (k .leads (k .statementCopy p) (k .statementAt p)) (k .statementCopy p) ∷ []) [] []
         (statement t (k .statementAt p))) =
-        of-some t k fits (λ p d z τ. byNaming (record { from = k .leads d z; to = d } ∷ []) [] [] τ) e m in
+        of-some t k fits (λ p d z τ. byNaming (plain (k .leads d z) d ∷ []) [] [] τ) e m in
         up-call _ _ (place-at t k fits (r .0) (r .1)) (statement t (k .statementAt (r .0))) refl e (r .2) x a)
         (λ c s w x a. by-given c s w (statement t s) refl x a)
 
@@ -209,11 +209,11 @@ module _ (t : Table) (k : Layout) (fits : Fits t k) (flow : List ℕ) (below : (
   does-in c s w x v (Point h g) e d = absurd d
   does-in c s w x v (Call q a) e d =
       up-edge t k fits (accessOf w) (accessOf-below w) (namingEdges t k) c s (v .there)
-      (among-all t k fits (λ p b z τ. byNaming (record { from = k .leads b z; to = b } ∷ []) (record { from = k .leads b z; to = b } ∷ []) [] τ) _ c s v (Call q a) e
+      (among-all t k fits (λ p b z τ. byNaming (plain (k .leads b z) b ∷ []) (plain (k .leads b z) b ∷ []) [] τ) _ c s v (Call q a) e
       (List·Memᴰ·head refl)) x d
   does-in c s w x v (Start q a) e d =
       up-edge t k fits (accessOf w) (accessOf-below w) (namingEdges t k) c s (v .there)
-      (among-all t k fits (λ p b z τ. byNaming (record { from = k .leads b z; to = b } ∷ []) (record { from = k .leads b z; to = b } ∷ []) [] τ) _ c s v (Start q a) e
+      (among-all t k fits (λ p b z τ. byNaming (plain (k .leads b z) b ∷ []) (plain (k .leads b z) b ∷ []) [] τ) _ c s v (Start q a) e
       (List·Memᴰ·head refl)) x d
   does-in c s w x v (Jump z) e d = absurd d
   does-in c s w x v (JumpZero z) e d = absurd d
@@ -259,7 +259,7 @@ module _ (t : Table) (k : Layout) (fits : Fits t k) (flow : List ℕ) (below : (
 
   module _ (other : ℕ → Bool → ℕ → Type 0) (rules : EffectRules (copiesOf fits) (FlowHas k flow) other) (w : Bool) where
     up-naming : (c s : ℕ) → Place (copiesOf fits) c s → (σ : Statement) → statement t s ≡ σ → (e : Edge)
-        → List·Memᴰ e (byNaming (record { from = k .leads c s; to = c } ∷ []) (record { from = k .leads c s; to = c } ∷ []) [] σ)
+        → List·Memᴰ e (byNaming (plain (k .leads c s) c ∷ []) (plain (k .leads c s) c ∷ []) [] σ)
         → (x : ℕ) → other (e .from) w x → other (e .to) w x
     unfolding byNaming
     up-naming c s v (Read h) q e m x a = elim m [ ]
@@ -270,10 +270,10 @@ module _ (t : Table) (k : Layout) (fits : Fits t k) (flow : List ℕ) (below : (
     up-naming c s v (Give h) q e m x a = elim m [ ]
     up-naming c s v (Point h g) q e m x a = elim m [ ]
     up-naming c s v (Call r b) q e m x a =
-        let i : e ≡ record { from = k .leads c s; to = c } = List·Memᴰ·eq-of-singleton m in
+        let i : e ≡ plain (k .leads c s) c = List·Memᴰ·eq-of-singleton m in
         subst (λ (d : Edge). other (d .to) w x) (sym i) (rules .of-statement c s w x v (Call r b) q (subst (λ (d : Edge). other (d .from) w x) i a))
     up-naming c s v (Start r b) q e m x a =
-        let i : e ≡ record { from = k .leads c s; to = c } = List·Memᴰ·eq-of-singleton m in
+        let i : e ≡ plain (k .leads c s) c = List·Memᴰ·eq-of-singleton m in
         subst (λ (d : Edge). other (d .to) w x) (sym i) (rules .of-statement c s w x v (Start r b) q (subst (λ (d : Edge). other (d .from) w x) i a))
     up-naming c s v (Jump z) q e m x a = elim m [ ]
     up-naming c s v (JumpZero z) q e m x a = elim m [ ]
@@ -286,8 +286,8 @@ module _ (t : Table) (k : Layout) (fits : Fits t k) (flow : List ℕ) (below : (
         up-induction t k fits (accessOf w) (accessOf-below w) (namingEdges t k) (λ c x. other c w x)
         (λ e m x a.
         let r : (p : ℕ) × (p < k .statements)
-        × List·Memᴰ e (byNaming (record { from = k .leads (k .statementCopy p) (k .statementAt p); to = k .statementCopy p } ∷ [])
-        (record { from = k .leads (k .statementCopy p) (k .statementAt p); to = k .statementCopy p } ∷ []) [] (statement t (k .statementAt p))) =
-        of-some t k fits (λ p d z τ. byNaming (record { from = k .leads d z; to = d } ∷ []) (record { from = k .leads d z; to = d } ∷ []) [] τ) e m in
+        × List·Memᴰ e (byNaming (plain (k .leads (k .statementCopy p) (k .statementAt p)) (k .statementCopy p) ∷ [])
+        (plain (k .leads (k .statementCopy p) (k .statementAt p)) (k .statementCopy p) ∷ []) [] (statement t (k .statementAt p))) =
+        of-some t k fits (λ p d z τ. byNaming (plain (k .leads d z) d ∷ []) (plain (k .leads d z) d ∷ []) [] τ) e m in
         up-naming _ _ (place-at t k fits (r .0) (r .1)) (statement t (k .statementAt (r .0))) refl e (r .2) x a)
         (λ c s v x a. rules .of-statement c s w x v (statement t s) refl (accessed-does other c s w 0 x (λ z. none-in x z) (statement t s) a))

@@ -10,7 +10,7 @@ use lib.ListN.{length, getD}
 use borrow.Author.Tests.{eqb-true, eq-eqb}
 use Rattle.sets.specs.Set.{has, one}
 use Rattle.sets.specs.SetLaws.{has-one, one-below}
-use Rattle.sets.specs.Least.{SetList, Edge}
+use Rattle.sets.specs.Least.{SetList, Edge, plain}
 use Rattle.sets.specs.LeastLaws.{least-sets, least-holds-start, least-edge, least-induction}
 use Rattle.table.specs.Table.{Table, declaration, routine, statement, passed, OwnHandle}
 use Rattle.table.specs.Accepted.{Accepted, Operands, Passes, Names, HandleFacts}
@@ -77,11 +77,11 @@ module _ (t : Table) (k : Layout) (acc : Accepted t) (fits : Fits t k) where
 
   module _ (c s : ℕ) (w : Place (copiesOf fits) c s) where
     carries : (σ : Statement) → statement t s ≡ σ → (e : Edge) → List·Memᴰ e (flowEdges t k c s σ) → e .to < k .handles → (x : ℕ)
-        → has (getD (flowSets t k) (e .from) 0) x ≡ true → has (getD (flowSets t k) (e .to) 0) x ≡ true
+        → has (getD (flowSets t k) (e .from) 0) x ≡ true → has (getD (flowSets t k) (e .also) 0) x ≡ true → has (getD (flowSets t k) (e .to) 0) x ≡ true
     unfolding flowSets allFlowEdges
-    carries σ q e m l x h =
+    carries σ q e m l x h b =
         least-edge (k .handles) (allFlowEdges t k) (flowInitials t k) starts-sets e
-        (among-all t k fits (λ p d z τ. flowEdges t k d z τ) e c s w σ q m) l x h
+        (among-all t k fits (λ p d z τ. flowEdges t k d z τ) e c s w σ q m) l x h b
 
     parameter-placed : (q j : ℕ) → Names (statement t s) q → j < routine t q .parameters → HandlePlaced k (k .leads c s) (routine t q .handle + j)
     parameter-placed q j n l =
@@ -93,12 +93,12 @@ module _ (t : Table) (k : Layout) (acc : Accepted t) (fits : Fits t k) where
 
     passes : (q : ℕ) (a : Arguments) → Names (statement t s) q
         → ((e : Edge) → List·Memᴰ e (passing t k c (k .leads c s) q a) → e .to < k .handles → (x : ℕ)
-        → has (getD (flowSets t k) (e .from) 0) x ≡ true → has (getD (flowSets t k) (e .to) 0) x ≡ true)
+        → has (getD (flowSets t k) (e .from) 0) x ≡ true → has (getD (flowSets t k) (e .also) 0) x ≡ true → has (getD (flowSets t k) (e .to) 0) x ≡ true)
         → Passing (copiesOf fits) (FlowHas k (flowSets t k)) c s q a
     unfolding passing
     passes q a n f j x l h =
-        f (record { from = k .handlePlace c (getD (passed a) j 0); to = k .handlePlace (k .leads c s) (routine t q .handle + j) })
-        (joined-has 0 (routine t q .parameters) _ j _ (below-within l) (List·Memᴰ·head refl)) (parameter-placed q j n l .there) x h
+        f (plain (k .handlePlace c (getD (passed a) j 0)) (k .handlePlace (k .leads c s) (routine t q .handle + j)))
+        (joined-has 0 (routine t q .parameters) _ j _ (below-within l) (List·Memᴰ·head refl)) (parameter-placed q j n l .there) x h h
 
     flow-step : (σ : Statement) → statement t s ≡ σ → Operands t (k .routineOf c) σ → FlowStep (copiesOf fits) (FlowHas k (flowSets t k)) c s σ
     unfolding flowEdges
@@ -108,9 +108,9 @@ module _ (t : Table) (k : Layout) (acc : Accepted t) (fits : Fits t k) where
     flow-step (Add n) q o = tt
     flow-step (Take h) q o = tt
     flow-step (Give h) q o = tt
-    flow-step (Point h g) q o = λ x. carries (Point h g) q
-        (record { from = k .handlePlace c (g .number); to = k .handlePlace c (h .number) })
-        (List·Memᴰ·head refl) (fits .handle-placed c (h .number) (w .there) (o .0) .there) x
+    flow-step (Point h g) q o = λ x b. carries (Point h g) q
+        (plain (k .handlePlace c (g .number)) (k .handlePlace c (h .number)))
+        (List·Memᴰ·head refl) (fits .handle-placed c (h .number) (w .there) (o .0) .there) x b b
     flow-step (Call r a) q o = passes r a (subst (λ (τ : Statement). Names τ r) (sym q) refl) (carries (Call r a) q)
     flow-step (Start r a) q o = passes r a (subst (λ (τ : Statement). Names τ r) (sym q) refl) (carries (Start r a) q)
     flow-step (Jump z) q o = tt
@@ -150,11 +150,11 @@ module _ (t : Table) (k : Layout) (acc : Accepted t) (fits : Fits t k) where
       unfolding passing
       passes-on q a n ok f e m x h =
           let r : (j : ℕ) × Within 0 (routine t q .parameters) j
-          × List·Memᴰ e (record { from = k .handlePlace c (getD (passed a) j 0); to = k .handlePlace (k .leads c s) (routine t q .handle + j) } ∷ []) =
+          × List·Memᴰ e (plain (k .handlePlace c (getD (passed a) j 0)) (k .handlePlace (k .leads c s) (routine t q .handle + j)) ∷ []) =
           joined-from 0 (routine t q .parameters) _ e m in
           let j : ℕ = r .0 in
           let l : j < routine t q .parameters = within-below (r .1) in
-          let q1 : e ≡ record { from = k .handlePlace c (getD (passed a) j 0); to = k .handlePlace (k .leads c s) (routine t q .handle + j) } =
+          let q1 : e ≡ plain (k .handlePlace c (getD (passed a) j 0)) (k .handlePlace (k .leads c s) (routine t q .handle + j)) =
           List·Memᴰ·eq-of-singleton (r .2) in
           subst (λ (d : Edge). At (d .to) x) (sym q1)
           (of-pair (k .leads c s) (routine t q .handle + j) x (parameter-placed c s w q j n l)
@@ -171,7 +171,7 @@ module _ (t : Table) (k : Layout) (acc : Accepted t) (fits : Fits t k) where
       goes-along (Take h) q o f e m x a = elim m [ ]
       goes-along (Give h) q o f e m x a = elim m [ ]
       goes-along (Point h g) q o f e m x a =
-          let q1 : e ≡ record { from = k .handlePlace c (g .number); to = k .handlePlace c (h .number) } = List·Memᴰ·eq-of-singleton m in
+          let q1 : e ≡ plain (k .handlePlace c (g .number)) (k .handlePlace c (h .number)) = List·Memᴰ·eq-of-singleton m in
           subst (λ (d : Edge). At (d .to) x) (sym q1)
           (of-pair c (h .number) x (fits .handle-placed c (h .number) (w .there) (o .0))
           (f x (to-pair c (g .number) x (fits .handle-placed c (g .number) (w .there) (o .1)) (subst (λ (d : Edge). At (d .from) x) q1 a))))
@@ -185,7 +185,7 @@ module _ (t : Table) (k : Layout) (acc : Accepted t) (fits : Fits t k) where
     unfolding flowSets allFlowEdges flowInitials
     everywhere =
         least-induction (k .handles) (allFlowEdges t k) (flowInitials t k) starts-sets At
-        (λ e m l x a.
+        (λ e m l x a b.
         let r : (p : ℕ) × (p < k .statements) × List·Memᴰ e (flowEdges t k (k .statementCopy p) (k .statementAt p) (statement t (k .statementAt p))) =
         of-some t k fits (λ p d z τ. flowEdges t k d z τ) e m in
         let w : Place (copiesOf fits) (k .statementCopy (r .0)) (k .statementAt (r .0)) = place-at t k fits (r .0) (r .1) in

@@ -5,7 +5,7 @@ use Prim.Native.Nat.{ℕ, _+_}
 use mathlib.Core.Bool.{Bool, cond}
 use mathlib.Core.List.{List, [], _∷_, _++_, map}
 use lib.Dec.{ltb}
-use Rattle.sets.specs.Least.{Edge, least}
+use Rattle.sets.specs.Least.{Edge, plain, least}
 use Rattle.table.specs.Table.{Table, statement}
 use Rattle.table.specs.Tabulate.{tabulate}
 use Rattle.report.specs.Over.{joinedFrom, unionAt}
@@ -26,9 +26,9 @@ unfoldable pub futureEdges : Table → Layout → List Edge
 futureEdges t k =
     joinedFrom 0 (k .statements)
     (λ p.
-    map (λ (n : ℕ). record { from = k .statementPlace (k .statementCopy p) n; to = p }) (nexts (k .statementAt p) (statement t (k .statementAt p)))
-    ++ (record { from = callers k (k .statementCopy p); to = p }
-    ∷ byNaming (record { from = p; to = callers k (k .leads (k .statementCopy p) (k .statementAt p)) } ∷ []) [] [] (statement t (k .statementAt p))))
+    map (λ (n : ℕ). plain (k .statementPlace (k .statementCopy p) n) p) (nexts (k .statementAt p) (statement t (k .statementAt p)))
+    ++ (plain (callers k (k .statementCopy p)) p
+    ∷ byNaming (plain p (callers k (k .leads (k .statementCopy p) (k .statementAt p))) ∷ []) [] [] (statement t (k .statementAt p))))
 
 -- before anything goes along the edges: the effects of what may come next, and nothing for the CALLs of a copy
 unfoldable pub futureInitials : Table → Layout → List ℕ → List ℕ → Bool → List ℕ

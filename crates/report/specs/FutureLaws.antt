@@ -9,7 +9,7 @@ use lib.Dec.{ltb}
 use lib.ListN.{getD}
 use borrow.Author.Tests.{ltb-true, lt-ltb}
 use Rattle.sets.specs.Set.{has}
-use Rattle.sets.specs.Least.{SetList, Edge}
+use Rattle.sets.specs.Least.{SetList, Edge, plain}
 use Rattle.sets.specs.LeastLaws.{least-sets, least-holds-start, least-edge, least-induction}
 use Rattle.table.specs.Table.{Table, statement}
 use Rattle.table.specs.Accepted.{Accepted}
@@ -62,21 +62,22 @@ module _ (t : Table) (k : Layout) (acc : Accepted t) (fits : Fits t k) (flow : L
 
   -- the edges that a statement makes
   abbrev nextEdges : ℕ → ℕ → ℕ → Statement → List Edge
-  nextEdges p c s σ = map (λ (n : ℕ). record { from = k .statementPlace c n; to = p }) (nexts s σ)
+  nextEdges p c s σ = map (λ (n : ℕ). plain (k .statementPlace c n) p) (nexts s σ)
 
   abbrev callEdges : ℕ → ℕ → ℕ → Statement → List Edge
-  callEdges p c s σ = byNaming (record { from = p; to = callers k (k .leads c s) } ∷ []) [] [] σ
+  callEdges p c s σ = byNaming (plain p (callers k (k .leads c s)) ∷ []) [] [] σ
 
   abbrev edgesAt : ℕ → ℕ → ℕ → Statement → List Edge
-  edgesAt p c s σ = nextEdges p c s σ ++ (record { from = callers k c; to = p } ∷ callEdges p c s σ)
+  edgesAt p c s σ = nextEdges p c s σ ++ (plain (callers k c) p ∷ callEdges p c s σ)
 
   along : (w : Bool) (c s : ℕ) → Place (copiesOf fits) c s → (σ : Statement) → statement t s ≡ σ → (e : Edge)
       → List·Memᴰ e (edgesAt (k .statementPlace c s) c s σ) → e .to < k .statements + k .copies → (x : ℕ)
-      → has (getD (futures t k flow (effect w) w) (e .from) 0) x ≡ true → has (getD (futures t k flow (effect w) w) (e .to) 0) x ≡ true
+      → has (getD (futures t k flow (effect w) w) (e .from) 0) x ≡ true → has (getD (futures t k flow (effect w) w) (e .also) 0) x ≡ true
+      → has (getD (futures t k flow (effect w) w) (e .to) 0) x ≡ true
   unfolding futures futureEdges
-  along w c s v σ q e m l x h =
+  along w c s v σ q e m l x h b =
       least-edge (k .statements + k .copies) (futureEdges t k) (futureInitials t k flow (effect w) w) (starts-sets w) e
-      (among-all t k fits edgesAt e c s v σ q m) l x h
+      (among-all t k fits edgesAt e c s v σ q m) l x h b
 
   -- ---- the rules
 
@@ -99,20 +100,21 @@ module _ (t : Table) (k : Layout) (acc : Accepted t) (fits : Fits t k) (flow : L
 
   at-later : (c s s′ : ℕ) (w : Bool) (x : ℕ) → Place (copiesOf fits) c s → Goes s (statement t s) s′ → Future c s′ w x → Future c s w x
   at-later c s s′ w x v g a =
-      along w c s v (statement t s) refl (record { from = k .statementPlace c s′; to = k .statementPlace c s })
-      (Memᴰ·append-left (record { from = callers k c; to = k .statementPlace c s } ∷ callEdges (k .statementPlace c s) c s (statement t s)) (map-has (λ (n : ℕ). record { from = k .statementPlace c n; to = k .statementPlace c s }) _ s′ (goes-next s (statement t s) s′ g)))
-      (place-below c s v) x a
+      along w c s v (statement t s) refl (plain (k .statementPlace c s′) (k .statementPlace c s))
+      (Memᴰ·append-left (plain (callers k c) (k .statementPlace c s) ∷ callEdges (k .statementPlace c s) c s (statement t s)) (map-has (λ (n : ℕ). plain (k .statementPlace c n) (k .statementPlace c s)) _ s′ (goes-next s (statement t s) s′ g)))
+      (place-below c s v) x a a
 
   of-callers : (c s z : ℕ) (w : Bool) (x q : ℕ) (a : Arguments) → Place (copiesOf fits) c s → statement t s ≡ Call q a
       → Place (copiesOf fits) (k .leads c s) z → Future c s w x → Future (k .leads c s) z w x
   unfolding byNaming callers
   of-callers c s z w x q a v e u f =
-      along w (k .leads c s) z u (statement t z) refl (record { from = callers k (k .leads c s); to = k .statementPlace (k .leads c s) z })
-      (Memᴰ·append-right (nextEdges (k .statementPlace (k .leads c s) z) (k .leads c s) z (statement t z)) (List·Memᴰ·head refl))
-      (place-below (k .leads c s) z u) x
-      (along w c s v (Call q a) e (record { from = k .statementPlace c s; to = callers k (k .leads c s) })
+      let at-callers : has (getD (futures t k flow (effect w) w) (callers k (k .leads c s)) 0) x ≡ true =
+      along w c s v (Call q a) e (plain (k .statementPlace c s) (callers k (k .leads c s)))
       (Memᴰ·append-right (nextEdges (k .statementPlace c s) c s (Call q a)) (List·Memᴰ·tail (List·Memᴰ·head refl)))
-      (let l : k .leads c s < k .copies = u .there in omega arith) x f)
+      (let l : k .leads c s < k .copies = u .there in omega arith) x f f in
+      along w (k .leads c s) z u (statement t z) refl (plain (callers k (k .leads c s)) (k .statementPlace (k .leads c s) z))
+      (Memᴰ·append-right (nextEdges (k .statementPlace (k .leads c s) z) (k .leads c s) z (statement t z)) (List·Memᴰ·head refl))
+      (place-below (k .leads c s) z u) x at-callers at-callers
 
   pub future-rules : FutureRules (copiesOf fits) (FlowHas k flow) (EffectHas effect) Future
   future-rules = record {
@@ -150,7 +152,7 @@ module _ (t : Table) (k : Layout) (acc : Accepted t) (fits : Fits t k) (flow : L
     }
 
     up : (p c s : ℕ) → Place (copiesOf fits) c s → (σ : Statement) → statement t s ≡ σ → (e : Edge)
-        → List·Memᴰ e (byNaming (record { from = p; to = callers k (k .leads c s) } ∷ []) [] [] σ) → (x : ℕ)
+        → List·Memᴰ e (byNaming (plain p (callers k (k .leads c s)) ∷ []) [] [] σ) → (x : ℕ)
         → (Ahead p x → other c s w x) → Ahead (e .from) x → Ahead (e .to) x
     unfolding byNaming
     up p c s v (Read h) q e m x f a = elim m [ ]
@@ -161,7 +163,7 @@ module _ (t : Table) (k : Layout) (acc : Accepted t) (fits : Fits t k) (flow : L
     up p c s v (Give h) q e m x f a = elim m [ ]
     up p c s v (Point h g) q e m x f a = elim m [ ]
     up p c s v (Call r b) q e m x f a =
-        let i : e ≡ record { from = p; to = callers k (k .leads c s) } = List·Memᴰ·eq-of-singleton m in
+        let i : e ≡ plain p (callers k (k .leads c s)) = List·Memᴰ·eq-of-singleton m in
         subst (λ (d : Edge). Ahead (d .to) x) (sym i)
         (called c s v r b q x (f (subst (λ (d : Edge). Ahead (d .from) x) i a)))
     up p c s v (Start r b) q e m x f a = elim m [ ]
@@ -182,17 +184,17 @@ module _ (t : Table) (k : Layout) (acc : Accepted t) (fits : Fits t k) (flow : L
         v : Place (copiesOf fits) c s
         v = place-at t k fits p l
 
-        rest : List·Memᴰ e (record { from = callers k c; to = p } ∷ callEdges p c s (statement t s)) → Ahead (e .to) x
+        rest : List·Memᴰ e (plain (callers k c) p ∷ callEdges p c s (statement t s)) → Ahead (e .to) x
         rest (List·Memᴰ·head i) =
             subst (λ (d : Edge). Ahead (d .to) x) (sym i)
             (statement-ahead p x l (subst (λ (d : Edge). Ahead (d .from) x) i a .every c s refl v))
         rest (List·Memᴰ·tail m) = up p c s v (statement t s) refl e m x (λ b. b .here l) a
 
-        go : List·Memᴰ e (nextEdges p c s (statement t s)) ⊎ List·Memᴰ e (record { from = callers k c; to = p } ∷ callEdges p c s (statement t s))
+        go : List·Memᴰ e (nextEdges p c s (statement t s)) ⊎ List·Memᴰ e (plain (callers k c) p ∷ callEdges p c s (statement t s))
             → Ahead (e .to) x
         go (inl m) =
-            let r : (n : ℕ) × List·Memᴰ n (nexts s (statement t s)) × (e ≡ record { from = k .statementPlace c n; to = p }) =
-            map-from (λ (n : ℕ). record { from = k .statementPlace c n; to = p }) (nexts s (statement t s)) e m in
+            let r : (n : ℕ) × List·Memᴰ n (nexts s (statement t s)) × (e ≡ plain (k .statementPlace c n) p) =
+            map-from (λ (n : ℕ). plain (k .statementPlace c n) p) (nexts s (statement t s)) e m in
             let g : Goes s (statement t s) (r .0) = next-goes s (statement t s) (r .0) (r .1) in
             let u : Place (copiesOf fits) c (r .0) = goes-placed t k acc fits c s (r .0) v g in
             subst (λ (d : Edge). Ahead (d .to) x) (sym (r .2))
@@ -224,7 +226,7 @@ module _ (t : Table) (k : Layout) (acc : Accepted t) (fits : Fits t k) (flow : L
     unfolding futures futureEdges futureInitials
     everywhere =
         least-induction (k .statements + k .copies) (futureEdges t k) (futureInitials t k flow (effect w) w) (starts-sets w) Ahead
-        (λ e m l x a.
+        (λ e m l x a b.
         let r : (p : ℕ) × (p < k .statements) × List·Memᴰ e (edgesAt p (k .statementCopy p) (k .statementAt p) (statement t (k .statementAt p))) =
         of-some t k fits edgesAt e m in
         goes-along (r .0) (r .1) e (r .2) x a)
