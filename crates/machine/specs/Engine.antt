@@ -5,14 +5,14 @@ use mathlib.Core.List.{List, [], _∷_}
 use lib.Dec.{eqb, leb}
 use lib.ListN.{length}
 use Rattle.table.specs.Table.{Table, statement}
-use Rattle.table.specs.View.{view, onOr}
+use Rattle.table.specs.View.{view, onOr, calls, starts}
 use Rattle.table.specs.declared.Statement.{Statement}
 use Rattle.machine.specs.State.{State, Frame, thread}
 use Rattle.machine.specs.Step.{Answer, moved, refused, step, after}
 
 -- 18: "START finds 16 threads started", 19: "CALL finds 32 frames open", with so many threads started and frames open; 0 for neither
 abbrev pub limit : ℕ → ℕ → Statement → ℕ
-limit started frames σ = onOr (view σ .calls) (λ q. cond (leb 32 frames) 19 0) (onOr (view σ .starts) (λ q. cond (leb 16 started) 18 0) 0)
+limit started frames σ = onOr (calls (view σ)) (λ q. cond (leb 32 frames) 19 0) (onOr (starts (view σ)) (λ q. cond (leb 16 started) 18 0) 0)
 
 -- the limit that the newest frame's next statement meets
 abbrev pub limitOf : Table → ℕ → List Frame → ℕ

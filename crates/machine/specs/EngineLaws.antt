@@ -9,7 +9,7 @@ use lib.Dec.{eqb, leb}
 use lib.ListN.{length}
 use borrow.Author.Tests.{eqb-false, le-leb, lt-leb}
 use Rattle.table.specs.Table.{Table, statement}
-use Rattle.table.specs.View.{view}
+use Rattle.table.specs.View.{view, calls, starts}
 use Rattle.table.specs.ViewLaws.{on-or}
 use Rattle.table.specs.declared.Statement.{Statement}
 use Rattle.machine.specs.State.{State, Frame, thread}
@@ -37,8 +37,8 @@ Known k = (k ≡ 0) ⊎ (18 ≤ k)
 
 limit-known : (started frames : ℕ) (σ : Statement) → Known (limit started frames σ)
 limit-known started frames σ =
-    on-or Known (view σ .calls) _ _ (λ q. choice-known (leb 32 frames) 19 (omega arith))
-    (on-or Known (view σ .starts) _ _ (λ q. choice-known (leb 16 started) 18 (omega arith)) (inl refl))
+    on-or Known (calls (view σ)) _ _ (λ q. choice-known (leb 32 frames) 19 (omega arith))
+    (on-or Known (starts (view σ)) _ _ (λ q. choice-known (leb 16 started) 18 (omega arith)) (inl refl))
 
 limitOf-known : (t : Table) (started : ℕ) (fs : List Frame) → (limitOf t started fs ≡ 0) ⊎ (18 ≤ limitOf t started fs)
 limitOf-known t started [] = inl refl

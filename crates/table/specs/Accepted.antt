@@ -8,7 +8,7 @@ use Rattle.table.specs.Table.{Table, declaration, routine, statement, pa
 use Rattle.table.specs.declared.Arguments.{Arguments}
 use Rattle.table.specs.declared.Statement.{Statement}
 use Rattle.table.specs.declared.Reference.the-variants.{To}
-use Rattle.table.specs.View.{view, Each, names}
+use Rattle.table.specs.View.{view, Each}
 
 -- a handle of routine r and of a kind
 pub record OwnOfKind (t : Table) (r k h : ℕ) : Type 0 where
@@ -28,7 +28,7 @@ pub record Operands (t : Table) (r : ℕ) (σ : Statement) : Type 0 where
   pub takes : Each (view σ .takes) (OwnOfKind t r 2)
   pub gives : Each (view σ .gives) (OwnOfKind t r 2)
   pub points : Each (view σ .points) (λ h. OwnHandle t r h × OwnHandle t r (view σ .source) × (declaration t h .kind ≡ declaration t (view σ .source) .kind))
-  pub passes : Each (names (view σ)) (λ q. Passes t r q (view σ .arguments))
+  pub passes : Each (view σ .names) (λ q. Passes t r q (view σ .arguments))
   pub target : Each (view σ .target) (InRoutine t r)
 
 -- the statement after any but JUMP and RETURN is one of the same routine
@@ -37,7 +37,7 @@ GoesOn t r s σ = view σ .onward ≡ true → InRoutine t r (s + 1)
 
 -- the statement names routine q by CALL or START
 abbrev pub Names : Statement → ℕ → Type 0
-Names σ q = names (view σ) ≡ To q
+Names σ q = view σ .names ≡ To q
 
 -- the facts of one handle: its routine, kind and start in range, and its place among its routine's handles, parameters first
 pub record HandleFacts (t : Table) (h : ℕ) : Type 0 where

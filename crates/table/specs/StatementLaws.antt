@@ -22,8 +22,8 @@ use Rattle.table.specs.Naming.{namedBy}
 use Rattle.table.specs.ReachLaws.{In}
 use Rattle.table.specs.LookupLaws.{handles-length, routines-length, declaration-says, routine-says, in-routine}
 use Rattle.table.specs.Table.{tableOf, declaration, routine, passed, argumentsIn, statementOf, InRoutine, OwnHandle}
-use Rattle.table.specs.View.{noArguments, view, orElse, setOn, names}
-use Rattle.table.specs.ViewLaws.{nothing-to, or-else, to-if, set-has, set-from, isEarly, firstIf, viewIn, view-in}
+use Rattle.table.specs.View.{noArguments, view, setOn}
+use Rattle.table.specs.ViewLaws.{to-if, set-has, set-from, isEarly, firstIf, viewIn, view-in}
 use Rattle.table.specs.Accepted.{OwnOfKind, Passes, Operands, GoesOn, Names}
 use Rattle.table.specs.declared.Reference.{Reference}
 use Rattle.table.specs.declared.Reference.the-variants.{To}
@@ -88,10 +88,8 @@ either-of false b e = inr e
 naming : (f : List ℤ) (r s q : ℕ) → statementOk f r s ≡ true → Names (statementOf f s) q → (namingOk f r (statementLine f s) ≡ true) × (operand f s 0 ≡ q)
 unfolding operationOk
 naming f r s q ok n =
-    ⊎-elim
-    (λ e. let p = refers f s (λ v. v .calls) (eqb (operation f s) 8) refl e in (rule-of f r s ok 8 (p .0), p .1))
-    (λ e. let p = refers f s (λ v. v .starts) (eqb (operation f s) 9) refl e in (rule-of f r s ok 9 (p .0), p .1))
-    (or-else (view (statementOf f s) .calls) (view (statementOf f s) .starts) n)
+    let p = refers f s (λ v. v .names) (eqb (operation f s) 8 || eqb (operation f s) 9) refl n in
+    (⊎-elim (rule-of f r s ok 8) (rule-of f r s ok 9) (either-of (eqb (operation f s) 8) (eqb (operation f s) 9) (p .0)), p .1)
 
 -- the routine that a CALL or START names is there
 named-there : (f : List ℤ) (r s : ℕ) → namingOk f r (statementLine f s) ≡ true → operand f s 0 < routines f
@@ -103,25 +101,23 @@ pub names-there : (f : List ℤ) (r s q : ℕ) → statementOk f r s ≡ true �
 names-there f r s q ok n = let p = naming f r s q ok n in let l = named-there f r s (p .0) in omega arith
 
 -- the set of what a statement names, by its view
-named-set : (f : List ℤ) (s : ℕ) → namedBy f s ≡ setOn (names (view (statementOf f s))) one
+named-set : (f : List ℤ) (s : ℕ) → namedBy f s ≡ setOn (view (statementOf f s) .names) one
 unfolding namedBy
-named-set f s = rw (said f s) (go (eqb (operation f s) 8) (eqb (operation f s) 9))
+named-set f s = rw (said f s) (go (eqb (operation f s) 8 || eqb (operation f s) 9))
   where
-    go : (a b : Bool)
-        → cond (a || b) (one (operand f s 0)) 0 ≡ setOn (orElse (firstIf f (statementLine f s) a) (firstIf f (statementLine f s) b)) one
-    go true b = refl
-    go false true = refl
-    go false false = refl
+    go : (b : Bool) → cond b (one (operand f s 0)) 0 ≡ setOn (firstIf f (statementLine f s) b) one
+    go true = refl
+    go false = refl
 
 -- a statement names a routine just if its set has it
 pub names-has : (f : List ℤ) (r s q : ℕ) → routines f ≤ 32 → statementOk f r s ≡ true → Names (statementOf f s) q → In (namedBy f s) q
 names-has f r s q few ok n =
     let l = names-there f r s q ok n in
-    rw (named-set f s) (set-has (names (view (statementOf f s))) one q n (has-one q q (omega arith) ∙ eq-eqb q q refl))
+    rw (named-set f s) (set-has (view (statementOf f s) .names) one q n (has-one q q (omega arith) ∙ eq-eqb q q refl))
 
 pub has-names : (f : List ℤ) (r s q : ℕ) → routines f ≤ 32 → statementOk f r s ≡ true → In (namedBy f s) q → Names (statementOf f s) q
 has-names f r s q few ok h =
-    let o = set-from (names (view (statementOf f s))) one q (ap (λ (x : ℕ). has x q) (sym (named-set f s)) ∙ h) in
+    let o = set-from (view (statementOf f s) .names) one q (ap (λ (x : ℕ). has x q) (sym (named-set f s)) ∙ h) in
     let l = names-there f r s (o .0) ok (o .1) in
     subst (Names (statementOf f s)) (sym (eqb-true q (o .0) (sym (has-one (o .0) q (omega arith)) ∙ o .2))) (o .1)
 
@@ -274,13 +270,7 @@ module _ (f : List ℤ)
       passing : (q : ℕ) → Names (statementOf f s) q → Passes (tableOf f) r q (view (statementOf f s) .arguments)
       passing q n =
           let p = naming f r s q ok n in
-          let arguments : view (statementOf f s) .arguments ≡ argumentsIn f line = ap (λ v. v .arguments) (said f s) ∙ passed-on in
+          let is : (eqb op 8 || eqb op 9) ≡ true = refers f s (λ v. v .names) (eqb op 8 || eqb op 9) refl n .0 in
+          let arguments : view (statementOf f s) .arguments ≡ argumentsIn f line =
+          ap (λ v. v .arguments) (said f s) ∙ ap (λ (c : Bool). cond c (argumentsIn f line) noArguments) is in
           rw (← p .1, arguments) (passes r s (p .0) (λ z. not-first (subst (Names (statementOf f s)) (sym (p .1) ∙ z) n)))
-        where
-          passed-on : cond (eqb op 8 || eqb op 9) (argumentsIn f line) noArguments ≡ argumentsIn f line
-          passed-on = go (eqb op 8) (eqb op 9) (subst (λ v. names v ≡ To q) (said f s) n)
-            where
-              go : (a c : Bool) → orElse (firstIf f line a) (firstIf f line c) ≡ To q → cond (a || c) (argumentsIn f line) noArguments ≡ argumentsIn f line
-              go true c e = refl
-              go false true e = refl
-              go false false e = absurd (nothing-to e)

@@ -30,8 +30,8 @@ through reads writes takes writing gives =
       gives = gives;
       points = Nothing;
       source = 0;
-      calls = Nothing;
-      starts = Nothing;
+      names = Nothing;
+      starting = false;
       arguments = noArguments;
     }
 
@@ -49,14 +49,14 @@ pointing points source =
       gives = Nothing;
       points = points;
       source = source;
-      calls = Nothing;
-      starts = Nothing;
+      names = Nothing;
+      starting = false;
       arguments = noArguments;
     }
 
--- it goes on, and calls or starts a routine
-abbrev pub naming : Reference → Reference → Arguments → View
-naming calls starts arguments =
+-- it goes on, and names a routine: by START, or by CALL
+abbrev pub naming : Reference → Bool → Arguments → View
+naming names starting arguments =
     record {
       onward = true;
       ends = false;
@@ -68,8 +68,8 @@ naming calls starts arguments =
       gives = Nothing;
       points = Nothing;
       source = 0;
-      calls = calls;
-      starts = starts;
+      names = names;
+      starting = starting;
       arguments = arguments;
     }
 
@@ -87,8 +87,8 @@ going onward ends target =
       gives = Nothing;
       points = Nothing;
       source = 0;
-      calls = Nothing;
-      starts = Nothing;
+      names = Nothing;
+      starting = false;
       arguments = noArguments;
     }
 
@@ -105,18 +105,13 @@ view (Add n) = idle
 view (Take h) = through Nothing Nothing (To (h .number)) true Nothing
 view (Give h) = through Nothing Nothing Nothing false (To (h .number))
 view (Point h g) = pointing (To (h .number)) (g .number)
-view (Call q a) = naming (To q) Nothing a
-view (Start q a) = naming Nothing (To q) a
+view (Call q a) = naming (To q) false a
+view (Start q a) = naming (To q) true a
 view (Jump s) = going false false (To (s .statement))
 view (JumpZero s) = going true false (To (s .statement))
 view Return = going false true Nothing
 
 -- ---- references
-
--- the first of two references that is one
-abbrev pub orElse : Reference → Reference → Reference
-orElse (To n) r = To n
-orElse Nothing r = r
 
 -- it refers to something, of which P holds
 abbrev pub On : Reference → (ℕ → Type 0) → Type 0
@@ -147,9 +142,12 @@ when b l = cond b l []
 
 -- ---- what two attributes say together
 
--- the routine that it names, by CALL or START
-abbrev pub names : View → Reference
-names v = orElse (v .calls) (v .starts)
+-- the routine that it CALLs, and the routine that it STARTs
+abbrev pub calls : View → Reference
+calls v = cond (v .starting) Nothing (v .names)
+
+abbrev pub starts : View → Reference
+starts v = cond (v .starting) (v .names) Nothing
 
 -- the handle whose cell it reads (false) or writes (true)
 abbrev pub accesses : Bool → View → Reference

@@ -12,7 +12,7 @@ use Rattle.sets.specs.Set.{has}
 use Rattle.sets.specs.SetLaws.{has-empty}
 use Rattle.table.specs.Fields.{field}
 use Rattle.table.specs.Table.{argumentsIn, statementIn}
-use Rattle.table.specs.View.{noArguments, view, orElse, On, onOr, setOn, listOn, testOn, when}
+use Rattle.table.specs.View.{noArguments, view, On, onOr, setOn, listOn, testOn, when, calls, starts}
 use Rattle.table.specs.declared.Reference.{Reference}
 use Rattle.table.specs.declared.Reference.the-variants.{To, Nothing}
 use Rattle.table.specs.declared.View.{View}
@@ -32,18 +32,33 @@ to-same e = cc
 pub one-reference : (r : Reference) {m n : ℕ} → r ≡ To m → r ≡ To n → m ≡ n
 one-reference r p q = to-same (sym p ∙ q)
 
--- the first of two references that is one
-pub or-else : (a b : Reference) {n : ℕ} → orElse a b ≡ To n → (a ≡ To n) ⊎ (b ≡ To n)
-or-else (To m) b e = inl e
-or-else Nothing b e = inr e
-
-pub or-else-first : {a : Reference} (b : Reference) {n : ℕ} → a ≡ To n → orElse a b ≡ To n
-or-else-first b e = rw e
-
 -- a reference by a test
 pub to-if : (b : Bool) (x : ℕ) {n : ℕ} → cond b (To x) Nothing ≡ To n → (b ≡ true) × (x ≡ n)
 to-if true x e = (refl, to-same e)
 to-if false x e = nothing-to e
+
+-- what is CALLed or STARTed is named, and what is named is one of these
+module _ (v : View) {q : ℕ} where
+  pub calls-names : calls v ≡ To q → v .names ≡ To q
+  calls-names = go (v .starting)
+    where
+      go : (b : Bool) → cond b Nothing (v .names) ≡ To q → v .names ≡ To q
+      go true e = nothing-to e
+      go false e = e
+
+  pub starts-names : starts v ≡ To q → v .names ≡ To q
+  starts-names = go (v .starting)
+    where
+      go : (b : Bool) → cond b (v .names) Nothing ≡ To q → v .names ≡ To q
+      go true e = e
+      go false e = nothing-to e
+
+  pub names-cases : v .names ≡ To q → (calls v ≡ To q) ⊎ (starts v ≡ To q)
+  names-cases = go (v .starting)
+    where
+      go : (b : Bool) → v .names ≡ To q → (cond b Nothing (v .names) ≡ To q) ⊎ (cond b (v .names) Nothing ≡ To q)
+      go true e = inr e
+      go false e = inl e
 
 -- what holds of all that f says, and of d, holds of what is said of a reference
 pub on-or : {A : Type 0} (P : A → Type 0) (r : Reference) (f : ℕ → A) (d : A) → ((n : ℕ) → P (f n)) → P d → P (onOr r f d)
@@ -111,8 +126,8 @@ viewIn f line op =
       gives = firstIf f line (eqb op 6);
       points = firstIf f line (eqb op 7);
       source = cond (eqb op 7) (field f line 3) 0;
-      calls = firstIf f line (eqb op 8);
-      starts = firstIf f line (eqb op 9);
+      names = firstIf f line (eqb op 8 || eqb op 9);
+      starting = eqb op 9;
       arguments = cond (eqb op 8 || eqb op 9) (argumentsIn f line) noArguments;
     }
 

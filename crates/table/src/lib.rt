@@ -93,9 +93,9 @@ pub struct View {
     // The handle that it makes refer elsewhere, and the handle whose reference that becomes; 0 where it points none.
     pub points: Reference,
     pub source: usize,
-    // The routine that it CALLs, the routine that it STARTs, and what it passes; zeros where it names no routine.
-    pub calls: Reference,
-    pub starts: Reference,
+    // The routine that it names, whether by START (false where by CALL or none), and what it passes; zeros where it names none.
+    pub names: Reference,
+    pub starting: bool,
     pub arguments: Arguments,
 }
 
@@ -277,8 +277,8 @@ fn through(
         gives,
         points: Reference::Nothing,
         source: 0,
-        calls: Reference::Nothing,
-        starts: Reference::Nothing,
+        names: Reference::Nothing,
+        starting: false,
         arguments: no_arguments(),
     }
 }
@@ -298,15 +298,15 @@ fn pointing(points: Reference, source: usize) -> View
         gives: Reference::Nothing,
         points,
         source,
-        calls: Reference::Nothing,
-        starts: Reference::Nothing,
+        names: Reference::Nothing,
+        starting: false,
         arguments: no_arguments(),
     }
 }
 
-// The view of a statement that goes on, and calls or starts a routine.
-fn naming(calls: Reference, starts: Reference, arguments: Arguments) -> View
-    ensures { λ r. ⌜ r ≡ naming calls starts arguments ⌝ }
+// The view of a statement that goes on, and names a routine: by START, or by CALL.
+fn naming(names: Reference, starting: bool, arguments: Arguments) -> View
+    ensures { λ r. ⌜ r ≡ naming names starting arguments ⌝ }
 {
     View {
         onward: true,
@@ -319,8 +319,8 @@ fn naming(calls: Reference, starts: Reference, arguments: Arguments) -> View
         gives: Reference::Nothing,
         points: Reference::Nothing,
         source: 0,
-        calls,
-        starts,
+        names,
+        starting,
         arguments,
     }
 }
@@ -340,8 +340,8 @@ fn going(onward: bool, ends: bool, target: Reference) -> View
         gives: Reference::Nothing,
         points: Reference::Nothing,
         source: 0,
-        calls: Reference::Nothing,
-        starts: Reference::Nothing,
+        names: Reference::Nothing,
+        starting: false,
         arguments: no_arguments(),
     }
 }
@@ -359,8 +359,8 @@ pub fn view_of(statement: Statement) -> View
         Statement::Take(h) => through(none, none, Reference::To(h.number), true, none),
         Statement::Give(h) => through(none, none, none, false, Reference::To(h.number)),
         Statement::Point { handle, from } => pointing(Reference::To(handle.number), from.number),
-        Statement::Call { routine, arguments } => naming(Reference::To(routine), none, arguments),
-        Statement::Start { routine, arguments } => naming(none, Reference::To(routine), arguments),
+        Statement::Call { routine, arguments } => naming(Reference::To(routine), false, arguments),
+        Statement::Start { routine, arguments } => naming(Reference::To(routine), true, arguments),
         Statement::Jump(s) => going(false, false, Reference::To(s.statement)),
         Statement::JumpZero(s) => going(true, false, Reference::To(s.statement)),
         Statement::Return => going(false, true, none),
