@@ -14,6 +14,7 @@ use Rattle.sets.specs.Least.{SetList, Edge, plain}
 use Rattle.sets.specs.LeastLaws.{least-holds-start, least-edge, least-induction}
 use Rattle.table.specs.Table.{Table, routine, statement, OwnHandle}
 use Rattle.table.specs.Tabulate.{tabulate}
+use Rattle.table.specs.TabulateLaws.{length-tabulate, is-tabulate}
 use Rattle.table.specs.View.{view, On, onOr, setOn, listOn, when, calls, starts}
 use Rattle.table.specs.ViewLaws.{nothing-to, set-from, set-has, list-has, list-from, when-has, when-from, calls-names, starts-names}
 use Rattle.table.specs.Accepted.{Accepted, Names}
@@ -21,7 +22,7 @@ use Rattle.table.specs.declared.Reference.{Reference}
 use Rattle.table.specs.declared.Reference.the-variants.{To, Nothing}
 use Rattle.table.specs.declared.Statement.{Statement}
 use Rattle.report.specs.OverLaws.{never, none-in, not-has, tabulate-sets, tabulate-has, tabulate-from}
-use Rattle.report.specs.Greatest.{leaving}
+use Rattle.report.specs.Greatest.{leaving, greatest}
 use Rattle.report.specs.GreatestLaws.{minus-has, minus-from}
 use Rattle.report.specs.Layout.{Layout}
 use Rattle.report.specs.Fits.{Fits, StatementPlaced, copiesOf}
@@ -255,3 +256,222 @@ module _ (t : Table) (k : Layout) (acc : Accepted t) (fits : Fits t k) (flow : L
         a .1 (subst (λ (y : ℕ). Out y x) (sym (enters c s v q (starts-names (view (statement t s)) e))) (started-out c s v q e x (a .0)));
     by-main = λ x a. a .1 (subst (λ (r : ℕ). Out (k .statementPlace (k .first) (routine t r .first)) x) (fits .first-of) (main-out x (a .0)));
   }
+
+  -- ---- every edge puts only what is not held
+
+  abbrev Held : ℕ → ℕ → ℕ → Type 0
+  Held = HeldHas k (heldSets t k flow given)
+
+  rules : HeldRules copies (FlowHas k flow) (GivesHas given) Held
+  rules = held-rules t k acc fits flow below given
+
+  -- what x may stand for at place p
+  record Off (p x : ℕ) : Type 0 where
+    before : p < k .statements → has (getD (heldSets t k flow given) p 0) x ≡ true → ⊥
+    back : (c : ℕ) → c < k .copies → p ≡ backPlace k c → AtReturns copies (FlowHas k flow) (GivesHas given) Held c x → ⊥
+    gives : (c : ℕ) → c < k .copies → p ≡ givenPlace k c → has (getD given c 0) x ≡ true
+    flows : (h : ℕ) → h < k .handles → p ≡ flowPlace k h → has (getD flow h 0) x ≡ true
+    other : (h : ℕ) → h < k .handles → p ≡ otherPlace k h → has (onlyLock (getD flow h 0)) x ≡ true → ⊥
+
+  off-before : (p x : ℕ) → p < k .statements → (has (getD (heldSets t k flow given) p 0) x ≡ true → ⊥) → Off p x
+  off-before p x l f = record {
+    before = λ b h. f h;
+    back = λ c b e. absurd (omega arith);
+    gives = λ c b e. absurd (omega arith);
+    flows = λ h b e. absurd (omega arith);
+    other = λ h b e. absurd (omega arith);
+  }
+
+  off-back : (c x : ℕ) → c < k .copies → (AtReturns copies (FlowHas k flow) (GivesHas given) Held c x → ⊥) → Off (backPlace k c) x
+  off-back c x l f = record {
+    before = λ b h. absurd (omega arith);
+    back = λ d b e a.
+        let i : d ≡ c = omega arith in
+        f (subst (λ (y : ℕ). AtReturns copies (FlowHas k flow) (GivesHas given) Held y x) i a);
+    gives = λ d b e. absurd (omega arith);
+    flows = λ h b e. absurd (omega arith);
+    other = λ h b e. absurd (omega arith);
+  }
+
+  start-off : (p x : ℕ) → has (startAt t k flow given p) x ≡ true → Off p x
+  start-off p x h = record {
+    before = λ b g. early (omega arith);
+    back = λ c b e a. early (omega arith);
+    gives = λ c b e. ap (λ (y : ℕ). has y x) (sym (start-given t k flow given c b)) ∙ at (givenPlace k c) e;
+    flows = λ i b e. ap (λ (y : ℕ). has y x) (sym (start-flow t k flow given i b)) ∙ at (flowPlace k i) e;
+    other = λ i b e. minus-from (allLocks t) _ x (ap (λ (y : ℕ). has y x) (sym (start-other t k flow given i b)) ∙ at (otherPlace k i) e) .1;
+  }
+    where
+      at : (q : ℕ) → p ≡ q → has (startAt t k flow given q) x ≡ true
+      at q e = ap (λ (y : ℕ). has (startAt t k flow given y) x) (sym e) ∙ h
+
+      early : p < givenPlace k 0 → ⊥
+      early l = none-in x (ap (λ (y : ℕ). has y x) (sym (start-early t k flow given p l)) ∙ h)
+
+  -- the first statement of the copy that a statement names
+  entered : (c s q x : ℕ) (v : Place copies c s) → Names (statement t s) q → (Held (k .leads c s) (routine t q .first) x → ⊥) → Off (entry t k (k .leads c s)) x
+  entered c s q x v n f =
+      off-before (entry t k (k .leads c s)) x (entry-there (k .leads c s) (leads-there c s v q n))
+      (λ h. f (subst (λ (y : ℕ). has (getD (heldSets t k flow given) y 0) x ≡ true) (sym (enters c s v q n)) h))
+
+  module _ (c s x : ℕ) (v : Place copies c s) where
+    abbrev σ′ : Statement
+    σ′ = statement t s
+
+    abbrev p′ : ℕ
+    p′ = k .statementPlace c s
+
+    -- what comes next holds nothing that is not held behind the statement
+    off-next : (n : ℕ) → Goes s σ′ n → (After copies (FlowHas k flow) (GivesHas given) Held c s x σ′ → ⊥) → Off (k .statementPlace c n) x
+    off-next n g f = off-before (k .statementPlace c n) x (place-there c n (goes-placed t k acc fits c s n v g)) (λ h. f (rules .way c s n x v g h))
+
+    not-held : Off p′ x → Held c s x → ⊥
+    not-held o h = o .before (place-there c s v) h
+
+    off-call : (q : ℕ) → calls (view σ′) ≡ To q → (e : Edge)
+        → List·Memᴰ e (plain p′ (entry t k (k .leads c s)) ∷ map (λ (n : ℕ). record { from = backPlace k (k .leads c s); also = givenPlace k (k .leads c s); to = k .statementPlace c n }) (nexts s σ′))
+        → Off (e .from) x → Off (e .also) x → Off (e .to) x
+    off-call q i e (List·Memᴰ·head j) o b =
+        subst (λ (y : Edge). Off (y .to) x) (sym j)
+        (entered c s q x v (calls-names (view σ′) i) (λ h. not-held (subst (λ (y : Edge). Off (y .from) x) j o) (rules .by-call c s x q v i h)))
+    off-call q i e (List·Memᴰ·tail m) o b =
+        let r = map-from (λ (n : ℕ). record { from = backPlace k (k .leads c s); also = givenPlace k (k .leads c s); to = k .statementPlace c n }) (nexts s σ′) e m in
+        let l : k .leads c s < k .copies = leads-there c s v q (calls-names (view σ′) i) in
+        let ob : Off (backPlace k (k .leads c s)) x = subst (λ (y : Edge). Off (y .from) x) (r .2) o in
+        let og : Off (givenPlace k (k .leads c s)) x = subst (λ (y : Edge). Off (y .also) x) (r .2) b in
+        subst (λ (y : Edge). Off (y .to) x) (sym (r .2)) (off-next (r .0) (next-goes s σ′ (r .0) (r .1)) (go l ob og))
+      where
+        go : k .leads c s < k .copies → Off (backPlace k (k .leads c s)) x → Off (givenPlace k (k .leads c s)) x
+            → After copies (FlowHas k flow) (GivesHas given) Held c s x σ′ → ⊥
+        go l ob og (inl (inl (h, j, a))) = alone σ′ .takes-calls h q j i
+        go l ob og (inl (inr (u, j, a))) = ob .back (k .leads c s) l refl a
+        go l ob og (inr (a, f)) = f (inr (q, i, og .gives (k .leads c s) l refl))
+
+    -- the set that is met, by what the statement does
+    met-take : (h : ℕ) → view σ′ .takes ≡ To h → metPlace k p′ c s σ′ ≡ otherPlace k (k .handlePlace c h)
+    unfolding metPlace
+    met-take h e = rw e
+
+    met-call : (q : ℕ) → calls (view σ′) ≡ To q → metPlace k p′ c s σ′ ≡ backPlace k (k .leads c s)
+    unfolding metPlace
+    met-call q e = go (view σ′ .takes) refl
+      where
+        go : (r : Reference) → view σ′ .takes ≡ r
+            → onOr r (λ h. otherPlace k (k .handlePlace c h)) (onOr (calls (view σ′)) (λ q. backPlace k (k .leads c s)) p′) ≡ backPlace k (k .leads c s)
+        go (To h) i = absurd (alone σ′ .takes-calls h q i e)
+        go Nothing i = rw e
+
+    off-kept : (e : Edge) → List·Memᴰ e (map (λ (n : ℕ). record { from = p′; also = metPlace k p′ c s σ′; to = k .statementPlace c n }) (nexts s σ′))
+        → Off (e .from) x → Off (e .also) x → Off (e .to) x
+    off-kept e m o b =
+        let r = map-from (λ (n : ℕ). record { from = p′; also = metPlace k p′ c s σ′; to = k .statementPlace c n }) (nexts s σ′) e m in
+        let op : Off p′ x = subst (λ (y : Edge). Off (y .from) x) (r .2) o in
+        let om : Off (metPlace k p′ c s σ′) x = subst (λ (y : Edge). Off (y .also) x) (r .2) b in
+        subst (λ (y : Edge). Off (y .to) x) (sym (r .2)) (off-next (r .0) (next-goes s σ′ (r .0) (r .1)) (go op om))
+      where
+        go : Off p′ x → Off (metPlace k p′ c s σ′) x → After copies (FlowHas k flow) (GivesHas given) Held c s x σ′ → ⊥
+        go op om (inl (inl (h, j, a))) =
+            let l : k .handlePlace c h < k .handles =
+            handle-there c h (v .there) (acc .operands (k .routineOf c) s (fits .of-there c (v .there)) (v .inside) .takes h j .own) in
+            om .other (k .handlePlace c h) l (met-take h j) (only-has _ (below (k .handlePlace c h)) x a)
+        go op om (inl (inr (q, j, a))) = om .back (k .leads c s) (leads-there c s v q (calls-names (view σ′) j)) (met-call q j) a
+        go op om (inr (a, f)) = not-held op a
+
+    off-give : (h : ℕ) → view σ′ .gives ≡ To h → (e : Edge)
+        → List·Memᴰ e (map (λ (n : ℕ). plain (flowPlace k (k .handlePlace c h)) (k .statementPlace c n)) (nexts s σ′)) → Off (e .from) x → Off (e .to) x
+    off-give h i e m o =
+        let r = map-from (λ (n : ℕ). plain (flowPlace k (k .handlePlace c h)) (k .statementPlace c n)) (nexts s σ′) e m in
+        let l : k .handlePlace c h < k .handles =
+        handle-there c h (v .there) (acc .operands (k .routineOf c) s (fits .of-there c (v .there)) (v .inside) .gives h i .own) in
+        let f : FlowHas k flow c h x = subst (λ (y : Edge). Off (y .from) x) (r .2) o .flows (k .handlePlace c h) l refl in
+        subst (λ (y : Edge). Off (y .to) x) (sym (r .2)) (off-next (r .0) (next-goes s σ′ (r .0) (r .1)) (go f))
+      where
+        go : FlowHas k flow c h x → After copies (FlowHas k flow) (GivesHas given) Held c s x σ′ → ⊥
+        go f (inl (inl (g, j, a))) = alone σ′ .gives-takes h g i j
+        go f (inl (inr (q, j, a))) = alone σ′ .gives-calls h q i j
+        go f (inr (a, d)) = d (inl (h, i, f))
+
+    off-start : (q : ℕ) → starts (view σ′) ≡ To q → (e : Edge) → List·Memᴰ e (plain (everyPlace k) (entry t k (k .leads c s)) ∷ []) → Off (e .to) x
+    off-start q i e m =
+        subst (λ (y : Edge). Off (y .to) x) (sym (List·Memᴰ·eq-of-singleton m))
+        (entered c s q x v (starts-names (view σ′) i) (λ h. rules .by-start c s x q v i h))
+
+    off-end : view σ′ .ends ≡ true → (e : Edge) → List·Memᴰ e (plain p′ (backPlace k c) ∷ []) → Off (e .from) x → Off (e .to) x
+    off-end i e m o =
+        let j = List·Memᴰ·eq-of-singleton m in
+        subst (λ (y : Edge). Off (y .to) x) (sym j) (off-back c x (v .there) (λ a. not-held (subst (λ (y : Edge). Off (y .from) x) j o) (a s v i)))
+
+    off-edge : (e : Edge) → List·Memᴰ e (edgesAt t k p′ c s σ′) → Off (e .from) x → Off (e .also) x → Off (e .to) x
+    unfolding edgesAt
+    off-edge e m o b =
+        ⊎-elim (λ y. let i = list-from (calls (view σ′)) _ e y in off-call (i .0) (i .1) e (i .2) o b)
+        (λ y. ⊎-elim (λ z. off-kept e z o b) (λ z. last (List·Memᴰ·append-cases (giveEdges c s v) z)) (List·Memᴰ·append-cases (keptEdges c s v) y))
+        (List·Memᴰ·append-cases (callEdges c s v) m)
+      where
+        last : List·Memᴰ e (giveEdges c s v) ⊎ List·Memᴰ e (startEdges c s v ++ endEdges c s v) → Off (e .to) x
+        last (inl y) = let i = list-from (view σ′ .gives) _ e y in off-give (i .0) (i .1) e (i .2) o
+        last (inr y) =
+            ⊎-elim (λ z. let i = list-from (starts (view σ′)) _ e z in off-start (i .0) (i .1) e (i .2))
+            (λ z. let i = when-from (view σ′ .ends) _ e z in off-end (i .0) e (i .1) o)
+            (List·Memᴰ·append-cases (startEdges c s v) y)
+
+  off-first : (x : ℕ) → Off (entry t k (k .first)) x
+  unfolding entry
+  off-first x =
+      off-before (entry t k (k .first)) x (entry-there (k .first) (fits .first-there))
+      (λ h. rules .by-main x (subst (λ (r : ℕ). Held (k .first) (routine t r .first) x) (fits .first-of) h))
+
+  off-every : (e : Edge) → List·Memᴰ e (heldEdges t k) → (x : ℕ) → Off (e .from) x → Off (e .also) x → Off (e .to) x
+  unfolding heldEdges
+  off-every e (List·Memᴰ·head j) x o b = subst (λ (y : Edge). Off (y .to) x) (sym j) (off-first x)
+  off-every e (List·Memᴰ·tail m) x o b =
+      let r = of-some t k fits (edgesAt t k) e m in
+      let i : k .statementPlace (k .statementCopy (r .0)) (k .statementAt (r .0)) ≡ r .0 = fits .statement-there (r .0) (r .1) .back in
+      off-edge (k .statementCopy (r .0)) (k .statementAt (r .0)) x (place-at t k fits (r .0) (r .1)) e
+      (subst (λ (q : ℕ). List·Memᴰ e (edgesAt t k q (k .statementCopy (r .0)) (k .statementAt (r .0)) (statement t (k .statementAt (r .0))))) (sym i) (r .2)) o b
+
+  out-off : (p x : ℕ) → Out p x → Off p x
+  unfolding heldOut
+  out-off =
+      least-induction (placeCount k) (heldEdges t k) start start-sets Off (λ e m l x o b. off-every e m x o b)
+      (λ p x h. start-off p x (tabulate-from (placeCount k) (startAt t k flow given) p x h .1))
+
+  -- ---- so what is left is held
+
+  module _ (p : ℕ) (l : p < k .statements) where
+    abbrev c : ℕ
+    c = k .statementCopy p
+
+    abbrev s : ℕ
+    s = k .statementAt p
+
+    at-place : Place copies c s
+    at-place = place-at t k fits p l
+
+    back-at : k .statementPlace c s ≡ p
+    back-at = fits .statement-there p l .back
+
+    held-left : (x : ℕ) → has (getD (heldSets t k flow given) p 0) x ≡ true → has (leaving (allLocks t) (heldOut t k flow given) p) x ≡ true
+    unfolding leaving
+    held-left x h =
+        let b : x < t .locks = rules .locks c s x at-place (subst (λ (q : ℕ). has (getD (heldSets t k flow given) q 0) x ≡ true) (sym back-at) h) in
+        minus-has (allLocks t) (getD (heldOut t k flow given) p 0) x (is-lock x b) (λ o. out-off p x o .before l h)
+
+    left-held : (x : ℕ) → has (leaving (allLocks t) (heldOut t k flow given) p) x ≡ true → has (getD (heldSets t k flow given) p 0) x ≡ true
+    unfolding leaving
+    left-held x h =
+        let m : (has (allLocks t) x ≡ true) × (Out p x → ⊥) = minus-from (allLocks t) (getD (heldOut t k flow given) p 0) x h in
+        let b : x < t .locks = ltb-true x (t .locks) (sym (has-firsts (t .locks) x locks-64) ∙ m .0) in
+        subst (λ (q : ℕ). has (getD (heldSets t k flow given) q 0) x ≡ true) back-at
+        (held-greatest t k acc fits flow below given Left left-rules c s x at-place (b, λ o. m .1 (subst (λ (q : ℕ). Out q x) back-at o)))
+
+    same-at : getD (heldSets t k flow given) p 0 ≡ leaving (allLocks t) (heldOut t k flow given) p
+    same-at = inside-both _ _ held-left left-held
+
+  held-long : length (heldSets t k flow given) ≡ k .statements
+  unfolding heldSets greatest
+  held-long = length-tabulate (k .statements) _
+
+  -- the held sets are all locks but what goes along the edges
+  pub held-is-left : heldSets t k flow given ≡ tabulate (k .statements) (leaving (allLocks t) (heldOut t k flow given))
+  held-is-left = is-tabulate (k .statements) (leaving (allLocks t) (heldOut t k flow given)) (heldSets t k flow given) 0 held-long same-at
