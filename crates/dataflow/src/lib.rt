@@ -24,7 +24,7 @@ fn settle(out: &mut [u64], edges: &[u32], n: usize, order: Order)
     requires { ⌜ n ≤ length (now edges) ⌝ }
     ensures { λ _. ⌜ now (out .exit) ≡ least (map edgeOf (take n (now (edges .entry)))) (now (out .entry)) ⌝ }
 {
-    solver::solve(out, &edges[..n], order);
+    solver::solve_plain(out, &edges[..n], order);
 }
 
 // Leaves in `flow` the flow set of each handle.

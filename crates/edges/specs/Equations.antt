@@ -5,7 +5,7 @@ use mathlib.Core.Bool.{Bool, true, false, cond}
 use mathlib.Core.List.{List, [], _∷_, _++_, map}
 use lib.Dec.{ltb}
 use lib.ListN.{length, getD}
-use Rattle.sets.specs.Least.{Edge}
+use Rattle.sets.specs.Least.{Edge, plain}
 use Rattle.table.specs.Table.{Table, routine, statement}
 use Rattle.table.specs.declared.Statement.{Statement}
 use Rattle.report.specs.Over.{joinedFrom, unionFrom, unionAt}
@@ -21,7 +21,7 @@ pub data Equation : Type 0 where
   Futures : Equation
 
 abbrev pub edge : ℕ → ℕ → Edge
-edge f t = record { from = f; to = t }
+edge f t = plain f t
 
 -- ---- edges
 

@@ -20,10 +20,13 @@ unfolding edgeOf
 edge-packed f t h = let p : (f * 65536 + t) / 65536 ≡ f = omega arith in let q : (f * 65536 + t) % 65536 ≡ t = omega arith in rw (p, q)
 
 -- where the second list is empty, all edges are plain
-pub edges-plain : (ends : List ℕ) → edgesOf ends [] ≡ map edgeOf ends
+edges-plain : (ends : List ℕ) → edgesOf ends [] ≡ map edgeOf ends
 unfolding edgesOf
 edges-plain [] = refl
 edges-plain (n ∷ ends) = ap {B = List Edge} (λ (es : List Edge). edgeOf n ∷ es) (edges-plain ends)
+
+pub least-plain : (ends s : List ℕ) → least (edgesOf ends []) s ≡ least (map edgeOf ends) s
+least-plain ends s = ap (λ (es : List Edge). least es s) (edges-plain ends)
 
 -- edge k of two lists of numbers
 unfoldable pub edgeAt : List ℕ → List ℕ → ℕ → Edge

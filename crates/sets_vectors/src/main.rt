@@ -111,7 +111,7 @@ fn found() {
 
 // Solves the sets, and prints the label and what they have become.
 fn solved(label: &[u8], s: &mut [u64], edges: &[u32], order: Order) {
-    solver::solve(s, edges, order);
+    solver::solve_plain(s, edges, order);
     list(label, s);
 }
 

@@ -12,50 +12,67 @@ fn mark(worklist: &mut [u64; 16], p: usize) {
     worklist[i] = sets::with_element(worklist[i], p % 64);
 }
 
-// Links the edges by the place that they come from, and puts these places on the worklist: links[p] is one more than the first edge from place p,
-// and links[1024 + k] one more than the next after edge k from the same place; 0 where there is none.
-fn link_edges(edges: &[u32], links: &mut [u16; 3072], worklist: &mut [u64; 16])
-    requires { ⌜ length (now edges) ≤ 2048 ⌝ }
+// Links the edges by the place that they come from, and puts these places on the worklist: links[2175 - p] is one more than the first edge from
+// place p, and links[k] one more than the next after edge k from the same place; 0 where there is none.
+fn link_edges(edges: &[u32], links: &mut [u16; 2176], worklist: &mut [u64; 16])
+    requires { ⌜ length (now edges) ≤ 2176 ⌝ }
 {
     let mut k = edges.len();
     while 0 < k {
         k -= 1;
         let p = passes::from_of(edges[k]) % 1024;
-        links[1024 + k] = links[p];
-        links[p] = (k + 1) as u16;
+        links[k] = links[2175 - p];
+        links[2175 - p] = (k + 1) as u16;
         mark(worklist, p);
     }
 }
 
 // Goes along edge k, and puts the place that it leads to on the worklist, if that changed.
-fn follow_edge(sets: &mut [u64], edges: &[u32], worklist: &mut [u64; 16], k: usize)
-    ensures { λ _. ⌜ Solving (now (edges .entry)) (now (sets .entry)) (now (sets .exit)) true ⌝ }
+fn follow_edge(sets: &mut [u64], edges: &[u32], also: &[u16], worklist: &mut [u64; 16], k: usize)
+    ensures { λ _. ⌜ Solving (now (edges .entry)) (now (also .entry)) (now (sets .entry)) (now (sets .exit)) true ⌝ }
 {
     if k < edges.len() {
-        let f = passes::from_of(edges[k]);
-        let t = passes::to_of(edges[k]);
-        if passes::put_along(sets, f, t, false) {
-            mark(worklist, t);
+        if passes::put_edge(sets, edges, also, k, false) {
+            mark(worklist, passes::to_of(edges[k]));
         }
     }
+}
+
+// Goes along edge k, and where edges meet a second place along the next one too, which may meet the place that this one comes from.
+fn follow_pair(sets: &mut [u64], edges: &[u32], also: &[u16], worklist: &mut [u64; 16], k: usize)
+    requires { ⌜ k < 65536 ⌝ }
+    ensures { λ _. ⌜ Solving (now (edges .entry)) (now (also .entry)) (now (sets .entry)) (now (sets .exit)) true ⌝ }
+{
+    follow_edge(sets, edges, also, worklist, k);
+    if k < also.len() {
+        follow_edge(sets, edges, also, worklist, k + 1);
+    }
+}
+
+// The link behind edge k.
+fn link_behind(links: &[u16; 2176], k: usize) -> usize
+    ensures { λ r. ⌜ r < 65536 ⌝ }
+{
+    if k < 2176 { lists::wide(links[k]) } else { 0 }
 }
 
 // Goes along the linked edges from `first` on, one more than an edge each.
 fn follow_edges(
     sets: &mut [u64],
     edges: &[u32],
-    links: &[u16; 3072],
+    also: &[u16],
+    links: &[u16; 2176],
     worklist: &mut [u64; 16],
     first: u16,
 )
-    ensures { λ _. ⌜ Solving (now (edges .entry)) (now (sets .entry)) (now (sets .exit)) true ⌝ }
+    ensures { λ _. ⌜ Solving (now (edges .entry)) (now (also .entry)) (now (sets .entry)) (now (sets .exit)) true ⌝ }
 {
     let mut last = 0;
     let mut at = lists::wide(first);
     while last < at {
-        follow_edge(sets, edges, worklist, at - 1);
+        follow_pair(sets, edges, also, worklist, at - 1);
         last = at;
-        at = lists::wide(links[1024 + (at - 1) % 2048]);
+        at = link_behind(links, at - 1);
     }
 }
 
@@ -89,13 +106,14 @@ fn next_word(i: usize, n: usize, order: Order) -> usize
 fn follow_places(
     sets: &mut [u64],
     edges: &[u32],
-    links: &[u16; 3072],
+    also: &[u16],
+    links: &[u16; 2176],
     worklist: &mut [u64; 16],
     words: usize,
     order: Order,
 )
     requires { ⌜ words ≤ 16 ⌝ }
-    ensures { λ _. ⌜ Solving (now (edges .entry)) (now (sets .entry)) (now (sets .exit)) true ⌝ }
+    ensures { λ _. ⌜ Solving (now (edges .entry)) (now (also .entry)) (now (sets .entry)) (now (sets .exit)) true ⌝ }
 {
     let mut i = 0;
     let mut idle = 0;
@@ -113,22 +131,23 @@ fn follow_places(
             let b = next_element(worklist[i], order);
             worklist[i] = sets::difference(worklist[i], sets::one(b));
             let p = i * 64 + b;
-            follow_edges(sets, edges, links, worklist, links[p]);
+            follow_edges(sets, edges, also, links, worklist, links[2175 - p]);
         }
     }
 }
 
-// Puts along edges, from places that changed on, for at most 1,024 sets and 2,048 edges. What is left to put then is mostly nothing.
-pub fn follow(sets: &mut [u64], edges: &[u32], order: Order)
-    ensures { λ _. ⌜ Solving (now (edges .entry)) (now (sets .entry)) (now (sets .exit)) true ⌝ }
+// Puts along edges, from places that changed on, for at most 1,024 sets, and with the edges 2,176. What is left to put then is mostly nothing.
+pub fn follow(sets: &mut [u64], edges: &[u32], also: &[u16], order: Order)
+    ensures { λ _. ⌜ Solving (now (edges .entry)) (now (also .entry)) (now (sets .entry)) (now (sets .exit)) true ⌝ }
 {
-    if edges.len() <= 2048 {
-        if sets.len() <= 1024 {
-            let mut links = [0u16; 3072];
+    let places = sets.len();
+    if places <= 1024 {
+        if edges.len() <= 2176 - places {
+            let mut links = [0u16; 2176];
             let mut worklist = [0u64; 16];
             link_edges(edges, &mut links, &mut worklist);
-            let words = (sets.len() + 63) / 64;
-            follow_places(sets, edges, &links, &mut worklist, words, order);
+            let words = (places + 63) / 64;
+            follow_places(sets, edges, also, &links, &mut worklist, words, order);
         }
     }
 }

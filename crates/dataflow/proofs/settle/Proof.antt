@@ -5,11 +5,11 @@ use borrow.Author.Needs.{needs}
 use Rattle.dataflow.proofs.settle.Statement.{statement}
 use Rattle.dataflow.proofs.settle.Tie as tie
 
-slice-aggregate-solve : tie.Need-slice-aggregate-solve
-slice-aggregate-solve c = sym (length-take-le _ _ (c .before .before .before .before .pre))
+slice-aggregate-solve-plain : tie.Need-slice-aggregate-solve-plain
+slice-aggregate-solve-plain c = sym (length-take-le _ _ (c .before .before .before .before .pre))
 
-solve-requires : tie.Need-solve-requires
-solve-requires c κs = search needs
+solve-plain-requires : tie.Need-solve-plain-requires
+solve-plain-requires c κs = search needs
 
 same-length : tie.Need-same-length
 same-length c = search needs
@@ -18,4 +18,4 @@ returns : tie.Need-returns
 returns c = search needs
 
 pub settle-spec : {M : Type 1} → statement M
-settle-spec = tie.close (tie.spec slice-aggregate-solve solve-requires same-length returns)
+settle-spec = tie.close (tie.spec slice-aggregate-solve-plain solve-plain-requires same-length returns)

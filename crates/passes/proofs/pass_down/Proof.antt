@@ -10,34 +10,22 @@ use Rattle.passes.proofs.pass_down.Statement.{statement}
 use Rattle.passes.proofs.pass_down.Tie as tie
 
 abbrev Inv-loop : tie.InvT-loop
-Inv-loop sets₀ edges changed₀ k₀ sets changed k = (k ≤ length edges) × Passed edges sets₀ sets changed k (length edges)
+Inv-loop sets₀ edges also changed₀ k₀ sets changed k = (k ≤ length edges) × Passed edges also sets₀ sets changed k (length edges)
 
 abbrev μ-loop : tie.MeasureT-loop
-μ-loop sets₀ edges changed₀ k₀ sets changed k = k
+μ-loop sets₀ edges also changed₀ k₀ sets changed k = k
 
 loop-holds : tie.Need-loop-holds Inv-loop μ-loop
-loop-holds c = (omega arith, passed-start _ _ _ _ (omega arith))
+loop-holds c = (omega arith, passed-start _ _ _ _ _ (omega arith))
 
 sub-put-edge : tie.Need-sub-put-edge Inv-loop μ-loop
 sub-put-edge c = search needs
-
-mul-put-edge : tie.Need-mul-put-edge Inv-loop μ-loop
-mul-put-edge c = search needs
-
-shared-slice-read-put-edge : tie.Need-shared-slice-read-put-edge Inv-loop μ-loop
-shared-slice-read-put-edge c = search needs
 
 put-edge-requires : tie.Need-put-edge-requires Inv-loop μ-loop
 put-edge-requires c κs = search needs
 
 sub-put-edge-2 : tie.Need-sub-put-edge-2 Inv-loop μ-loop
 sub-put-edge-2 c = search needs
-
-mul-put-edge-2 : tie.Need-mul-put-edge-2 Inv-loop μ-loop
-mul-put-edge-2 c = search needs
-
-shared-slice-read-put-edge-2 : tie.Need-shared-slice-read-put-edge-2 Inv-loop μ-loop
-shared-slice-read-put-edge-2 c = search needs
 
 put-edge-requires-2 : tie.Need-put-edge-requires-2 Inv-loop μ-loop
 put-edge-requires-2 c κs = search needs
@@ -49,10 +37,7 @@ loop-less : tie.Need-loop-less Inv-loop μ-loop
 loop-less c = search needs
 
 loop-again : tie.Need-loop-again Inv-loop μ-loop
-loop-again c = (omega arith, passed-down-two _ _ (c .before .before .before .before .before .before .before .before .before .before .loop-test .taken) (c .before .before .before .before .before .before .before .before .before .before .before .loop .inv .0) (c .before .before .before .before .before .before .before .before .before .before .before .loop .inv .1) (c .before .before .before .before .before .before .before .put-edge .ensures) (c .before .before .put-edge2 .ensures))
-
-shared-slice-read-put-edge-3 : tie.Need-shared-slice-read-put-edge-3 Inv-loop μ-loop
-shared-slice-read-put-edge-3 c = search needs
+loop-again c = (omega arith, passed-down-two _ _ _ (c .before .before .before .before .before .before .before .before .loop-test .taken) (c .before .before .before .before .before .before .before .before .before .loop .inv .0) (c .before .before .before .before .before .before .before .before .before .loop .inv .1) (c .before .before .before .before .before .before .put-edge .ensures) (c .before .before .put-edge2 .ensures))
 
 put-edge-requires-3 : tie.Need-put-edge-requires-3 Inv-loop μ-loop
 put-edge-requires-3 c κs = search needs
@@ -62,14 +47,14 @@ same-length c = search needs
 
 returns : tie.Need-returns Inv-loop μ-loop
 returns c =
-    let e : c .before .before .before .before .before .before .before .loop .k ≡ 0 + 1 = omega arith in
-    passed-down _ 0 (omega arith) (passed-as _ e refl (c .before .before .before .before .before .before .before .loop .inv .1)) (c .before .before .put-edge3 .ensures)
+    let e : c .before .before .before .before .before .before .loop .k ≡ 0 + 1 = omega arith in
+    passed-down _ _ 0 (omega arith) (passed-as _ _ e refl (c .before .before .before .before .before .before .loop .inv .1)) (c .before .before .put-edge3 .ensures)
 
 same-length-2 : tie.Need-same-length-2 Inv-loop μ-loop
 same-length-2 c = search needs
 
 returns-2 : tie.Need-returns-2 Inv-loop μ-loop
-returns-2 c = passed-as _ (omega arith) refl (c .before .before .loop .inv .1)
+returns-2 c = passed-as _ _ (omega arith) refl (c .before .before .loop .inv .1)
 
 pub pass-down-spec : {M : Type 1} → statement M
 pass-down-spec =
@@ -79,17 +64,12 @@ pass-down-spec =
     μ-loop
     loop-holds
     sub-put-edge
-    mul-put-edge
-    shared-slice-read-put-edge
     put-edge-requires
     sub-put-edge-2
-    mul-put-edge-2
-    shared-slice-read-put-edge-2
     put-edge-requires-2
     sub-k
     loop-less
     loop-again
-    shared-slice-read-put-edge-3
     put-edge-requires-3
     same-length
     returns

@@ -8,13 +8,13 @@ use Rattle.solver.proofs.solve.Statement.{statement}
 use Rattle.solver.proofs.solve.Tie as tie
 
 abbrev Inv-loop : tie.InvT-loop
-Inv-loop sets₀ edges order turn₀ going₀ sets turn going = (turn < 8) × Solving edges sets₀ sets going
+Inv-loop sets₀ edges also order turn₀ going₀ sets turn going = (turn < 8) × Solving edges also sets₀ sets going
 
 abbrev μ-loop : tie.MeasureT-loop
-μ-loop sets₀ edges order turn₀ going₀ sets turn going = left sets turn going
+μ-loop sets₀ edges also order turn₀ going₀ sets turn going = left sets turn going
 
 loop-holds : tie.Need-loop-holds Inv-loop μ-loop
-loop-holds c = (omega arith, solving-start _ _)
+loop-holds c = (omega arith, solving-start _ _ _)
 
 step-requires : tie.Need-step-requires Inv-loop μ-loop
 step-requires c κs = search needs
@@ -23,16 +23,16 @@ add-turn : tie.Need-add-turn Inv-loop μ-loop
 add-turn c = search needs
 
 loop-less : tie.Need-loop-less Inv-loop μ-loop
-loop-less c = step-less _ _ (c .before .before .before .before .loop-test .taken) (c .before .before .step .ensures)
+loop-less c = step-less _ _ _ (c .before .before .before .before .loop-test .taken) (c .before .before .step .ensures)
 
 loop-again : tie.Need-loop-again Inv-loop μ-loop
-loop-again c = (omega arith, solving-both _ (c .before .before .before .before .before .loop .inv .1) (c .before .before .step .ensures .solving))
+loop-again c = (omega arith, solving-both _ _ (c .before .before .before .before .before .loop .inv .1) (c .before .before .step .ensures .solving))
 
 same-length : tie.Need-same-length Inv-loop μ-loop
 same-length c = search needs
 
 returns : tie.Need-returns Inv-loop μ-loop
-returns c = solving-done _ (λ i. omega (arith, c .before .before .before .slice-known .given i)) (c .loop-test .left) (c .before .loop .inv .1)
+returns c = solving-done _ _ (λ i. omega (arith, c .before .before .before .before .slice-known .given i)) (c .loop-test .left) (c .before .loop .inv .1)
 
 pub solve-spec : {M : Type 1} → statement M
 solve-spec =

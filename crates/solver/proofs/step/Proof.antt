@@ -14,7 +14,7 @@ same-length : tie.Need-same-length
 same-length c = search needs
 
 returns : tie.Need-returns
-returns c = worklist-step _ (c .before .before .before .before .before .if1 .taken) (c .before .before .follow .ensures)
+returns c = worklist-step _ _ (c .before .before .before .before .before .if1 .taken) (c .before .before .follow .ensures)
 
 way-requires-2 : tie.Need-way-requires-2
 way-requires-2 c κs = search needs
@@ -35,13 +35,13 @@ same-length-2 : tie.Need-same-length-2
 same-length-2 c = search needs
 
 returns-2 : tie.Need-returns-2
-returns-2 c = pass-step _ _ (c .before .before .pass-up .ensures)
+returns-2 c = pass-step _ _ _ (c .before .before .pass-up .ensures)
 
 same-length-3 : tie.Need-same-length-3
 same-length-3 c = search needs
 
 returns-3 : tie.Need-returns-3
-returns-3 c = pass-step _ _ (c .before .before .pass-down .ensures)
+returns-3 c = pass-step _ _ _ (c .before .before .pass-down .ensures)
 
 pub step-spec : {M : Type 1} → statement M
 step-spec =

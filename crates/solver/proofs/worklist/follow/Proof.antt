@@ -4,6 +4,9 @@ use borrow.Author.Needs.{needs}
 use Rattle.solver.proofs.worklist.follow.Statement.{statement}
 use Rattle.solver.proofs.worklist.follow.Tie as tie
 
+sub-if2 : tie.Need-sub-if2
+sub-if2 c = search needs
+
 link-edges-requires : tie.Need-link-edges-requires
 link-edges-requires c κs = search needs
 
@@ -20,15 +23,16 @@ returns : tie.Need-returns
 returns c = search needs
 
 returns-2 : tie.Need-returns-2
-returns-2 c = solving-start _ _
+returns-2 c = solving-start _ _ _
 
 returns-3 : tie.Need-returns-3
-returns-3 c = solving-start _ _
+returns-3 c = solving-start _ _ _
 
 pub follow-spec : {M : Type 1} → statement M
 follow-spec =
     tie.close
     (tie.spec
+    sub-if2
     link-edges-requires
     add-words
     follow-places-requires

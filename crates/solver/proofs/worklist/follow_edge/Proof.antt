@@ -1,17 +1,11 @@
 -- `solver::worklist::follow_edge` meets its contract. Assumes nothing.
-use Rattle.passes.specs.PassLaws.{put-as, solving-start, solving-put}
+use Rattle.passes.specs.PassLaws.{solving-start, solving-put}
 use borrow.Author.Needs.{needs}
 use Rattle.solver.proofs.worklist.follow_edge.Statement.{statement}
 use Rattle.solver.proofs.worklist.follow_edge.Tie as tie
 
-mul-from-of : tie.Need-mul-from-of
-mul-from-of c = search needs
-
-shared-slice-read-from-of : tie.Need-shared-slice-read-from-of
-shared-slice-read-from-of c = search needs
-
-from-of-requires : tie.Need-from-of-requires
-from-of-requires c κs = search needs
+put-edge-requires : tie.Need-put-edge-requires
+put-edge-requires c κs = search needs
 
 mul-to-of : tie.Need-mul-to-of
 mul-to-of c = search needs
@@ -22,9 +16,6 @@ shared-slice-read-to-of c = search needs
 to-of-requires : tie.Need-to-of-requires
 to-of-requires c κs = search needs
 
-put-along-requires : tie.Need-put-along-requires
-put-along-requires c κs = search needs
-
 mark-requires : tie.Need-mark-requires
 mark-requires c κs = search needs
 
@@ -32,28 +23,25 @@ same-length : tie.Need-same-length
 same-length c = search needs
 
 returns : tie.Need-returns
-returns c = solving-put _ _ (c .before .before .before .before .before .before .before .before .before .before .before .if1 .taken) (solving-start _ _) (put-as (c .before .before .before .before .before .before .before .before .before .from-of .ensures) (c .before .before .before .before .before .before .before .to-of .ensures) (c .before .before .before .before .before .put-along .ensures))
+returns c = solving-put _ _ _ (c .before .before .before .before .before .before .before .before .before .if1 .taken) (solving-start _ _ _) (c .before .before .before .before .before .before .before .put-edge .ensures)
 
 same-length-2 : tie.Need-same-length-2
 same-length-2 c = search needs
 
 returns-2 : tie.Need-returns-2
-returns-2 c = solving-put _ _ (c .before .before .before .before .before .before .before .before .before .if1 .taken) (solving-start _ _) (put-as (c .before .before .before .before .before .before .before .from-of .ensures) (c .before .before .before .before .before .to-of .ensures) (c .before .before .before .put-along .ensures))
+returns-2 c = solving-put _ _ _ (c .before .before .before .before .before .if1 .taken) (solving-start _ _ _) (c .before .before .before .put-edge .ensures)
 
 returns-3 : tie.Need-returns-3
-returns-3 c = solving-start _ _
+returns-3 c = solving-start _ _ _
 
 pub follow-edge-spec : {M : Type 1} → statement M
 follow-edge-spec =
     tie.close
     (tie.spec
-    mul-from-of
-    shared-slice-read-from-of
-    from-of-requires
+    put-edge-requires
     mul-to-of
     shared-slice-read-to-of
     to-of-requires
-    put-along-requires
     mark-requires
     same-length
     returns

@@ -8,43 +8,34 @@ use Rattle.solver.proofs.worklist.follow_edges.Statement.{statement}
 use Rattle.solver.proofs.worklist.follow_edges.Tie as tie
 
 abbrev Inv-loop : tie.InvT-loop
-Inv-loop sets₀ edges links worklist₀ first last₀ at₀ sets worklist last at = (at < 65536) × Solving edges sets₀ sets true
+Inv-loop sets₀ edges also links worklist₀ first last₀ at₀ sets worklist last at = (at < 65536) × Solving edges also sets₀ sets true
 
 abbrev μ-loop : tie.MeasureT-loop
-μ-loop sets₀ edges links worklist₀ first last₀ at₀ sets worklist last at = 65536 - last
+μ-loop sets₀ edges also links worklist₀ first last₀ at₀ sets worklist last at = 65536 - last
 
 wide-requires : tie.Need-wide-requires Inv-loop μ-loop
 wide-requires c κs = search needs
 
 loop-holds : tie.Need-loop-holds Inv-loop μ-loop
-loop-holds c = (search needs, solving-start _ _)
+loop-holds c = (search needs, solving-start _ _ _)
 
-sub-follow-edge : tie.Need-sub-follow-edge Inv-loop μ-loop
-sub-follow-edge c = search needs
+sub-follow-pair : tie.Need-sub-follow-pair Inv-loop μ-loop
+sub-follow-pair c = search needs
 
-follow-edge-requires : tie.Need-follow-edge-requires Inv-loop μ-loop
-follow-edge-requires c κs = search needs
+follow-pair-requires : tie.Need-follow-pair-requires Inv-loop μ-loop
+follow-pair-requires c κs = search needs
 
-sub-wide : tie.Need-sub-wide Inv-loop μ-loop
-sub-wide c = search needs
+sub-link-behind : tie.Need-sub-link-behind Inv-loop μ-loop
+sub-link-behind c = search needs
 
-add-wide : tie.Need-add-wide Inv-loop μ-loop
-add-wide c = search needs
-
-mul-wide : tie.Need-mul-wide Inv-loop μ-loop
-mul-wide c = search needs
-
-element-copy-out-wide : tie.Need-element-copy-out-wide Inv-loop μ-loop
-element-copy-out-wide c = search needs
-
-wide-requires-2 : tie.Need-wide-requires-2 Inv-loop μ-loop
-wide-requires-2 c κs = search needs
+link-behind-requires : tie.Need-link-behind-requires Inv-loop μ-loop
+link-behind-requires c κs = search needs
 
 loop-less : tie.Need-loop-less Inv-loop μ-loop
 loop-less c = search needs
 
 loop-again : tie.Need-loop-again Inv-loop μ-loop
-loop-again c = (search needs, solving-both _ (c .before .before .before .before .before .before .before .before .loop .inv .1) (c .before .before .before .before .follow-edge .ensures))
+loop-again c = (search needs, solving-both _ _ (c .before .before .before .before .before .before .before .loop .inv .1) (c .before .before .before .follow-pair .ensures))
 
 same-length : tie.Need-same-length Inv-loop μ-loop
 same-length c = search needs
@@ -60,13 +51,10 @@ follow-edges-spec =
     μ-loop
     wide-requires
     loop-holds
-    sub-follow-edge
-    follow-edge-requires
-    sub-wide
-    add-wide
-    mul-wide
-    element-copy-out-wide
-    wide-requires-2
+    sub-follow-pair
+    follow-pair-requires
+    sub-link-behind
+    link-behind-requires
     loop-less
     loop-again
     same-length

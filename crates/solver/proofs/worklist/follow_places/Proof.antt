@@ -8,13 +8,13 @@ use Rattle.solver.proofs.worklist.follow_places.Statement.{statement}
 use Rattle.solver.proofs.worklist.follow_places.Tie as tie
 
 abbrev Inv-loop : tie.InvT-loop
-Inv-loop sets₀ edges links worklist₀ words order i₀ idle₀ left₀ sets worklist i idle left = (i < 16) × (idle ≤ 16) × Solving edges sets₀ sets true
+Inv-loop sets₀ edges also links worklist₀ words order i₀ idle₀ left₀ sets worklist i idle left = (i < 16) × (idle ≤ 16) × Solving edges also sets₀ sets true
 
 abbrev μ-loop : tie.MeasureT-loop
-μ-loop sets₀ edges links worklist₀ words order i₀ idle₀ left₀ sets worklist i idle left = left
+μ-loop sets₀ edges also links worklist₀ words order i₀ idle₀ left₀ sets worklist i idle left = left
 
 loop-holds : tie.Need-loop-holds Inv-loop μ-loop
-loop-holds c = (search needs, search needs, solving-start _ _)
+loop-holds c = (search needs, search needs, solving-start _ _ _)
 
 sub-left : tie.Need-sub-left Inv-loop μ-loop
 sub-left c = search needs
@@ -76,6 +76,9 @@ mul-p c = search needs
 add-p : tie.Need-add-p Inv-loop μ-loop
 add-p c = search needs
 
+sub-follow-edges : tie.Need-sub-follow-edges Inv-loop μ-loop
+sub-follow-edges c = search needs
+
 mul-follow-edges : tie.Need-mul-follow-edges Inv-loop μ-loop
 mul-follow-edges c = search needs
 
@@ -89,7 +92,7 @@ loop-less-2 : tie.Need-loop-less-2 Inv-loop μ-loop
 loop-less-2 c = search needs
 
 loop-again-2 : tie.Need-loop-again-2 Inv-loop μ-loop
-loop-again-2 c = (search needs, search needs, solving-both _ (c .before .before .before .before .before .before .before .before .before .before .before .before .before .before .loop .inv .2) (c .before .before .follow-edges .ensures))
+loop-again-2 c = (search needs, search needs, solving-both _ _ (c .before .before .before .before .before .before .before .before .before .before .before .before .before .before .loop .inv .2) (c .before .before .follow-edges .ensures))
 
 same-length-2 : tie.Need-same-length-2 Inv-loop μ-loop
 same-length-2 c = search needs
@@ -124,6 +127,7 @@ follow-places-spec =
     element-write-worklist
     mul-p
     add-p
+    sub-follow-edges
     mul-follow-edges
     element-copy-out-follow-edges
     follow-edges-requires

@@ -26,14 +26,14 @@ shared-slice-read-from-of c = search needs
 from-of-requires : tie.Need-from-of-requires Inv-loop μ-loop
 from-of-requires c κs = search needs
 
+sub-links : tie.Need-sub-links Inv-loop μ-loop
+sub-links c = search needs
+
 mul-links : tie.Need-mul-links Inv-loop μ-loop
 mul-links c = search needs
 
 element-copy-out-links : tie.Need-element-copy-out-links Inv-loop μ-loop
 element-copy-out-links c = search needs
-
-add-links : tie.Need-add-links Inv-loop μ-loop
-add-links c = search needs
 
 mul-links-2 : tie.Need-mul-links-2 Inv-loop μ-loop
 mul-links-2 c = search needs
@@ -41,11 +41,14 @@ mul-links-2 c = search needs
 element-write-links : tie.Need-element-write-links Inv-loop μ-loop
 element-write-links c = search needs
 
-add-links-2 : tie.Need-add-links-2 Inv-loop μ-loop
-add-links-2 c = search needs
+add-links : tie.Need-add-links Inv-loop μ-loop
+add-links c = search needs
 
 cast-links : tie.Need-cast-links Inv-loop μ-loop
 cast-links c = search needs
+
+sub-links-2 : tie.Need-sub-links-2 Inv-loop μ-loop
+sub-links-2 c = search needs
 
 mul-links-3 : tie.Need-mul-links-3 Inv-loop μ-loop
 mul-links-3 c = search needs
@@ -76,13 +79,14 @@ link-edges-spec =
     mul-from-of
     shared-slice-read-from-of
     from-of-requires
+    sub-links
     mul-links
     element-copy-out-links
-    add-links
     mul-links-2
     element-write-links
-    add-links-2
+    add-links
     cast-links
+    sub-links-2
     mul-links-3
     element-write-links-2
     mark-requires
