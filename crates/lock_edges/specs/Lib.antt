@@ -1,0 +1,4 @@
+pub mod HeldEdges
+pub mod StartLaws
+pub mod AloneLaws
+pub mod HeldEdgeLaws

@@ -1,0 +1,1 @@
+// The edges along which what is left out of the held sets goes.
