@@ -55,7 +55,7 @@ module _ (t : Table) (k : Layout) (acc : Accepted t) (fits : Fits t k) (flow : L
       go true = unionAt-below (nexts (k .statementAt p) (statement t (k .statementAt p))) _ (effectOf-below w (k .statementCopy p))
       go false = omega arith
 
-  starts-sets : (w : Bool) → SetList (k .statements + k .copies) (futureInitials t k flow (effect w) w)
+  pub starts-sets : (w : Bool) → SetList (k .statements + k .copies) (futureInitials t k flow (effect w) w)
   unfolding futureInitials
   starts-sets w = tabulate-sets (k .statements + k .copies) (startAt w) (startAt-below w)
 
