@@ -13,6 +13,7 @@ use Rattle.sets.specs.SetLaws.{has-empty}
 use Rattle.table.specs.Fields.{field}
 use Rattle.table.specs.Table.{argumentsIn, statementIn}
 use Rattle.table.specs.View.{noArguments, view, On, onOr, setOn, listOn, testOn, when, calls, starts}
+use Rattle.table.specs.declared.Arguments.{Arguments}
 use Rattle.table.specs.declared.Reference.{Reference}
 use Rattle.table.specs.declared.Reference.the-variants.{To, Nothing}
 use Rattle.table.specs.declared.View.{View}
@@ -109,9 +110,15 @@ test-from Nothing f h = never h
 abbrev pub isEarly : ℕ → Bool
 isEarly op = ltb 0 op && ltb op 12
 
--- a reference to the first operand if a test holds
+-- a reference to the first operand, the second operand and the arguments, if a test holds
 abbrev pub firstIf : List ℤ → ℕ → Bool → Reference
 firstIf f line b = cond b (To (field f line 2)) Nothing
+
+abbrev pub secondIf : List ℤ → ℕ → Bool → ℕ
+secondIf f line b = cond b (field f line 3) 0
+
+abbrev pub argumentsIf : List ℤ → ℕ → Bool → Arguments
+argumentsIf f line b = cond b (argumentsIn f line) noArguments
 
 abbrev pub viewIn : List ℤ → ℕ → ℕ → View
 viewIn f line op =
@@ -125,10 +132,10 @@ viewIn f line op =
       writing = eqb op 5;
       gives = firstIf f line (eqb op 6);
       points = firstIf f line (eqb op 7);
-      source = cond (eqb op 7) (field f line 3) 0;
+      source = secondIf f line (eqb op 7);
       names = firstIf f line (eqb op 8 || eqb op 9);
       starting = eqb op 9;
-      arguments = cond (eqb op 8 || eqb op 9) (argumentsIn f line) noArguments;
+      arguments = argumentsIf f line (eqb op 8 || eqb op 9);
     }
 
 pub view-in : (f : List ℤ) (line op : ℕ) → view (statementIn f line op) ≡ viewIn f line op
