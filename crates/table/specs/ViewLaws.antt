@@ -66,6 +66,11 @@ pub on-or : {A : Type 0} (P : A → Type 0) (r : Reference) (f : ℕ → A) (d :
 on-or P (To n) f d h e = h n
 on-or P Nothing f d h e = e
 
+-- what is said of the number that is referred to
+pub on-number : {A : Type 0} (r : Reference) (g : ℕ → A) (d : A) → onOr r (λ q. g (setOn r (λ n. n))) d ≡ onOr r g d
+on-number (To n) g d = refl
+on-number Nothing g d = refl
+
 -- ---- the set, list and test of a reference
 
 module _ (r : Reference) (f : ℕ → ℕ) where

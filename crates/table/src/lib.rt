@@ -1,11 +1,11 @@
 // The table: its types, and what stands where in the numbers of its lines. Definitions and laws are in specs/.
 ghost use mathlib.Core.Path.{_≡_};
 ghost use Prim.Native.Nat.{_+_, _*_, _<_, _≤_, _^_};
-ghost use lib.ListN.{length};
+ghost use lib.ListN.{length, getD};
 ghost use Rattle.table.specs.Fields.{field, number, unused, plain};
 ghost use Rattle.table.specs.Header.{statementLine};
-ghost use Rattle.table.specs.Table.{countsOf, argumentsIn, statementIn};
-ghost use Rattle.table.specs.View.{view};
+ghost use Rattle.table.specs.Table.{countsOf, passed, argumentsIn, statementIn};
+ghost use Rattle.table.specs.View.{view, setOn, calls, starts};
 ghost use Rattle.table.specs.ViewLaws.{firstIf, secondIf, argumentsIf};
 
 // What is said of a text: a table, or the number of the first refusal that applies and the line that goes with it.
@@ -305,5 +305,50 @@ pub fn view_at(numbers: &[i32], line: usize) -> View
         names: first_if(numbers, line, naming),
         starting: op == 9,
         arguments: arguments_if(numbers, line, naming),
+    }
+}
+
+// The routine that a statement CALLs.
+pub fn called(view: View) -> Reference
+    ensures { λ r. ⌜ r ≡ calls view ⌝ }
+{
+    if view.starting {
+        Reference::Nothing
+    } else {
+        view.names
+    }
+}
+
+// The routine that a statement STARTs.
+pub fn started(view: View) -> Reference
+    ensures { λ r. ⌜ r ≡ starts view ⌝ }
+{
+    if view.starting {
+        view.names
+    } else {
+        Reference::Nothing
+    }
+}
+
+// The handle that is passed for parameter `k`; 0 where there is none.
+pub fn argument_of(arguments: Arguments, k: usize) -> usize
+    ensures { λ r. ⌜ r ≡ getD (passed arguments) k 0 ⌝ }
+{
+    match k {
+        0 => arguments.first,
+        1 => arguments.second,
+        2 => arguments.third,
+        3 => arguments.fourth,
+        _ => 0,
+    }
+}
+
+// The set of what is referred to, by its place in a list; the empty set if it is nothing.
+pub fn set_on(reference: Reference, list: &[u64]) -> u64
+    ensures { λ r. ⌜ r ≡ setOn reference (λ n. getD (now (list .entry)) n 0) ⌝ }
+{
+    match reference {
+        Reference::To(n) => lists::set_at(list, n),
+        Reference::Nothing => 0,
     }
 }
