@@ -13,6 +13,7 @@ use Rattle.sets.specs.SetLaws.{has-empty}
 use Rattle.table.specs.Fields.{field}
 use Rattle.table.specs.Table.{argumentsIn, statementIn}
 use Rattle.table.specs.View.{noArguments, view, On, onOr, setOn, listOn, testOn, when, calls, starts}
+use Rattle.table.specs.declared.Arguments.{Arguments}
 use Rattle.table.specs.declared.Reference.{Reference}
 use Rattle.table.specs.declared.Reference.the-variants.{To, Nothing}
 use Rattle.table.specs.declared.View.{View}
@@ -65,6 +66,11 @@ pub on-or : {A : Type 0} (P : A → Type 0) (r : Reference) (f : ℕ → A) (d :
 on-or P (To n) f d h e = h n
 on-or P Nothing f d h e = e
 
+-- what is said of the number that is referred to
+pub on-number : {A : Type 0} (r : Reference) (g : ℕ → A) (d : A) → onOr r (λ q. g (setOn r (λ n. n))) d ≡ onOr r g d
+on-number (To n) g d = refl
+on-number Nothing g d = refl
+
 -- ---- the set, list and test of a reference
 
 module _ (r : Reference) (f : ℕ → ℕ) where
@@ -109,9 +115,15 @@ test-from Nothing f h = never h
 abbrev pub isEarly : ℕ → Bool
 isEarly op = ltb 0 op && ltb op 12
 
--- a reference to the first operand if a test holds
+-- a reference to the first operand, the second operand and the arguments, if a test holds
 abbrev pub firstIf : List ℤ → ℕ → Bool → Reference
 firstIf f line b = cond b (To (field f line 2)) Nothing
+
+abbrev pub secondIf : List ℤ → ℕ → Bool → ℕ
+secondIf f line b = cond b (field f line 3) 0
+
+abbrev pub argumentsIf : List ℤ → ℕ → Bool → Arguments
+argumentsIf f line b = cond b (argumentsIn f line) noArguments
 
 abbrev pub viewIn : List ℤ → ℕ → ℕ → View
 viewIn f line op =
@@ -125,10 +137,10 @@ viewIn f line op =
       writing = eqb op 5;
       gives = firstIf f line (eqb op 6);
       points = firstIf f line (eqb op 7);
-      source = cond (eqb op 7) (field f line 3) 0;
+      source = secondIf f line (eqb op 7);
       names = firstIf f line (eqb op 8 || eqb op 9);
       starting = eqb op 9;
-      arguments = cond (eqb op 8 || eqb op 9) (argumentsIn f line) noArguments;
+      arguments = argumentsIf f line (eqb op 8 || eqb op 9);
     }
 
 pub view-in : (f : List ℤ) (line op : ℕ) → view (statementIn f line op) ≡ viewIn f line op

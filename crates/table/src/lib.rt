@@ -1,11 +1,12 @@
 // The table: its types, and what stands where in the numbers of its lines. Definitions and laws are in specs/.
 ghost use mathlib.Core.Path.{_≡_};
 ghost use Prim.Native.Nat.{_+_, _*_, _<_, _≤_, _^_};
-ghost use lib.ListN.{length};
+ghost use lib.ListN.{length, getD};
 ghost use Rattle.table.specs.Fields.{field, number, unused, plain};
 ghost use Rattle.table.specs.Header.{statementLine};
-ghost use Rattle.table.specs.Table.{countsOf, argumentsIn, statementIn};
-ghost use Rattle.table.specs.View.{noArguments, through, pointing, naming, going, view};
+ghost use Rattle.table.specs.Table.{countsOf, passed, argumentsIn, statementIn};
+ghost use Rattle.table.specs.View.{view, setOn, calls, starts};
+ghost use Rattle.table.specs.ViewLaws.{firstIf, secondIf, argumentsIf};
 
 // What is said of a text: a table, or the number of the first refusal that applies and the line that goes with it.
 pub enum Verdict {
@@ -244,125 +245,110 @@ pub fn statement_at(numbers: &[i32], line: usize) -> Statement
     statement_in(numbers, line, field_in(numbers, line, 1))
 }
 
-// What a statement passes that names no routine.
-fn no_arguments() -> Arguments
-    ensures { λ r. ⌜ r ≡ noArguments ⌝ }
+// A reference to the first operand in `line`, if a test holds.
+fn first_if(numbers: &[i32], line: usize, test: bool) -> Reference
+    ensures { λ r. ⌜ r ≡ firstIf (now (numbers .entry)) line test ⌝ }
 {
-    Arguments {
-        first: 0,
-        second: 0,
-        third: 0,
-        fourth: 0,
+    if test {
+        Reference::To(field_of(numbers, line, 2))
+    } else {
+        Reference::Nothing
     }
 }
 
-// The view of a statement that goes on, and does something to the cell or lock that a handle refers to.
-fn through(
-    reads: Reference,
-    writes: Reference,
-    takes: Reference,
-    writing: bool,
-    gives: Reference,
-) -> View
-    ensures { λ r. ⌜ r ≡ through reads writes takes writing gives ⌝ }
+// The second operand in `line`, if a test holds; else 0.
+fn second_if(numbers: &[i32], line: usize, test: bool) -> usize
+    ensures { λ r. ⌜ r ≡ secondIf (now (numbers .entry)) line test ⌝ }
 {
+    if test { field_of(numbers, line, 3) } else { 0 }
+}
+
+// The arguments in `line`, if a test holds; else zeros.
+fn arguments_if(numbers: &[i32], line: usize, test: bool) -> Arguments
+    ensures { λ r. ⌜ r ≡ argumentsIf (now (numbers .entry)) line test ⌝ }
+{
+    if test {
+        Arguments {
+            first: field_of(numbers, line, 3),
+            second: field_of(numbers, line, 4),
+            third: field_of(numbers, line, 5),
+            fourth: field_of(numbers, line, 6),
+        }
+    } else {
+        Arguments {
+            first: 0,
+            second: 0,
+            third: 0,
+            fourth: 0,
+        }
+    }
+}
+
+// What the statement in `line` is to the rules. Past the last line it is RETURN.
+pub fn view_at(numbers: &[i32], line: usize) -> View
+    ensures { λ r. ⌜ r ≡ view (statementIn (now (numbers .entry)) line (field (now (numbers .entry)) line 1)) ⌝ }
+{
+    let op = field_of(numbers, line, 1);
+    let early = (0 < op) & (op < 12);
+    let naming = (op == 8) | (op == 9);
     View {
-        onward: true,
-        ends: false,
-        target: Reference::Nothing,
-        reads,
-        writes,
-        takes,
-        writing,
-        gives,
-        points: Reference::Nothing,
-        source: 0,
-        names: Reference::Nothing,
-        starting: false,
-        arguments: no_arguments(),
+        onward: early & !(op == 10),
+        ends: !early,
+        target: first_if(numbers, line, (op == 10) | (op == 11)),
+        reads: first_if(numbers, line, op == 1),
+        writes: first_if(numbers, line, op == 2),
+        takes: first_if(numbers, line, op == 5),
+        writing: op == 5,
+        gives: first_if(numbers, line, op == 6),
+        points: first_if(numbers, line, op == 7),
+        source: second_if(numbers, line, op == 7),
+        names: first_if(numbers, line, naming),
+        starting: op == 9,
+        arguments: arguments_if(numbers, line, naming),
     }
 }
 
-// The view of a statement that goes on, and makes a handle refer to what another refers to.
-fn pointing(points: Reference, source: usize) -> View
-    ensures { λ r. ⌜ r ≡ pointing points source ⌝ }
+// The routine that a statement CALLs.
+pub fn called(view: View) -> Reference
+    ensures { λ r. ⌜ r ≡ calls view ⌝ }
 {
-    View {
-        onward: true,
-        ends: false,
-        target: Reference::Nothing,
-        reads: Reference::Nothing,
-        writes: Reference::Nothing,
-        takes: Reference::Nothing,
-        writing: false,
-        gives: Reference::Nothing,
-        points,
-        source,
-        names: Reference::Nothing,
-        starting: false,
-        arguments: no_arguments(),
+    if view.starting {
+        Reference::Nothing
+    } else {
+        view.names
     }
 }
 
-// The view of a statement that goes on, and names a routine: by START, or by CALL.
-fn naming(names: Reference, starting: bool, arguments: Arguments) -> View
-    ensures { λ r. ⌜ r ≡ naming names starting arguments ⌝ }
+// The routine that a statement STARTs.
+pub fn started(view: View) -> Reference
+    ensures { λ r. ⌜ r ≡ starts view ⌝ }
 {
-    View {
-        onward: true,
-        ends: false,
-        target: Reference::Nothing,
-        reads: Reference::Nothing,
-        writes: Reference::Nothing,
-        takes: Reference::Nothing,
-        writing: false,
-        gives: Reference::Nothing,
-        points: Reference::Nothing,
-        source: 0,
-        names,
-        starting,
-        arguments,
+    if view.starting {
+        view.names
+    } else {
+        Reference::Nothing
     }
 }
 
-// The view of a statement that only goes: on, out of its frame, to a target.
-fn going(onward: bool, ends: bool, target: Reference) -> View
-    ensures { λ r. ⌜ r ≡ going onward ends target ⌝ }
+// The handle that is passed for parameter `k`; 0 where there is none.
+pub fn argument_of(arguments: Arguments, k: usize) -> usize
+    ensures { λ r. ⌜ r ≡ getD (passed arguments) k 0 ⌝ }
 {
-    View {
-        onward,
-        ends,
-        target,
-        reads: Reference::Nothing,
-        writes: Reference::Nothing,
-        takes: Reference::Nothing,
-        writing: false,
-        gives: Reference::Nothing,
-        points: Reference::Nothing,
-        source: 0,
-        names: Reference::Nothing,
-        starting: false,
-        arguments: no_arguments(),
+    match k {
+        0 => arguments.first,
+        1 => arguments.second,
+        2 => arguments.third,
+        3 => arguments.fourth,
+        _ => 0,
     }
 }
 
-// The view of a statement.
-pub fn view_of(statement: Statement) -> View
-    ensures { λ r. ⌜ r ≡ view statement ⌝ }
+// The set of what is referred to, by its place in a list; the empty set if it is nothing.
+pub fn set_on(reference: Reference, list: &[u64]) -> u64
+    ensures { λ r. ⌜ r ≡ setOn reference (λ n. getD (now (list .entry)) n 0) ⌝ }
 {
-    let none = Reference::Nothing;
-    match statement {
-        Statement::Read(h) => through(Reference::To(h.number), none, none, false, none),
-        Statement::Write(h) => through(none, Reference::To(h.number), none, false, none),
-        Statement::Set(_) => going(true, false, none),
-        Statement::Add(_) => going(true, false, none),
-        Statement::Take(h) => through(none, none, Reference::To(h.number), true, none),
-        Statement::Give(h) => through(none, none, none, false, Reference::To(h.number)),
-        Statement::Point { handle, from } => pointing(Reference::To(handle.number), from.number),
-        Statement::Call { routine, arguments } => naming(Reference::To(routine), false, arguments),
-        Statement::Start { routine, arguments } => naming(Reference::To(routine), true, arguments),
-        Statement::Jump(s) => going(false, false, Reference::To(s.statement)),
-        Statement::JumpZero(s) => going(true, false, Reference::To(s.statement)),
-        Statement::Return => going(false, true, none),
+    match reference {
+        Reference::To(n) => lists::set_at(list, n),
+        Reference::Nothing => 0,
     }
 }
