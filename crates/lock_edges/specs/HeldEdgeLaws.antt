@@ -3,40 +3,38 @@
 use Prim.Native.Nat.{ℕ, _+_, _^_, _≤_, _<_}
 use mathlib.Core.Path.{_≡_, refl, sym, ap, _∙_, subst}
 use mathlib.Core.Bool.{Bool, true, false}
-use mathlib.Core.Logic.{_⊎_, inl, inr, ⊎-elim}
-use mathlib.Core.List.{List, [], _∷_, _++_, map, List·Memᴰ, List·Memᴰ·head, List·Memᴰ·tail, List·Memᴰ·eq-of-singleton, List·Memᴰ·append-cases, Memᴰ·append-left, Memᴰ·append-right}
+use mathlib.Core.Logic.{_⊎_, inl, inr}
+use mathlib.Core.List.{List, [], _∷_, _++_, map, List·Memᴰ, List·Memᴰ·head, List·Memᴰ·tail, Memᴰ·append-left, Memᴰ·append-right}
 use native.Mathlib.Omega.{arith}
-use lib.ListN.{length, getD}
-use borrow.Author.Tests.{ltb-true, lt-ltb}
-use Rattle.sets.specs.Set.{has, minus}
-use Rattle.sets.specs.SetLaws.{has-firsts, inside-both}
+use lib.ListN.{getD}
+use borrow.Author.Tests.{lt-ltb}
+use Rattle.sets.specs.Set.{has}
+use Rattle.sets.specs.SetLaws.{has-firsts}
 use Rattle.sets.specs.Least.{SetList, Edge, plain}
-use Rattle.sets.specs.LeastLaws.{least-holds-start, least-edge, least-induction}
+use Rattle.sets.specs.LeastLaws.{least-holds-start, least-edge}
 use Rattle.table.specs.Table.{Table, routine, statement, OwnHandle}
 use Rattle.table.specs.Tabulate.{tabulate}
 use Rattle.table.specs.View.{view, On, onOr, setOn, listOn, when, calls, starts}
-use Rattle.table.specs.ViewLaws.{nothing-to, set-from, set-has, list-has, list-from, when-has, when-from, calls-names, starts-names}
+use Rattle.table.specs.ViewLaws.{nothing-to, set-from, set-has, list-has, when-has, calls-names, starts-names}
 use Rattle.table.specs.Accepted.{Accepted, Names}
 use Rattle.table.specs.declared.Reference.{Reference}
 use Rattle.table.specs.declared.Reference.the-variants.{To, Nothing}
 use Rattle.table.specs.declared.Statement.{Statement}
-use Rattle.report.specs.OverLaws.{never, none-in, not-has, tabulate-sets, tabulate-has, tabulate-from}
-use Rattle.report.specs.Greatest.{leaving}
-use Rattle.report.specs.GreatestLaws.{minus-has, minus-from}
+use Rattle.report.specs.OverLaws.{never, tabulate-sets, tabulate-has}
+use Rattle.report.specs.GreatestLaws.{minus-has}
 use Rattle.report.specs.Layout.{Layout}
-use Rattle.report.specs.Fits.{Fits, StatementPlaced, copiesOf}
+use Rattle.report.specs.Fits.{Fits, copiesOf}
 use Rattle.report.specs.Operations.{nexts}
 use Rattle.report.specs.Flow.{flowAt}
 use Rattle.report.specs.FlowLaws.{FlowHas}
 use Rattle.report.specs.EffectLaws.{GivesHas}
-use Rattle.report.specs.Held.{allLocks, entry, onlyLock, heldSets}
-use Rattle.report.specs.HeldLaws.{HeldHas, only-from, only-has, held-rules, held-greatest}
-use Rattle.report.specs.NextLaws.{goes-next, next-goes, goes-placed, map-has, map-from}
-use Rattle.report.specs.PlaceLaws.{placed, place-at, among-all, of-some}
-use Rattle.report.specs.Rules.{Copies, Place, Goes, After, AtReturns, HeldRules}
+use Rattle.report.specs.Held.{allLocks, entry, onlyLock}
+use Rattle.report.specs.HeldLaws.{only-from}
+use Rattle.report.specs.NextLaws.{goes-next, goes-placed, map-has}
+use Rattle.report.specs.PlaceLaws.{placed, among-all}
+use Rattle.report.specs.Rules.{Copies, Place, Goes, After, HeldRules}
 use Rattle.lock_edges.specs.HeldEdges.{backPlace, givenPlace, flowPlace, otherPlace, everyPlace, placeCount, startAt, metPlace, edgesAt, heldEdges, heldOut}
-use Rattle.lock_edges.specs.StartLaws.{start-early, start-given, start-flow, start-other, start-every, start-below}
-use Rattle.lock_edges.specs.AloneLaws.{alone}
+use Rattle.lock_edges.specs.StartLaws.{start-given, start-flow, start-other, start-every, start-below}
 
 module _ (t : Table) (k : Layout) (acc : Accepted t) (fits : Fits t k) (flow : List ℕ) (below : (i : ℕ) → getD flow i 0 < 2 ^ 64)
     (given : List ℕ) (given-below : (i : ℕ) → getD given i 0 < 2 ^ 64) where
