@@ -1,4 +1,4 @@
--- The four dataflow equations that least sets along edges solve: the edges of each, and the sets that it begins with, over the table's own numbers.
+-- The dataflow equations that least sets along edges solve: the edges of each, and the sets that it begins with, over the table's own numbers.
 -- What `dataflow` promises cites the report's definitions; these are the same, as the code goes through them. Assumes nothing.
 use Prim.Native.Nat.{ℕ, _+_}
 use mathlib.Core.Bool.{Bool, true, false, cond}
@@ -17,12 +17,13 @@ use Rattle.report.specs.Layout.{named, ownerOf, oneEach}
 use Rattle.report.specs.Operations.{nexts}
 use Rattle.report.specs.Flow.{flowEdges, startOf}
 
--- what is asked of a table: flow sets, effects, given-up locks, futures
+-- what is asked of a table: flow sets, effects, given-up locks, and futures in two stages: what may follow in the routine, what comes from its CALLs
 pub data Equation : Type 0 where
   Flow : Equation
   Effects : Equation
   Gives : Equation
-  Futures : Equation
+  Nexts : Equation
+  Callers : Equation
 
 abbrev pub edge : ℕ → ℕ → Edge
 edge f t = plain f t
@@ -37,18 +38,18 @@ upEdges starts c σ = listOn (cond starts (view σ .names) (calls (view σ))) (�
 unfoldable pub nextEdges : ℕ → Statement → List Edge
 nextEdges s σ = map (λ (n : ℕ). edge n s) (nexts s σ)
 
--- from a CALL, statement s, to the place of the CALLs of the routine that it names; these places stand from `base` on
+-- from place p to that of the CALLs of the routine that a CALL names; these places stand from `base` on
 unfoldable pub callEdges : ℕ → ℕ → Statement → List Edge
-callEdges base s σ = listOn (calls (view σ)) (λ q. edge s (base + named σ) ∷ [])
+callEdges base p σ = listOn (calls (view σ)) (λ q. edge p (base + named σ) ∷ [])
 
 -- those of statement s
 unfoldable pub edgesAt : Equation → Table → ℕ → List Edge
 edgesAt Flow t s = flowEdges t (oneEach t) 0 s (statement t s)
 edgesAt Effects t s = upEdges true (ownerOf t s) (statement t s)
 edgesAt Gives t s = upEdges false (ownerOf t s) (statement t s)
-edgesAt Futures t s =
-    nextEdges s (statement t s)
-    ++ ((edge (length (t .statements) + ownerOf t s) s ∷ []) ++ callEdges (length (t .statements)) s (statement t s))
+edgesAt Nexts t s = nextEdges s (statement t s)
+edgesAt Callers t s =
+    callEdges (length (t .statements)) s (statement t s) ++ callEdges (length (t .statements)) (length (t .statements) + ownerOf t s) (statement t s)
 
 -- up CALLs and STARTs, or up CALLs only
 abbrev pub upwards : Bool → Equation
@@ -89,17 +90,3 @@ nextsEffect w flow effect t s = unionAt (nexts s (statement t s)) (effectAt w fl
 -- what the future at place p begins with: nothing behind the last statement
 unfoldable pub futureInitial : Bool → List ℕ → List ℕ → Table → ℕ → ℕ
 futureInitial w flow effect t p = cond (ltb p (length (t .statements))) (nextsEffect w flow effect t p) 0
-
--- what place i begins with; `w` asks for writes, and `flow` and `effect` are the flow sets and the effects
-abbrev pub initialAt : Equation → Bool → List ℕ → List ℕ → Table → ℕ → ℕ
-initialAt Flow w flow effect t i = startOf t i
-initialAt Effects w flow effect t i = inRoutine false w flow t i
-initialAt Gives w flow effect t i = inRoutine true w flow t i
-initialAt Futures w flow effect t i = futureInitial w flow effect t i
-
--- how many places there are
-abbrev pub placesOf : Equation → Table → ℕ
-placesOf Flow t = length (t .handles)
-placesOf Effects t = length (t .routines)
-placesOf Gives t = length (t .routines)
-placesOf Futures t = length (t .statements) + length (t .routines)

@@ -26,7 +26,7 @@ use Rattle.report.specs.Layout.{named, ownerOf, oneEach}
 use Rattle.report.specs.Operations.{nexts}
 use Rattle.report.specs.OneEach.{names-there}
 use Rattle.report.specs.Flow.{passing, flowEdges}
-use Rattle.edges.specs.Equations.{Equation, Futures, upwards, edge, edgesAt, edgesFor, upEdges, nextEdges, callEdges}
+use Rattle.edges.specs.Equations.{Equation, Nexts, Callers, upwards, edge, edgesAt, edgesFor, upEdges, nextEdges, callEdges}
 use Rattle.edges.specs.EdgeLaws.{Appended, appended-same, Growing, growing-done}
 
 -- `base` is the line of statement 0, and there are few lines
@@ -102,10 +102,17 @@ module _ (t : Table) (s : ℕ) (σ : Statement) {v : View} (is : v ≡ view σ) 
   up-calls c e h =
       ap {B = List Edge} (λ r. listOn r (λ (q : ℕ). edge q c ∷ [])) (h ∙ ap calls is) ∙ rw e (sym (on-called (view σ) (λ (q : ℕ). edge q c ∷ []) []))
 
-  pub call-parts : (end : ℕ) → listOn (calls v) (λ (q : ℕ). edge s (end + q) ∷ []) ≡ callEdges end s σ
+  call-parts : (end p : ℕ) → listOn (calls v) (λ (q : ℕ). edge p (end + q) ∷ []) ≡ callEdges end p σ
   unfolding callEdges named
-  call-parts end =
-      ap {B = List Edge} (λ v. listOn (calls v) (λ (q : ℕ). edge s (end + q) ∷ [])) is ∙ sym (on-called (view σ) (λ (q : ℕ). edge s (end + q) ∷ []) [])
+  call-parts end p =
+      ap {B = List Edge} (λ v. listOn (calls v) (λ (q : ℕ). edge p (end + q) ∷ [])) is ∙ sym (on-called (view σ) (λ (q : ℕ). edge p (end + q) ∷ []) [])
+
+  -- from a CALL and from the CALLs of its routine c
+  pub caller-parts : (end c : ℕ) {r : Reference} → r ≡ calls v
+      → (listOn r (λ (q : ℕ). edge s (end + q) ∷ []) ++ listOn r (λ (q : ℕ). edge (end + c) (end + q) ∷ [])) ≡ (callEdges end s σ ++ callEdges end (end + c) σ)
+  caller-parts end c e =
+      ap {B = List Edge} (λ r. listOn r (λ (q : ℕ). edge s (end + q) ∷ []) ++ listOn r (λ (q : ℕ). edge (end + c) (end + q) ∷ [])) e
+      ∙ ap₂ {C = List Edge} (λ (a b : List Edge). a ++ b) (call-parts end s) (call-parts end (end + c))
 
   -- what may come next
   pub next-parts : (listOn (v .target) (λ (n : ℕ). edge n s ∷ []) ++ when (v .onward) (edge (s + 1) s ∷ [])) ≡ nextEdges s σ
@@ -124,17 +131,20 @@ unfolding edgesAt
 up-at true t s c e = ap {B = List Edge} (λ (x : ℕ). upEdges true x (statement t s)) e
 up-at false t s c e = ap {B = List Edge} (λ (x : ℕ). upEdges false x (statement t s)) e
 
--- the edges that the future of statement s of routine c makes: to what may come next, to the CALLs of its routine, and from a CALL
-pub future-at : (f : List ℤ) (s end c : ℕ) {v : View} → v ≡ view (statement (tableOf f) s) → end ≡ statements f → c ≡ ownerOf (tableOf f) s
-    → ((listOn (v .target) (λ (n : ℕ). edge n s ∷ []) ++ when (v .onward) (edge (s + 1) s ∷ []))
-    ++ ((edge (end + c) s ∷ []) ++ listOn (calls v) (λ (q : ℕ). edge s (end + q) ∷ []))) ≡ edgesAt Futures (tableOf f) s
+-- to statement s from what may come next
+pub next-at : (t : Table) (s : ℕ) {v : View} → v ≡ view (statement t s)
+    → (listOn (v .target) (λ (n : ℕ). edge n s ∷ []) ++ when (v .onward) (edge (s + 1) s ∷ [])) ≡ edgesAt Nexts t s
 unfolding edgesAt
-future-at f s end c is p q =
-    ap₂ {C = List Edge} (λ (a b : List Edge). a ++ ((edge (end + c) s ∷ []) ++ b))
-    (next-parts (tableOf f) s (statement (tableOf f) s) is) (call-parts (tableOf f) s (statement (tableOf f) s) is end)
-    ∙ ap₂ {C = List Edge}
-    (λ (x y : ℕ). nextEdges s (statement (tableOf f) s) ++ ((edge (x + y) s ∷ []) ++ callEdges x s (statement (tableOf f) s)))
-    (p ∙ sym (statements-length f)) q
+next-at t s is = next-parts t s (statement t s) is
+
+-- from statement s of routine c, if it is a CALL, and from the CALLs of its routine, to those of the routine that it names
+pub caller-at : (f : List ℤ) (s end c : ℕ) {v : View} → v ≡ view (statement (tableOf f) s) → end ≡ statements f → c ≡ ownerOf (tableOf f) s → {r : Reference}
+    → r ≡ calls v
+    → (listOn r (λ (q : ℕ). edge s (end + q) ∷ []) ++ listOn r (λ (q : ℕ). edge (end + c) (end + q) ∷ [])) ≡ edgesAt Callers (tableOf f) s
+unfolding edgesAt
+caller-at f s end c is p q e =
+    caller-parts (tableOf f) s (statement (tableOf f) s) is end c e
+    ∙ ap₂ {C = List Edge} (λ (x y : ℕ). callEdges x s (statement (tableOf f) s) ++ callEdges x (x + y) (statement (tableOf f) s)) (p ∙ sym (statements-length f)) q
 
 pub every-edge : (q : Equation) (f : List ℤ) {end : ℕ} {edges edges′ : List ℕ} {n i : ℕ} → end ≡ statements f
     → Growing (edgesAt q (tableOf f)) end edges 0 edges′ n i → end ≤ i → Appended edges 0 edges′ n (edgesFor q (tableOf f))

@@ -25,7 +25,7 @@ use Rattle.report.specs.OverLaws.{Within, joined-from, within-below}
 use Rattle.report.specs.Layout.{named, isIn, ownerOf, oneEach}
 use Rattle.report.specs.OneEach.{statement-below}
 use Rattle.report.specs.Flow.{passing, flowEdges}
-use Rattle.edges.specs.Equations.{Equation, Flow, Effects, Gives, Futures, edge, upEdges, nextEdges, callEdges, edgesAt, edgesFor}
+use Rattle.edges.specs.Equations.{Equation, Flow, Effects, Gives, Nexts, Callers, edge, upEdges, nextEdges, callEdges, edgesAt, edgesFor}
 use Rattle.edges.specs.EdgeLaws.{Room, Appended, Ready, ready}
 use Rattle.edges.specs.LineLaws.{next-parts}
 
@@ -139,18 +139,17 @@ module _ (t : Table) (acc : Accepted t) where
         (few-on (view σ .target) (λ n. edge n s ∷ []) (λ n e. few-one 0 n s (target-small n (o .target n e)) (omega arith)))
         (few-when (view σ .onward) (edge (s + 1) s ∷ []) (few-one 0 (s + 1) s (omega arith) (omega arith))))
 
-    few-call : (σ : Statement) → Operands t r σ → Few 1 (callEdges (length (t .statements)) s σ)
+    few-call : (p : ℕ) (σ : Statement) → p < 65536 → Operands t r σ → Few 1 (callEdges (length (t .statements)) p σ)
     unfolding callEdges
-    few-call σ o =
-        few-on (calls (view σ)) (λ q. edge s (length (t .statements) + named σ) ∷ [])
-        (λ q e. few-one 0 s (length (t .statements) + named σ) (omega arith) (omega (arith, named-small r σ o, acc .statements-most)))
+    few-call p σ h o =
+        few-on (calls (view σ)) (λ q. edge p (length (t .statements) + named σ) ∷ [])
+        (λ q e. few-one 0 p (length (t .statements) + named σ) h (omega (arith, named-small r σ o, acc .statements-most)))
 
-    few-future : (σ : Statement) → Operands t r σ
-        → Few 4 (nextEdges s σ ++ ((edge (length (t .statements) + ownerOf t s) s ∷ []) ++ callEdges (length (t .statements)) s σ))
-    few-future σ o =
-        few-both {m = 2} {n = 2} (nextEdges s σ) _ (few-next σ o)
-        (few-both {m = 1} {n = 1} (edge (length (t .statements) + ownerOf t s) s ∷ []) _
-        (few-one 0 (length (t .statements) + ownerOf t s) s (omega (arith, owner-small s, acc .statements-most)) (omega arith)) (few-call σ o))
+    few-callers : (σ : Statement) → Operands t r σ
+        → Few 2 (callEdges (length (t .statements)) s σ ++ callEdges (length (t .statements)) (length (t .statements) + ownerOf t s) σ)
+    few-callers σ o =
+        few-both {m = 1} {n = 1} (callEdges (length (t .statements)) s σ) _ (few-call s σ (omega arith) o)
+        (few-call (length (t .statements) + ownerOf t s) σ (omega (arith, owner-small s, acc .statements-most)) o)
 
   -- ---- every equation
 
@@ -162,7 +161,8 @@ module _ (t : Table) (acc : Accepted t) where
       go Flow o = few-flow (o .0) s (statement t s) (acc .operands (o .0) s (o .1) (o .2))
       go Effects o = few-more 4 (omega arith) (few-up true (ownerOf t s) (o .0) (statement t s) (acc .operands (o .0) s (o .1) (o .2)) (owner-small s))
       go Gives o = few-more 4 (omega arith) (few-up false (ownerOf t s) (o .0) (statement t s) (acc .operands (o .0) s (o .1) (o .2)) (owner-small s))
-      go Futures o = few-future s (o .0) (omega (arith, acc .statements-most)) (o .1) (statement t s) (acc .operands (o .0) s (o .1) (o .2))
+      go Nexts o = few-more 4 (omega arith) (few-next s (o .0) (omega (arith, acc .statements-most)) (o .1) (statement t s) (acc .operands (o .0) s (o .1) (o .2)))
+      go Callers o = few-more 4 (omega arith) (few-callers s (o .0) (omega (arith, acc .statements-most)) (o .1) (statement t s) (acc .operands (o .0) s (o .1) (o .2)))
 
   edges-room : (q : Equation) (a : ℕ) → 4 * length (t .statements) ≤ a → Room a (edgesFor q t)
   unfolding edgesFor

@@ -9,7 +9,7 @@ ghost use Rattle.table.specs.Extents.{firstStatements, firstHandles, parameterC
 ghost use Rattle.table.specs.Accepted.{Accepted};
 ghost use Rattle.report.specs.Layout.{ownerOf};
 ghost use Rattle.table.specs.View.{listOn, when};
-ghost use Rattle.edges.specs.Equations.{Flow, Futures, upwards, edge, edgesAt, upEdges, edgesFor};
+ghost use Rattle.edges.specs.Equations.{Flow, Nexts, Callers, upwards, edge, edgesAt, upEdges, edgesFor};
 ghost use Rattle.edges.specs.EdgeLaws.{Appended};
 ghost use Rattle.edges.specs.LineLaws.{Lined, passingFrom};
 ghost use Rattle.edges.specs.RoutineLaws.{Near};
@@ -17,7 +17,7 @@ use table::Arguments;
 use table::Reference;
 
 // The routine of statement `s`, where `r` is that of the statement before.
-fn owner_of(numbers: &[i32], first: &[usize], r: usize, s: usize) -> usize
+pub fn owner_of(numbers: &[i32], first: &[usize], r: usize, s: usize) -> usize
     requires { ⌜ now first ≡ firstStatements (now numbers) ⌝ }
     requires { ⌜ Accepted (tableOf (now numbers)) ⌝ }
     requires { ⌜ (s < statements (now numbers)) × Near (now numbers) r s ⌝ }
@@ -189,8 +189,36 @@ fn append_next(onward: bool, s: usize, edges: &mut [u32], n: usize) -> usize
     n
 }
 
-// Appends the edges that the future of statement `s` of routine `c` makes; `end` is the number of statements.
-fn append_future(
+// Appends the edges to statement `s` from what may come next.
+fn append_nexts(numbers: &[i32], base: usize, s: usize, edges: &mut [u32], n: usize) -> usize
+    requires { ⌜ Lined (now numbers) base × (s < statements (now numbers)) ⌝ }
+    ensures { λ r. ⌜ Appended (now (edges .entry)) n (now (edges .exit)) r (edgesAt Nexts (tableOf (now (numbers .entry))) s) ⌝ }
+{
+    let v = table::view_at(numbers, base + s);
+    let target = v.target;
+    let m = append_from(target, s, edges, n);
+    append_next(v.onward, s, edges, m)
+}
+
+// Fills the list with the edges to each statement from what may come next, and returns how many there are.
+pub fn fill_nexts(numbers: &[i32], edges: &mut [u32]) -> usize
+    requires { ⌜ Accepted (tableOf (now numbers)) ⌝ }
+    ensures { λ r. ⌜ Appended (now (edges .entry)) 0 (now (edges .exit)) r (edgesFor Nexts (tableOf (now (numbers .entry)))) ⌝ }
+{
+    let base = table::first_line(numbers);
+    let end = table::field_of(numbers, 0, 5);
+    let mut n = 0;
+    let mut s = 0;
+    while s < end {
+        n = append_nexts(numbers, base, s, edges, n);
+        s += 1;
+    }
+    n
+}
+
+// Appends the edges from statement `s`, if it is a CALL, and from the CALLs of its routine `c`, to those of the routine that it names; the places of
+// a routine's CALLs stand from `end` on, the number of statements.
+fn append_callers(
     numbers: &[i32],
     base: usize,
     s: usize,
@@ -201,21 +229,18 @@ fn append_future(
 ) -> usize
     requires { ⌜ Lined (now numbers) base × (s < statements (now numbers)) ⌝ }
     requires { ⌜ (end ≡ statements (now numbers)) × (c ≡ ownerOf (tableOf (now numbers)) s) × (c < 2 ^ 32) ⌝ }
-    ensures { λ r. ⌜ Appended (now (edges .entry)) n (now (edges .exit)) r (edgesAt Futures (tableOf (now (numbers .entry))) s) ⌝ }
+    ensures { λ r. ⌜ Appended (now (edges .entry)) n (now (edges .exit)) r (edgesAt Callers (tableOf (now (numbers .entry))) s) ⌝ }
 {
-    let v = table::view_at(numbers, base + s);
-    let target = v.target;
-    let k = append_from(target, s, edges, n);
-    let m = append_next(v.onward, s, edges, k);
-    let l = append(edges, m, end + c, s);
-    append_to(s, end, table::called(v), edges, l)
+    let called = table::called(table::view_at(numbers, base + s));
+    let m = append_to(s, end, called, edges, n);
+    append_to(end + c, end, called, edges, m)
 }
 
-// Fills the list with the edges of futures, and returns how many there are.
-pub fn fill_future(numbers: &[i32], first: &[usize], edges: &mut [u32]) -> usize
+// Fills the list with the edges by which futures come from the CALLs of each routine, and returns how many there are.
+pub fn fill_callers(numbers: &[i32], first: &[usize], edges: &mut [u32]) -> usize
     requires { ⌜ now first ≡ firstStatements (now numbers) ⌝ }
     requires { ⌜ Accepted (tableOf (now numbers)) ⌝ }
-    ensures { λ r. ⌜ Appended (now (edges .entry)) 0 (now (edges .exit)) r (edgesFor Futures (tableOf (now (numbers .entry)))) ⌝ }
+    ensures { λ r. ⌜ Appended (now (edges .entry)) 0 (now (edges .exit)) r (edgesFor Callers (tableOf (now (numbers .entry)))) ⌝ }
 {
     let base = table::first_line(numbers);
     let end = table::field_of(numbers, 0, 5);
@@ -224,7 +249,7 @@ pub fn fill_future(numbers: &[i32], first: &[usize], edges: &mut [u32]) -> usize
     let mut s = 0;
     while s < end {
         c = owner_of(numbers, first, c, s);
-        n = append_future(numbers, base, s, end, c, edges, n);
+        n = append_callers(numbers, base, s, end, c, edges, n);
         s += 1;
     }
     n
