@@ -1,12 +1,12 @@
 -- A list of edges that is filled from the front: what one more edge, and one more part, leave in it. Assumes nothing.
-use Prim.Native.Nat.{ℕ, zero, suc, _+_, _*_, _≤_, _<_}
+use Prim.Native.Nat.{ℕ, zero, suc, _+_, _-_, _*_, _≤_, _<_}
 use mathlib.Core.Path.{_≡_, refl, sym, ap, ap₂, _∙_, subst}
 use mathlib.Core.List.{List, [], _∷_, _++_, map, map-append, List·Memᴰ, List·Memᴰ·head, Memᴰ·append-left, Memᴰ·append-right, append-nil, append-assoc}
 use native.Mathlib.Nat.{zero-add}
 use native.Mathlib.Numerals.{add-one}
 use native.Mathlib.Omega.{arith}
-use lib.ListN.{length, set, take, length-append, length-set}
-use lib.Seq.{take-suc-set}
+use lib.ListN.{length, set, take, drop, length-append, length-set, length-map, take-append-drop}
+use lib.Seq.{take-suc-set, length-take-le, take-append-add, take-append-seam, drop-append-seam}
 use Rattle.sets.specs.Least.{Edge, edgeOf}
 use Rattle.sets.specs.LeastLaws.{edge-packed}
 use Rattle.report.specs.Over.{joinedFrom}
@@ -129,3 +129,36 @@ pub ready : {edges edges′ : List ℕ} {n : ℕ} {es : List Edge} → Appended 
 ready {edges} p r =
     let h = p .then (length edges) [] (record { count = refl; long = refl; is = refl }) r in
     record { there = omega (arith, h .count, h .long, r .room); is = h .is }
+
+-- the first n places are some edges, those from n to m are others
+pub record Parts (edges : List ℕ) (n m : ℕ) (a b : List Edge) : Type 0 where
+  pub order : n ≤ m
+  pub there : m ≤ length edges
+  pub first : map edgeOf (take n edges) ≡ a
+  pub second : map edgeOf (take (m - n) (drop n edges)) ≡ b
+
+-- two lists with the same halves before and behind
+halves : (x y a b : List Edge) → length x ≡ length a → x ++ y ≡ a ++ b → (x ≡ a) × (y ≡ b)
+halves x y a b l e = (
+  sym (take-append-seam x y) ∙ ap₂ {C = List Edge} (λ (n : ℕ) (r : List Edge). take n r) l e ∙ take-append-seam a b,
+  sym (drop-append-seam x y) ∙ ap₂ {C = List Edge} (λ (n : ℕ) (r : List Edge). drop n r) l e ∙ drop-append-seam a b,
+)
+
+split-take : (l : List ℕ) (n m : ℕ) → n ≤ m → m ≤ length l → take m l ≡ take n l ++ take (m - n) (drop n l)
+split-take l n m h k =
+    let e : m ≡ length (take n l) + (m - n) = omega (arith, length-take-le n l (omega arith)) in
+    ap₂ {C = List ℕ} (λ (i : ℕ) (r : List ℕ). take i r) e (sym (take-append-drop n l)) ∙ take-append-add (take n l) (drop n l) (m - n)
+
+pub parts : {edges edges′ edges″ : List ℕ} {n m : ℕ} {a b : List Edge} → Appended edges 0 edges′ n a → Appended edges′ n edges″ m b → Room (length edges) (a ++ b)
+    → Parts edges″ n m a b
+parts {edges} {edges′} {edges″} {n} {m} {a} {b} p q r =
+    let h = p .then (length edges) [] (record { count = refl; long = refl; is = refl }) (room-left (length edges) a b r) in
+    let k = q .then (length edges) a h r in
+    let order : n ≤ m = omega (arith, h .count, k .count, length-append a b) in
+    let there : m ≤ length edges″ = omega (arith, k .count, k .long, r .room) in
+    let whole : map edgeOf (take n edges″) ++ map edgeOf (take (m - n) (drop n edges″)) ≡ a ++ b =
+    sym (ap {B = List Edge} (λ (l : List ℕ). map edgeOf l) (split-take edges″ n m order there) ∙ map-append edgeOf (take n edges″) (take (m - n) (drop n edges″))) ∙ k .is in
+    let both =
+    halves (map edgeOf (take n edges″)) (map edgeOf (take (m - n) (drop n edges″))) a b
+    (length-map (take n edges″) edgeOf ∙ length-take-le n edges″ (omega arith) ∙ h .count) whole in
+    record { order = order; there = there; first = both .0; second = both .1 }

@@ -146,8 +146,8 @@ caller-at f s end c is p q e =
     caller-parts (tableOf f) s (statement (tableOf f) s) is end c e
     ∙ ap₂ {C = List Edge} (λ (x y : ℕ). callEdges x s (statement (tableOf f) s) ++ callEdges x (x + y) (statement (tableOf f) s)) (p ∙ sym (statements-length f)) q
 
-pub every-edge : (q : Equation) (f : List ℤ) {end : ℕ} {edges edges′ : List ℕ} {n i : ℕ} → end ≡ statements f
-    → Growing (edgesAt q (tableOf f)) end edges 0 edges′ n i → end ≤ i → Appended edges 0 edges′ n (edgesFor q (tableOf f))
+pub every-edge : (q : Equation) (f : List ℤ) {end : ℕ} {edges edges′ : List ℕ} {from n i : ℕ} → end ≡ statements f
+    → Growing (edgesAt q (tableOf f)) end edges from edges′ n i → end ≤ i → Appended edges from edges′ n (edgesFor q (tableOf f))
 unfolding edgesFor
 every-edge q f e g l =
     appended-same _ _ (ap {B = List Edge} (λ (m : ℕ). joinedFrom 0 m (edgesAt q (tableOf f))) (e ∙ sym (statements-length f))) (growing-done g l)

@@ -26,7 +26,7 @@ use Rattle.report.specs.Layout.{named, isIn, ownerOf, oneEach}
 use Rattle.report.specs.OneEach.{statement-below}
 use Rattle.report.specs.Flow.{passing, flowEdges}
 use Rattle.edges.specs.Equations.{Equation, Flow, Effects, Gives, Nexts, Callers, edge, upEdges, nextEdges, callEdges, edgesAt, edgesFor}
-use Rattle.edges.specs.EdgeLaws.{Room, Appended, Ready, ready}
+use Rattle.edges.specs.EdgeLaws.{Room, Appended, Ready, ready, Parts, parts}
 use Rattle.edges.specs.LineLaws.{next-parts}
 
 -- at most m edges, and every number small
@@ -170,7 +170,30 @@ module _ (t : Table) (acc : Accepted t) where
       let all = few-joined 4 0 (length (t .statements)) (edgesAt q t) (λ s w. few-at q s (within-below w)) in
       record { room = omega (arith, all .few); small = all .small }
 
+  -- the two stages of futures together
+  stages-room : (a : ℕ) → 4 * length (t .statements) ≤ a → Room a (edgesFor Nexts t ++ edgesFor Callers t)
+  unfolding edgesFor edgesAt
+  stages-room a p =
+      let n = length (t .statements) in
+      let all =
+      few-both {m = 2 * n} {n = 2 * n} (edgesFor Nexts t) (edgesFor Callers t)
+      (few-joined 2 0 n (edgesAt Nexts t) (λ s w. at-next s (within-below w) (acc .owner s (within-below w))))
+      (few-joined 2 0 n (edgesAt Callers t) (λ s w. at-callers s (within-below w) (acc .owner s (within-below w)))) in
+      record { room = omega (arith, all .few); small = all .small }
+    where
+      at-next : (s : ℕ) → s < length (t .statements) → (r : ℕ) × (r < length (t .routines)) × InRoutine t r s → Few 2 (edgesAt Nexts t s)
+      at-next s l o = few-next s (o .0) (omega (arith, acc .statements-most)) (o .1) (statement t s) (acc .operands (o .0) s (o .1) (o .2))
+
+      at-callers : (s : ℕ) → s < length (t .statements) → (r : ℕ) × (r < length (t .routines)) × InRoutine t r s → Few 2 (edgesAt Callers t s)
+      at-callers s l o = few-callers s (o .0) (omega (arith, acc .statements-most)) (o .1) (statement t s) (acc .operands (o .0) s (o .1) (o .2))
+
 -- so a list with that much room holds an equation's edges, whatever stood in it before
 pub ready-for : (q : Equation) (f : List ℤ) → Accepted (tableOf f) → {edges edges′ : List ℕ} {n : ℕ} → 4 * statements f ≤ length edges
     → Appended edges 0 edges′ n (edgesFor q (tableOf f)) → Ready edges′ n (edgesFor q (tableOf f))
 ready-for q f acc {edges} room h = ready h (edges-room (tableOf f) acc q (length edges) (omega (arith, statements-length f)))
+
+-- and those of both stages of futures behind each other
+pub ready-stages : (f : List ℤ) → Accepted (tableOf f) → {edges edges′ edges″ : List ℕ} {n m : ℕ} → 4 * statements f ≤ length edges
+    → Appended edges 0 edges′ n (edgesFor Nexts (tableOf f)) → Appended edges′ n edges″ m (edgesFor Callers (tableOf f))
+    → Parts edges″ n m (edgesFor Nexts (tableOf f)) (edgesFor Callers (tableOf f))
+ready-stages f acc {edges} room p q = parts p q (stages-room (tableOf f) acc (length edges) (omega (arith, statements-length f)))

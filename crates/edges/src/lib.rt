@@ -236,15 +236,15 @@ fn append_callers(
     append_to(end + c, end, called, edges, m)
 }
 
-// Fills the list with the edges by which futures come from the CALLs of each routine, and returns how many there are.
-pub fn fill_callers(numbers: &[i32], first: &[usize], edges: &mut [u32]) -> usize
+// Appends behind the first `from` edges those by which futures come from the CALLs of each routine, and returns how many there are then.
+pub fn append_all_callers(numbers: &[i32], first: &[usize], edges: &mut [u32], from: usize) -> usize
     requires { ⌜ now first ≡ firstStatements (now numbers) ⌝ }
     requires { ⌜ Accepted (tableOf (now numbers)) ⌝ }
-    ensures { λ r. ⌜ Appended (now (edges .entry)) 0 (now (edges .exit)) r (edgesFor Callers (tableOf (now (numbers .entry)))) ⌝ }
+    ensures { λ r. ⌜ Appended (now (edges .entry)) from (now (edges .exit)) r (edgesFor Callers (tableOf (now (numbers .entry)))) ⌝ }
 {
     let base = table::first_line(numbers);
     let end = table::field_of(numbers, 0, 5);
-    let mut n = 0;
+    let mut n = from;
     let mut c = 0;
     let mut s = 0;
     while s < end {

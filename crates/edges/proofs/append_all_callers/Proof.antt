@@ -1,4 +1,4 @@
--- `edges::fill_callers` meets its contract. Assumes nothing.
+-- `edges::append_all_callers` meets its contract. Assumes nothing.
 use Rattle.edges.specs.LineLaws.{lined, every-edge}
 use native.Mathlib.Omega.{arith}
 use Prim.Native.Nat.{_-_}
@@ -8,14 +8,14 @@ use Rattle.edges.specs.EdgeLaws.{Growing, growing-start, growing-next}
 use Rattle.edges.specs.RoutineLaws.{Near, near-start}
 use borrow.Author.Needs.{needs}
 use borrow.Author.Needs.{needs}
-use Rattle.edges.proofs.fill_callers.Statement.{statement}
-use Rattle.edges.proofs.fill_callers.Tie as tie
+use Rattle.edges.proofs.append_all_callers.Statement.{statement}
+use Rattle.edges.proofs.append_all_callers.Tie as tie
 
 abbrev Inv-loop : tie.InvT-loop
-Inv-loop numbers first edges₀ base end n₀ c₀ s₀ edges n c s = Growing (edgesAt Callers (tableOf numbers)) end edges₀ 0 edges n s × Near numbers c s
+Inv-loop numbers first edges₀ from base end n₀ c₀ s₀ edges n c s = Growing (edgesAt Callers (tableOf numbers)) end edges₀ from edges n s × Near numbers c s
 
 abbrev μ-loop : tie.MeasureT-loop
-μ-loop numbers first edges₀ base end n₀ c₀ s₀ edges n c s = end - s
+μ-loop numbers first edges₀ from base end n₀ c₀ s₀ edges n c s = end - s
 
 first-line-requires : tie.Need-first-line-requires Inv-loop μ-loop
 first-line-requires c κs = search needs
@@ -47,8 +47,8 @@ same-length c = search needs
 returns : tie.Need-returns Inv-loop μ-loop
 returns c = every-edge Callers _ (c .before .before .field-of .ensures .0) (c .before .loop .inv .0) (c .loop-test .left)
 
-pub fill-callers-spec : {M : Type 1} → statement M
-fill-callers-spec =
+pub append-all-callers-spec : {M : Type 1} → statement M
+append-all-callers-spec =
     tie.close
     (tie.spec
     Inv-loop
