@@ -22,8 +22,6 @@ pub mod FlowLaws
 pub mod EffectLaws
 pub mod HeldLaws
 pub mod FutureLaws
-pub mod StageLaws
-pub mod FutureStages
 pub mod Unique
 pub mod ReportRules
 pub mod FindingsLaws

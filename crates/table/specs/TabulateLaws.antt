@@ -122,3 +122,27 @@ entry-behind n m g l k e b = at (ltb k n) refl
     at false t =
         let long : length l ≡ n = ap length e ∙ length-tabulate n (below m g) in
         List·getD-eq-default l 0 {n = k} (omega (arith, ltb-false k n t))
+
+-- ---- a list that a loop rewrites from its front
+
+-- the first p places hold what g says, those behind what they held before
+pub record Rewritten (g : ℕ → ℕ) (s₀ s : List ℕ) (p : ℕ) : Type 0 where
+  pub filled : Filled g s (length s₀) p
+  pub rest : (k : ℕ) → p ≤ k → getD s k 0 ≡ getD s₀ k 0
+
+pub rewritten-none : (g : ℕ → ℕ) (s : List ℕ) → Rewritten g s s 0
+rewritten-none g s = record { filled = filled-none g s (length s) refl; rest = λ k h. refl }
+
+pub rewritten-next : {g : ℕ → ℕ} {s₀ s : List ℕ} {p v : ℕ} → Rewritten g s₀ s p → p < length s → v ≡ g p → Rewritten g s₀ (set s p v) (p + 1)
+rewritten-next {g} {s₀} {s} {p} {v} r l e = record {
+  filled = filled-next g s (length s₀) p v (r .filled) (omega (arith, r .filled .long)) e;
+  rest = λ k h. getD-set-other s p k v 0 (λ q. omega (arith, q)) ∙ r .rest k (omega arith);
+}
+
+-- all of it, where g keeps what is behind
+pub rewritten-all : {g : ℕ → ℕ} {s₀ s : List ℕ} {p : ℕ} → Rewritten g s₀ s p → ((k : ℕ) → p ≤ k → k < length s₀ → g k ≡ getD s₀ k 0) → s ≡ tabulate (length s₀) g
+rewritten-all {g} {s₀} {s} {p} r keeps = is-tabulate (length s₀) g s 0 (r .filled .long) (λ k h. at k h (ltb k p) refl)
+  where
+    at : (k : ℕ) → k < length s₀ → (t : Bool) → ltb k p ≡ t → getD s k 0 ≡ g k
+    at k h true t = r .filled .holds k (ltb-true k p t)
+    at k h false t = let l : p ≤ k = ltb-false k p t in r .rest k l ∙ sym (keeps k l h)

@@ -1,5 +1,6 @@
 -- `dataflow::effect_sets` meets its contract. Assumes nothing.
-use Rattle.dataflow.specs.AnswerLaws.{count-there, answered}
+use mathlib.Core.Path.{_∙_}
+use Rattle.dataflow.specs.AnswerLaws.{count-there, solved, effect-answer}
 use Rattle.edges.specs.Equations.{Effects}
 use mathlib.Core.List.{[]}
 use borrow.Author.Needs.{needs}
@@ -25,7 +26,7 @@ same-length-3 : tie.Need-same-length-3
 same-length-3 c = search needs
 
 returns : tie.Need-returns
-returns c = (answered Effects _ (c .before .before .before .before .before .before .before .before .before .before .before .before .before .before .before .before .before .before .before .pre .0) (c .before .before .before .before .before .before .before .before .before .before .before .before .before .before .before .before .before .before .before .pre .1 .1 .0) (c .before .before .before .before .before .before .before .before .before .before .before .before .fill-naming .ensures) _ _ [] (c .before .before .before .before .before .before .before .before .before .before .before .before .before .before .before .before .before .before .before .pre .1 .1 .1 .0) (c .before .before .before .before .before .before .before .own-sets .ensures), answered Effects _ (c .before .before .before .before .before .before .before .before .before .before .before .before .before .before .before .before .before .before .before .pre .0) (c .before .before .before .before .before .before .before .before .before .before .before .before .before .before .before .before .before .before .before .pre .1 .1 .0) (c .before .before .before .before .before .before .before .before .before .before .before .before .fill-naming .ensures) _ _ [] (c .before .before .before .before .before .before .before .before .before .before .before .before .before .before .before .before .before .before .before .pre .1 .1 .1 .1) (c .before .before .own-sets2 .ensures))
+returns c = (solved Effects _ (c .before .before .before .before .before .before .before .before .before .before .before .before .before .before .before .before .before .before .before .pre .0) (c .before .before .before .before .before .before .before .before .before .before .before .before .before .before .before .before .before .before .before .pre .1 .1 .0) (c .before .before .before .before .before .before .before .before .before .before .before .before .fill-naming .ensures) _ (c .before .before .before .before .before .before .before .own-sets .ensures) ∙ effect-answer _ _ _ (c .before .before .before .before .before .before .before .before .before .before .before .before .before .before .before .before .before .before .before .pre .1 .1 .1 .0), solved Effects _ (c .before .before .before .before .before .before .before .before .before .before .before .before .before .before .before .before .before .before .before .pre .0) (c .before .before .before .before .before .before .before .before .before .before .before .before .before .before .before .before .before .before .before .pre .1 .1 .0) (c .before .before .before .before .before .before .before .before .before .before .before .before .fill-naming .ensures) _ (c .before .before .own-sets2 .ensures) ∙ effect-answer _ _ _ (c .before .before .before .before .before .before .before .before .before .before .before .before .before .before .before .before .before .before .before .pre .1 .1 .1 .1))
 
 pub effect-sets-spec : {M : Type 1} → statement M
 effect-sets-spec =

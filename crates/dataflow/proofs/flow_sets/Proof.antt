@@ -1,5 +1,5 @@
 -- `dataflow::flow_sets` meets its contract. Assumes nothing.
-use Rattle.dataflow.specs.AnswerLaws.{count-there, answered}
+use Rattle.dataflow.specs.AnswerLaws.{count-there, solved, flow-answer}
 use Rattle.edges.specs.Equations.{Flow}
 use mathlib.Core.List.{[]}
 use mathlib.Core.Bool.{false}
@@ -25,7 +25,7 @@ same-length-2 : tie.Need-same-length-2
 same-length-2 c = search needs
 
 returns : tie.Need-returns
-returns c = answered Flow _ (c .before .before .before .before .before .before .before .before .before .before .before .before .before .before .before .before .before .pre .0) (c .before .before .before .before .before .before .before .before .before .before .before .before .before .before .before .before .before .pre .1 .1 .1 .0) (c .before .before .before .before .before .before .before .before .before .before .before .fill-flow .ensures) false [] [] (c .before .before .before .before .before .before .before .before .before .before .before .before .before .before .before .before .before .pre .1 .1 .1 .1) (c .before .before .settle .ensures ∙ ap (least _) (c .before .before .before .before .before .before .before .fill-flow2 .ensures))
+returns c = solved Flow _ (c .before .before .before .before .before .before .before .before .before .before .before .before .before .before .before .before .before .pre .0) (c .before .before .before .before .before .before .before .before .before .before .before .before .before .before .before .before .before .pre .1 .1 .1 .0) (c .before .before .before .before .before .before .before .before .before .before .before .fill-flow .ensures) _ (c .before .before .settle .ensures ∙ ap (least _) (c .before .before .before .before .before .before .before .fill-flow2 .ensures)) ∙ flow-answer _ (c .before .before .before .before .before .before .before .before .before .before .before .before .before .before .before .before .before .pre .1 .1 .1 .1)
 
 pub flow-sets-spec : {M : Type 1} → statement M
 flow-sets-spec =

@@ -1,8 +1,7 @@
--- `dataflow::future_sets` meets its contract: each half of the list is the answer to its equation. Assumes nothing.
+-- `dataflow::future_sets` meets its contract: each half of the list is the futures, in two stages. Assumes nothing.
 use denote.Ref.{now}
-use Rattle.dataflow.specs.AnswerLaws.{count-there, answered}
+use Rattle.dataflow.specs.AnswerLaws.{stage-parts, futures-left}
 use Rattle.dataflow.specs.HalfLaws.{first-half, second-half, both-halves}
-use Rattle.edges.specs.Equations.{Futures}
 use mathlib.Core.List.{List, _++_}
 use mathlib.Core.Path.{sym, ap₂, _∙_}
 use Prim.Native.Nat.{ℕ}
@@ -12,8 +11,11 @@ use borrow.Author.Needs.{needs}
 use Rattle.dataflow.proofs.future_sets.Statement.{statement}
 use Rattle.dataflow.proofs.future_sets.Tie as tie
 
-fill-future-requires : tie.Need-fill-future-requires
-fill-future-requires c κs = search needs
+fill-nexts-requires : tie.Need-fill-nexts-requires
+fill-nexts-requires c κs = search needs
+
+append-all-callers-requires : tie.Need-append-all-callers-requires
+append-all-callers-requires c κs = search needs
 
 slice-relend-prefix-later-sets : tie.Need-slice-relend-prefix-later-sets
 slice-relend-prefix-later-sets c = search needs
@@ -22,7 +24,9 @@ slice-aggregate-later-sets : tie.Need-slice-aggregate-later-sets
 slice-aggregate-later-sets c = sym (length-take-le _ _ (omega arith))
 
 later-sets-requires : tie.Need-later-sets-requires
-later-sets-requires c κs = (c .before .before .before .before .before .before .before .before .before .before .before .before .pre .0, count-there Futures _ (c .before .before .before .before .before .before .before .before .before .before .before .before .pre .0) (c .before .before .before .before .before .before .before .before .before .before .before .before .pre .1 .1 .0) (c .before .before .before .before .fill-future .ensures))
+later-sets-requires c κs =
+    let parts = stage-parts _ (c .before .before .before .before .before .before .before .before .before .before .before .before .before .before .before .before .pre .0) (c .before .before .before .before .before .before .before .before .before .before .before .before .before .before .before .before .pre .1 .1 .0) (c .before .before .before .before .before .before .before .before .fill-nexts .ensures) (c .before .before .before .before .append-all-callers .ensures) in
+    (c .before .before .before .before .before .before .before .before .before .before .before .before .before .before .before .before .pre .0, (c .before .before .before .before .before .before .before .before .before .before .before .before .before .before .before .before .pre .1 .0, ((parts .order, parts .there), first-half (now (c .before .before .before .before .before .before .before .before .before .before .before .before .before .before .before .before .args .later)) (c .before .before .before .before .before .before .before .before .before .before .before .before .before .before .before .before .pre .1 .1 .1))))
 
 mul-later-sets : tie.Need-mul-later-sets
 mul-later-sets c = search needs
@@ -37,7 +41,9 @@ part-later-sets-end : tie.Need-part-later-sets-end
 part-later-sets-end c = search needs
 
 later-sets-requires-2 : tie.Need-later-sets-requires-2
-later-sets-requires-2 c κs = (c .before .before .before .before .before .before .before .before .before .before .before .before .before .before .before .before .before .pre .0, count-there Futures _ (c .before .before .before .before .before .before .before .before .before .before .before .before .before .before .before .before .before .pre .0) (c .before .before .before .before .before .before .before .before .before .before .before .before .before .before .before .before .before .pre .1 .1 .0) (c .before .before .before .before .before .before .before .before .before .fill-future .ensures))
+later-sets-requires-2 c κs =
+    let parts = stage-parts _ (c .before .before .before .before .before .before .before .before .before .before .before .before .before .before .before .before .before .before .before .before .before .pre .0) (c .before .before .before .before .before .before .before .before .before .before .before .before .before .before .before .before .before .before .before .before .before .pre .1 .1 .0) (c .before .before .before .before .before .before .before .before .before .before .before .before .before .fill-nexts .ensures) (c .before .before .before .before .before .before .before .before .before .append-all-callers .ensures) in
+    (c .before .before .before .before .before .before .before .before .before .before .before .before .before .before .before .before .before .before .before .before .before .pre .0, (c .before .before .before .before .before .before .before .before .before .before .before .before .before .before .before .before .before .before .before .before .before .pre .1 .0, ((parts .order, parts .there), second-half (now (c .before .before .before .before .before .before .before .before .before .before .before .before .before .before .before .before .before .before .before .before .before .args .later)) (c .before .before .before .before .later-sets .last .1 .1 .1 .1 .1 .1 .1 .1 .0) (c .before .before .before .later .given .0) (c .before .before .before .before .before .before .before .before .before .before .before .before .before .before .before .before .before .before .before .before .before .pre .1 .1 .1))))
 
 same-length : tie.Need-same-length
 same-length c = search needs
@@ -46,13 +52,14 @@ same-length-2 : tie.Need-same-length-2
 same-length-2 c = search needs
 
 returns : tie.Need-returns
-returns c = both-halves (now (c .before .before .before .before .before .before .before .before .before .before .before .before .before .before .before .before .before .before .before .before .args .later)) (c .before .before .before .before .before .before .before .later-sets .last .1 .1 .1 .1 .1 .1 .0) (c .before .before .before .before .before .before .later .given .0) (c .before .before .later-sets2 .last .1 .1 .1 .1 .1 .1 .0) ∙ ap₂ {C = List ℕ} (λ (a b : List ℕ). a ++ b) (answered Futures _ (c .before .before .before .before .before .before .before .before .before .before .before .before .before .before .before .before .before .before .before .before .pre .0) (c .before .before .before .before .before .before .before .before .before .before .before .before .before .before .before .before .before .before .before .before .pre .1 .1 .0) (c .before .before .before .before .before .before .before .before .before .before .before .before .fill-future .ensures) _ _ _ (first-half (now (c .before .before .before .before .before .before .before .before .before .before .before .before .before .before .before .before .before .before .before .before .args .later)) (c .before .before .before .before .before .before .before .before .before .before .before .before .before .before .before .before .before .before .before .before .pre .1 .1 .1)) (c .before .before .before .before .before .before .before .later-sets .ensures)) (answered Futures _ (c .before .before .before .before .before .before .before .before .before .before .before .before .before .before .before .before .before .before .before .before .pre .0) (c .before .before .before .before .before .before .before .before .before .before .before .before .before .before .before .before .before .before .before .before .pre .1 .1 .0) (c .before .before .before .before .before .before .before .before .before .before .before .before .fill-future .ensures) _ _ _ (second-half (now (c .before .before .before .before .before .before .before .before .before .before .before .before .before .before .before .before .before .before .before .before .args .later)) (c .before .before .before .before .before .before .before .later-sets .last .1 .1 .1 .1 .1 .1 .0) (c .before .before .before .before .before .before .later .given .0) (c .before .before .before .before .before .before .before .before .before .before .before .before .before .before .before .before .before .before .before .before .pre .1 .1 .1)) (c .before .before .later-sets2 .ensures))
+returns c = both-halves (now (c .before .before .before .before .before .before .before .before .before .before .before .before .before .before .before .before .before .before .before .before .before .before .before .before .args .later)) (c .before .before .before .before .before .before .before .later-sets .last .1 .1 .1 .1 .1 .1 .1 .1 .0) (c .before .before .before .before .before .before .later .given .0) (c .before .before .later-sets2 .last .1 .1 .1 .1 .1 .1 .1 .1 .0) ∙ ap₂ {C = List ℕ} (λ (a b : List ℕ). a ++ b) (futures-left _ (c .before .before .before .before .before .before .before .before .before .before .before .before .before .before .before .before .before .before .before .before .before .before .before .before .pre .0) (c .before .before .before .before .before .before .before .before .before .before .before .before .before .before .before .before .before .before .before .before .before .before .before .before .pre .1 .1 .0) (c .before .before .before .before .before .before .before .before .before .before .before .before .before .before .before .before .fill-nexts .ensures) (c .before .before .before .before .before .before .before .before .before .before .before .before .append-all-callers .ensures) (now (c .before .before .before .before .before .before .before .before .before .before .before .before .before .before .before .before .before .before .before .before .before .before .before .before .args .flow)) (λ i. omega (arith, c .before .before .before .before .before .before .before .before .before .before .before .before .before .before .before .before .before .before .before .before .before .before .shared-slice-known2 .given i)) (now (c .before .before .before .before .before .before .before .before .before .before .before .before .before .before .before .before .before .before .before .before .before .before .before .before .args .reads)) (λ i. omega (arith, c .before .before .before .before .before .before .before .before .before .before .before .before .before .before .before .before .before .before .before .before .before .shared-slice-known3 .given i)) _ (first-half (now (c .before .before .before .before .before .before .before .before .before .before .before .before .before .before .before .before .before .before .before .before .before .before .before .before .args .later)) (c .before .before .before .before .before .before .before .before .before .before .before .before .before .before .before .before .before .before .before .before .before .before .before .before .pre .1 .1 .1)) (c .before .before .before .before .before .before .before .later-sets .ensures)) (futures-left _ (c .before .before .before .before .before .before .before .before .before .before .before .before .before .before .before .before .before .before .before .before .before .before .before .before .pre .0) (c .before .before .before .before .before .before .before .before .before .before .before .before .before .before .before .before .before .before .before .before .before .before .before .before .pre .1 .1 .0) (c .before .before .before .before .before .before .before .before .before .before .before .before .before .before .before .before .fill-nexts .ensures) (c .before .before .before .before .before .before .before .before .before .before .before .before .append-all-callers .ensures) (now (c .before .before .before .before .before .before .before .before .before .before .before .before .before .before .before .before .before .before .before .before .before .before .before .before .args .flow)) (λ i. omega (arith, c .before .before .before .before .before .before .before .before .before .before .before .before .before .before .before .before .before .before .before .before .before .before .shared-slice-known2 .given i)) (now (c .before .before .before .before .before .before .before .before .before .before .before .before .before .before .before .before .before .before .before .before .before .before .before .before .args .writes)) (λ i. omega (arith, c .before .before .before .before .before .before .before .before .before .before .before .before .before .before .before .before .before .before .before .before .shared-slice-known4 .given i)) _ (second-half (now (c .before .before .before .before .before .before .before .before .before .before .before .before .before .before .before .before .before .before .before .before .before .before .before .before .args .later)) (c .before .before .before .before .before .before .before .later-sets .last .1 .1 .1 .1 .1 .1 .1 .1 .0) (c .before .before .before .before .before .before .later .given .0) (c .before .before .before .before .before .before .before .before .before .before .before .before .before .before .before .before .before .before .before .before .before .before .before .before .pre .1 .1 .1)) (c .before .before .later-sets2 .ensures))
 
 pub future-sets-spec : {M : Type 1} → statement M
 future-sets-spec =
     tie.close
     (tie.spec
-    fill-future-requires
+    fill-nexts-requires
+    append-all-callers-requires
     slice-relend-prefix-later-sets
     slice-aggregate-later-sets
     later-sets-requires

@@ -1,5 +1,6 @@
 -- `dataflow::given_sets` meets its contract. Assumes nothing.
-use Rattle.dataflow.specs.AnswerLaws.{count-there, answered}
+use mathlib.Core.Path.{_∙_}
+use Rattle.dataflow.specs.AnswerLaws.{count-there, solved, given-answer}
 use Rattle.edges.specs.Equations.{Gives}
 use mathlib.Core.List.{[]}
 use borrow.Author.Needs.{needs}
@@ -19,7 +20,7 @@ same-length-2 : tie.Need-same-length-2
 same-length-2 c = search needs
 
 returns : tie.Need-returns
-returns c = answered Gives _ (c .before .before .before .before .before .before .before .before .before .before .before .before .before .pre .0) (c .before .before .before .before .before .before .before .before .before .before .before .before .before .pre .1 .1 .0) (c .before .before .before .before .before .before .before .fill-naming .ensures) _ _ [] (c .before .before .before .before .before .before .before .before .before .before .before .before .before .pre .1 .1 .1) (c .before .before .own-sets .ensures)
+returns c = solved Gives _ (c .before .before .before .before .before .before .before .before .before .before .before .before .before .pre .0) (c .before .before .before .before .before .before .before .before .before .before .before .before .before .pre .1 .1 .0) (c .before .before .before .before .before .before .before .fill-naming .ensures) _ (c .before .before .own-sets .ensures) ∙ given-answer _ _ _ (c .before .before .before .before .before .before .before .before .before .before .before .before .before .pre .1 .1 .1)
 
 pub given-sets-spec : {M : Type 1} → statement M
 given-sets-spec =

@@ -1,6 +1,7 @@
--- `dataflow::later_sets` meets its contract. Assumes nothing.
+-- `dataflow::later_sets` meets its contract: what each stage leaves, the next begins with. Assumes nothing.
 use mathlib.Core.Path.{ap, _∙_}
 use Rattle.sets.specs.Least.{least}
+use Rattle.dataflow.specs.StageLaws.{spread}
 use borrow.Author.Needs.{needs}
 use Rattle.dataflow.proofs.later_sets.Statement.{statement}
 use Rattle.dataflow.proofs.later_sets.Tie as tie
@@ -11,11 +12,41 @@ fill-future-requires c κs = search needs
 settle-requires : tie.Need-settle-requires
 settle-requires c κs = search needs
 
+mul-solve-plain : tie.Need-mul-solve-plain
+mul-solve-plain c = search needs
+
+sub-solve-plain : tie.Need-sub-solve-plain
+sub-solve-plain c = search needs
+
+part-solve-plain-start : tie.Need-part-solve-plain-start
+part-solve-plain-start c = search needs
+
+part-solve-plain-end : tie.Need-part-solve-plain-end
+part-solve-plain-end c = search needs
+
+solve-plain-requires : tie.Need-solve-plain-requires
+solve-plain-requires c κs = search needs
+
+spread-requires : tie.Need-spread-requires
+spread-requires c κs = (c .before .before .before .before .before .before .before .before .before .before .before .before .before .before .before .before .before .before .before .pre .0, (c .before .before .before .before .before .before .before .before .before .before .before .before .before .before .before .before .before .before .before .pre .1 .0, search needs))
+
 same-length : tie.Need-same-length
 same-length c = search needs
 
 returns : tie.Need-returns
-returns c = c .before .before .settle .ensures ∙ ap (least _) (c .before .before .before .before .before .before .fill-future .ensures)
+returns c = c .before .before .spread .ensures ∙ ap (spread _ _ _) (c .before .before .before .before .before .before .solve-plain .ensures ∙ ap (least _) (c .before .before .before .before .before .before .before .before .before .before .before .settle .ensures ∙ ap (least _) (c .before .before .before .before .before .before .before .before .before .before .before .before .before .before .before .fill-future .ensures)))
 
 pub later-sets-spec : {M : Type 1} → statement M
-later-sets-spec = tie.close (tie.spec fill-future-requires settle-requires same-length returns)
+later-sets-spec =
+    tie.close
+    (tie.spec
+    fill-future-requires
+    settle-requires
+    mul-solve-plain
+    sub-solve-plain
+    part-solve-plain-start
+    part-solve-plain-end
+    solve-plain-requires
+    spread-requires
+    same-length
+    returns)

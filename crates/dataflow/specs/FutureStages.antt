@@ -11,30 +11,31 @@ use Rattle.table.specs.Table.{Table, statement}
 use Rattle.table.specs.View.{view, On, listOn, calls}
 use Rattle.table.specs.ViewLaws.{list-has, list-from, calls-names}
 use Rattle.table.specs.Accepted.{Accepted}
 use Rattle.report.specs.Over.{joinedFrom}
 use Rattle.report.specs.OverLaws.{joined-has, joined-from, below-within, within-below}
 use Rattle.report.specs.Layout.{Layout}
 use Rattle.report.specs.Fits.{Fits, StatementPlaced, copiesOf}
 use Rattle.report.specs.Operations.{nexts}
 use Rattle.report.specs.Future.{callers, futureEdges, futureInitials, futures}
 use Rattle.report.specs.FutureLaws.{starts-sets}
 use Rattle.report.specs.NextLaws.{next-goes, goes-placed, map-from}
 use Rattle.report.specs.PlaceLaws.{placed, place-at}
 use Rattle.report.specs.Rules.{Place, Goes}
-use Rattle.report.specs.StageLaws.{Groups, staged, staged-least}
+use Rattle.dataflow.specs.StageLaws.{Groups, staged, staged-least}
 
 module _ (t : Table) (k : Layout) where
   -- to the statement at a place from what may come next
   abbrev pub nextsAt : ℕ → List Edge
   nextsAt p = map (λ (n : ℕ). plain (k .statementPlace (k .statementCopy p) n) p) (nexts (k .statementAt p) (statement t (k .statementAt p)))
 
+  -- from place z to the CALLs of the copy that the CALL at place p leads to
+  abbrev callFrom : ℕ → ℕ → List Edge
+  callFrom p z =
+      listOn (calls (view (statement t (k .statementAt p)))) (λ q. plain z (callers k (k .leads (k .statementCopy p) (k .statementAt p))) ∷ [])
+
   -- from the CALL at a place, and from the CALLs of its copy, to those of the copy that it leads to
   abbrev pub callersAt : ℕ → List Edge
-  callersAt p =
-      listOn (calls (view (statement t (k .statementAt p))))
-      (λ q.
-      plain p (callers k (k .leads (k .statementCopy p) (k .statementAt p)))
-      ∷ plain (callers k (k .statementCopy p)) (callers k (k .leads (k .statementCopy p) (k .statementAt p))) ∷ [])
+  callersAt p = callFrom p p ++ callFrom p (callers k (k .statementCopy p))
 
   -- those of all statements
   unfoldable pub nextEdges : List Edge
@@ -48,7 +49,7 @@ module _ (t : Table) (k : Layout) where
   futuresAt p =
       nextsAt p
       ++ (plain (callers k (k .statementCopy p)) p
-      ∷ listOn (calls (view (statement t (k .statementAt p)))) (λ q. plain p (callers k (k .leads (k .statementCopy p) (k .statementAt p))) ∷ []))
+      ∷ callFrom p p)
 
   -- the statement at place p is a CALL that leads to copy g
   abbrev Calls : ℕ → ℕ → Type 0
@@ -131,21 +132,27 @@ module _ (t : Table) (k : Layout) where
     unfolding callerEdges callers
     outer-cases e m =
         let r = joined-from 0 (k .statements) callersAt e m in
-        let p : ℕ = r .0 in
-        let l : p < k .statements = within-below (r .1) in
-        let o = list-from _ _ e (r .2) in
-        (p, k .leads (k .statementCopy p) (k .statementAt p), (l, (o .0, o .1, refl)), one (o .2))
+        go (r .0) (within-below (r .1)) (List·Memᴰ·append-cases (callFrom (r .0) (r .0)) (r .2))
       where
-        one : {a b : Edge} → List·Memᴰ e (a ∷ b ∷ []) → (e ≡ a) ⊎ (e ≡ b)
-        one (List·Memᴰ·head i) = inl i
-        one (List·Memᴰ·tail i) = inr (List·Memᴰ·eq-of-singleton i)
+        one : (p z : ℕ) → p < k .statements → List·Memᴰ e (callFrom p z)
+            → Calls p (k .leads (k .statementCopy p) (k .statementAt p)) × (e ≡ plain z (k .statements + k .leads (k .statementCopy p) (k .statementAt p)))
+        one p z l m = let o = list-from _ _ e m in ((l, (o .0, o .1, refl)), List·Memᴰ·eq-of-singleton (o .2))
 
-    outer-both : (p g : ℕ) → Calls p g → (e : Edge)
-        → List·Memᴰ e (plain p (k .statements + g) ∷ plain (k .statements + k .statementCopy p) (k .statements + g) ∷ []) → List·Memᴰ e callerEdges
+        go : (p : ℕ) → p < k .statements → List·Memᴰ e (callFrom p p) ⊎ List·Memᴰ e (callFrom p (callers k (k .statementCopy p)))
+            → (p : ℕ) × (g : ℕ) × Calls p g × ((e ≡ plain p (k .statements + g)) ⊎ (e ≡ plain (k .statements + k .statementCopy p) (k .statements + g)))
+        go p l (inl i) = let o = one p p l i in (p, k .leads (k .statementCopy p) (k .statementAt p), o .0, inl (o .1))
+        go p l (inr i) = let o = one p (callers k (k .statementCopy p)) l i in (p, k .leads (k .statementCopy p) (k .statementAt p), o .0, inr (o .1))
+
+    outer-place : (p g : ℕ) → Calls p g → List·Memᴰ (plain p (k .statements + g)) callerEdges
     unfolding callerEdges callers
-    outer-both p g c e m =
-        in-some callersAt p e (c .0)
-        (call-among p g c (λ h. plain p (k .statements + h) ∷ plain (k .statements + k .statementCopy p) (k .statements + h) ∷ []) e m)
+    outer-place p g c =
+        in-some callersAt p _ (c .0) (Memᴰ·append-left _ (call-among p g c (λ h. plain p (k .statements + h) ∷ []) _ (List·Memᴰ·head refl)))
+
+    outer-group : (p g : ℕ) → Calls p g → List·Memᴰ (plain (k .statements + k .statementCopy p) (k .statements + g)) callerEdges
+    unfolding callerEdges callers
+    outer-group p g c =
+        in-some callersAt p _ (c .0)
+        (Memᴰ·append-right (callFrom p p) (call-among p g c (λ h. plain (k .statements + k .statementCopy p) (k .statements + h) ∷ []) _ (List·Memᴰ·head refl)))
 
     groups : Groups (k .statements) (k .copies) (k .statementCopy) Calls (futureEdges t k) nextEdges callerEdges
     groups = record {
@@ -157,8 +164,8 @@ module _ (t : Table) (k : Layout) where
       has-call = has-call;
       within = within;
       outer-cases = outer-cases;
-      outer-place = λ p g c. outer-both p g c _ (List·Memᴰ·head refl);
-      outer-group = λ p g c. outer-both p g c _ (List·Memᴰ·tail (List·Memᴰ·head refl));
+      outer-place = outer-place;
+      outer-group = outer-group;
     }
 
     -- the futures are what the two stages leave
