@@ -32,7 +32,7 @@ use Rattle.report.specs.PlaceLaws.{place-at, of-some}
 use Rattle.report.specs.Rules.{Place}
 use Rattle.report.specs.Held.{entry}
 use Rattle.lock_edges.specs.HeldEdges.{backPlace, givenPlace, flowPlace, otherPlace, everyPlace, placeCount, metPlace, edgesAt, heldEdges}
-use Rattle.lock_edges.specs.StoreLaws.{Room}
+use Rattle.lock_edges.specs.StoreLaws.{store, Room, Appended, Ready, ready}
 use Rattle.lock_edges.specs.EdgePlaceLaws.{place-there, entry-there, handle-there, operands-of, next-there, leads-there, met-there}
 
 -- ---- how many
@@ -147,7 +147,7 @@ module _ (t : Table) (k : Layout) (acc : Accepted t) (fits : Fits t k) where
       (subst (λ (q : ℕ). List·Memᴰ e (edgesAt t k q (k .statementCopy (r .0)) (k .statementAt (r .0)) (statement t (k .statementAt (r .0))))) (sym i) (r .2))
 
 -- with one copy of each routine there is room
-pub held-room : (t : Table) → Accepted t → Room (3 * length (t .statements) + 1) (heldEdges t (oneEach t))
+held-room : (t : Table) → Accepted t → Room (3 * length (t .statements) + 1) (heldEdges t (oneEach t))
 unfolding heldEdges oneEach
 held-room t acc = record {
   room =
@@ -159,3 +159,8 @@ held-room t acc = record {
       let n : placeCount (oneEach t) ≤ 65536 = omega (arith, acc .statements-most, acc .routines-most, acc .handles-most) in
       (omega (arith, r .0), omega (arith, r .1), omega (arith, r .2));
 }
+
+pub held-ready : (f : List ℤ) → Accepted (tableOf f) → {ends also ends′ also′ : List ℕ} {n : ℕ} → 3 * statements f + 1 ≤ length ends → 3 * statements f + 1 ≤ length also
+    → Appended (store ends also 0) (store ends′ also′ n) (heldEdges (tableOf f) (oneEach (tableOf f))) → Ready ends′ also′ n (heldEdges (tableOf f) (oneEach (tableOf f)))
+held-ready f acc {ends} {also} l m a =
+    ready (3 * length (tableOf f .statements) + 1) (omega (arith, statements-length f)) (omega (arith, statements-length f)) a (held-room (tableOf f) acc)
