@@ -12,9 +12,9 @@ use Rattle.table.specs.Table.{Table, tableOf, statement}
 use Rattle.table.specs.Accepted.{Accepted}
 use Rattle.table.specs.Tabulate.{tabulate}
 use Rattle.table.specs.declared.Statement.{Statement}
-use Rattle.table.specs.declared.Statement.the-variants.{Read, Write, Set, Add, Take, Give, Point, Call, Start, Jump, JumpZero, Return}
 use Rattle.report.specs.OverLaws.{within-below}
 use Rattle.report.specs.Layout.{oneEach}
+use Rattle.report.specs.Operations.{accessed, given}
 use Rattle.report.specs.Flow.{passing, flowEdges, allFlowEdges, flowInitials, flowSets}
 use Rattle.report.specs.Effect.{overCopy, upFrom, namingEdges, callEdges as upCallEdges, effects, gives, effectOf}
 use Rattle.report.specs.Future.{callers, nextEffects, futureEdges, futureInitials, futures}
@@ -35,18 +35,7 @@ answer Futures w flow effect t = futures t (oneEach t) flow effect w
 -- the copy makes no difference to what a statement puts into what
 flow-copy : (t : Table) (c s : ℕ) (σ : Statement) → flowEdges t (oneEach t) 0 s σ ≡ flowEdges t (oneEach t) c s σ
 unfolding flowEdges passing oneEach
-flow-copy t c s (Read h) = refl
-flow-copy t c s (Write h) = refl
-flow-copy t c s (Set n) = refl
-flow-copy t c s (Add n) = refl
-flow-copy t c s (Take h) = refl
-flow-copy t c s (Give h) = refl
-flow-copy t c s (Point h g) = refl
-flow-copy t c s (Call q d) = refl
-flow-copy t c s (Start q d) = refl
-flow-copy t c s (Jump z) = refl
-flow-copy t c s (JumpZero z) = refl
-flow-copy t c s Return = refl
+flow-copy t c s σ = refl
 
 module _ (t : Table) where
   flow-edges : edgesFor Flow t ≡ allFlowEdges t (oneEach t)
@@ -87,7 +76,7 @@ module _ (t : Table) where
 
   module _ (w : Bool) (flow effect : List ℕ) where
     same-sets : (q : Equation) → least (reportEdges q) (tabulate (placesOf q t) (initialAt q w flow effect t)) ≡ answer q w flow effect t
-    unfolding reportEdges flowSets flowInitials effects gives inRoutine ownSet overCopy futures futureInitials futureInitial nextEffects nextsEffect effectAt effectOf oneEach
+    unfolding reportEdges flowSets flowInitials effects gives accessed given inRoutine ownSet overCopy futures futureInitials futureInitial nextEffects nextsEffect effectAt effectOf oneEach
     same-sets Flow = refl
     same-sets Effects = refl
     same-sets Gives = refl

@@ -5,12 +5,16 @@ use mathlib.Core.Bool.{Bool, true, false, cond}
 use mathlib.Core.List.{List, [], _∷_, _++_, map}
 use lib.Dec.{ltb}
 use lib.ListN.{length, getD}
+use Rattle.sets.specs.Set.{union}
 use Rattle.sets.specs.Least.{Edge, plain}
 use Rattle.table.specs.Table.{Table, routine, statement}
+use Rattle.table.specs.View.{view, setOn, listOn, calls, accesses}
+use Rattle.table.specs.declared.Reference.{Reference}
+use Rattle.table.specs.declared.View.{View}
 use Rattle.table.specs.declared.Statement.{Statement}
 use Rattle.report.specs.Over.{joinedFrom, unionFrom, unionAt}
 use Rattle.report.specs.Layout.{named, ownerOf, oneEach}
-use Rattle.report.specs.Operations.{nexts, byNaming, accessed, given}
+use Rattle.report.specs.Operations.{nexts}
 use Rattle.report.specs.Flow.{flowEdges, startOf}
 
 -- what is asked of a table: flow sets, effects, given-up locks, futures
@@ -27,7 +31,7 @@ edge f t = plain f t
 
 -- from the routine that a CALL names, or also a START, to the routine c that it stands in
 unfoldable pub upEdges : Bool → ℕ → Statement → List Edge
-upEdges starts c σ = byNaming (edge (named σ) c ∷ []) (cond starts (edge (named σ) c ∷ []) []) [] σ
+upEdges starts c σ = listOn (cond starts (view σ .names) (calls (view σ))) (λ q. edge (named σ) c ∷ [])
 
 -- to statement s from what may come next
 unfoldable pub nextEdges : ℕ → Statement → List Edge
@@ -35,7 +39,7 @@ nextEdges s σ = map (λ (n : ℕ). edge n s) (nexts s σ)
 
 -- from a CALL, statement s, to the place of the CALLs of the routine that it names; these places stand from `base` on
 unfoldable pub callEdges : ℕ → ℕ → Statement → List Edge
-callEdges base s σ = byNaming (edge s (base + named σ) ∷ []) [] [] σ
+callEdges base s σ = listOn (calls (view σ)) (λ q. edge s (base + named σ) ∷ [])
 
 -- those of statement s
 unfoldable pub edgesAt : Equation → Table → ℕ → List Edge
@@ -57,19 +61,17 @@ edgesFor q t = joinedFrom 0 (length (t .statements)) (edgesAt q t)
 
 -- ---- initial sets
 
+-- the handle through which a statement gives up a lock, or reads or writes a cell
+abbrev pub touched : Bool → Bool → View → Reference
+touched locks w v = cond locks (v .gives) (accesses w v)
+
 -- the locks that a statement itself may give up, or the cells that it reads or writes
 unfoldable pub ownSet : Bool → Bool → List ℕ → Statement → ℕ
-ownSet locks w flow σ = cond locks (given (λ (h : ℕ). getD flow h 0) σ) (accessed w (λ (h : ℕ). getD flow h 0) 0 σ)
+ownSet locks w flow σ = setOn (touched locks w (view σ)) (λ (h : ℕ). getD flow h 0)
 
 -- those of statement s
 abbrev pub ownAt : Bool → Bool → List ℕ → Table → ℕ → ℕ
 ownAt locks w flow t s = ownSet locks w flow (statement t s)
-
--- the number of the operation that does this
-unfoldable pub operationOf : Bool → Bool → ℕ
-operationOf true w = 6
-operationOf false true = 2
-operationOf false false = 1
 
 -- the union of these over the statements of routine r
 unfoldable pub inRoutine : Bool → Bool → List ℕ → Table → ℕ → ℕ
@@ -77,7 +79,8 @@ inRoutine locks w flow t r = unionFrom (routine t r .first) (routine t r .count)
 
 -- the effect of statement s
 unfoldable pub effectAt : Bool → List ℕ → List ℕ → Table → ℕ → ℕ
-effectAt w flow effect t s = accessed w (λ (h : ℕ). getD flow h 0) (getD effect (named (statement t s)) 0) (statement t s)
+effectAt w flow effect t s =
+    union (ownSet false w flow (statement t s)) (setOn (view (statement t s) .names) (λ q. getD effect (named (statement t s)) 0))
 
 -- the effects of the statements that may come after statement s
 unfoldable pub nextsEffect : Bool → List ℕ → List ℕ → Table → ℕ → ℕ

@@ -1,6 +1,6 @@
 -- A list of four places a statement has room for the edges of every equation: at most four a statement, and every number small. Assumes nothing.
 use Prim.Native.Nat.{ℕ, zero, suc, _+_, _*_, _≤_, _<_}
-use mathlib.Core.Path.{sym, subst}
+use mathlib.Core.Path.{_≡_, refl, sym, subst}
 use mathlib.Core.Bool.{Bool, true, false, not, cond}
 use mathlib.Core.Logic.{_⊎_, inl, inr}
 use mathlib.Core.List.{List, [], _∷_, _++_, List·Memᴰ, List·Memᴰ·append-cases, List·Memᴰ·eq-of-singleton}
@@ -16,15 +16,18 @@ use Rattle.table.specs.LookupLaws.{statements-length}
 use Rattle.table.specs.UntilLaws.{until-range}
 use Rattle.table.specs.declared.Arguments.{Arguments}
 use Rattle.table.specs.declared.Statement.{Statement}
-use Rattle.table.specs.declared.Statement.the-variants.{Read, Write, Set, Add, Take, Give, Point, Call, Start, Jump, JumpZero, Return}
+use Rattle.table.specs.View.{view, listOn, when, calls}
+use Rattle.table.specs.ViewLaws.{on-or, points-or-names}
+use Rattle.table.specs.declared.Reference.{Reference}
+use Rattle.table.specs.declared.Reference.the-variants.{To, Nothing}
 use Rattle.report.specs.Over.{joinedFrom}
 use Rattle.report.specs.OverLaws.{Within, joined-from, within-below}
 use Rattle.report.specs.Layout.{named, isIn, ownerOf, oneEach}
 use Rattle.report.specs.OneEach.{statement-below}
-use Rattle.report.specs.Operations.{nexts, byNaming}
 use Rattle.report.specs.Flow.{passing, flowEdges}
 use Rattle.edges.specs.Equations.{Equation, Flow, Effects, Gives, Futures, edge, upEdges, nextEdges, callEdges, edgesAt, edgesFor}
 use Rattle.edges.specs.EdgeLaws.{Room, Appended, Ready, ready}
+use Rattle.edges.specs.LineLaws.{next-parts}
 
 -- at most m edges, and every number small
 record Few (m : ℕ) (es : List Edge) : Type 0 where
@@ -62,38 +65,19 @@ few-joined m from n f h = record {
   small = λ e i. let r : (j : ℕ) × Within from n j × List·Memᴰ e (f j) = joined-from from n f e i in h (r .0) (r .1) .small e (r .2);
 }
 
-few-naming : {m : ℕ} (σ : Statement) (a b : List Edge) → Few m a → Few m b → Few m (byNaming a b [] σ)
-unfolding byNaming
-few-naming (Read h) a b u v = few-none
-few-naming (Write h) a b u v = few-none
-few-naming (Set n) a b u v = few-none
-few-naming (Add n) a b u v = few-none
-few-naming (Take h) a b u v = few-none
-few-naming (Give h) a b u v = few-none
-few-naming (Point h g) a b u v = few-none
-few-naming (Call q d) a b u v = u
-few-naming (Start q d) a b u v = v
-few-naming (Jump z) a b u v = few-none
-few-naming (JumpZero z) a b u v = few-none
-few-naming Return a b u v = few-none
+few-on : {m : ℕ} (r : Reference) (f : ℕ → List Edge) → ((n : ℕ) → r ≡ To n → Few m (f n)) → Few m (listOn r f)
+few-on {m} r f h = on-or (Few m) r f [] h few-none
+
+few-when : {m : ℕ} (b : Bool) (l : List Edge) → Few m l → Few m (when b l)
+few-when true l h = h
+few-when false l h = few-none
 
 module _ (t : Table) (acc : Accepted t) where
   -- ---- the numbers of a statement
 
   named-small : (r : ℕ) (σ : Statement) → Operands t r σ → named σ < 512
   unfolding named
-  named-small r (Read h) o = omega arith
-  named-small r (Write h) o = omega arith
-  named-small r (Set n) o = omega arith
-  named-small r (Add n) o = omega arith
-  named-small r (Take h) o = omega arith
-  named-small r (Give h) o = omega arith
-  named-small r (Point h g) o = omega arith
-  named-small r (Call q d) o = omega (arith, o .there, acc .routines-most)
-  named-small r (Start q d) o = omega (arith, o .there, acc .routines-most)
-  named-small r (Jump z) o = omega arith
-  named-small r (JumpZero z) o = omega arith
-  named-small r Return o = omega arith
+  named-small r σ o = on-or (λ (q : ℕ). q < 512) (view σ .names) (λ q. q) 0 (λ q n. omega (arith, o .passes q n .there, acc .routines-most)) (omega arith)
 
   owner-small : (s : ℕ) → ownerOf t s < 512
   unfolding ownerOf
@@ -114,60 +98,52 @@ module _ (t : Table) (acc : Accepted t) where
 
   few-flow : (r s : ℕ) (σ : Statement) → Operands t r σ → Few 4 (flowEdges t (oneEach t) 0 s σ)
   unfolding flowEdges oneEach passing
-  few-flow r s (Read h) o = few-none
-  few-flow r s (Write h) o = few-none
-  few-flow r s (Set n) o = few-none
-  few-flow r s (Add n) o = few-none
-  few-flow r s (Take h) o = few-none
-  few-flow r s (Give h) o = few-none
-  few-flow r s (Point h g) o = few-more 4 (omega arith) (few-one 0 (g .number) (h .number) (omega (arith, o .1 .there, acc .handles-most)) (omega (arith, o .0 .there, acc .handles-most)))
-  few-flow r s (Call q d) o = few-passing r q d o
-  few-flow r s (Start q d) o = few-passing r q d o
-  few-flow r s (Jump z) o = few-none
-  few-flow r s (JumpZero z) o = few-none
-  few-flow r s Return o = few-none
+  few-flow r s σ o = go (points-or-names σ)
+    where
+      points : Reference → List Edge
+      points r = listOn r (λ h. edge (view σ .source) h ∷ [])
+
+      named-edges : Reference → List Edge
+      named-edges r = listOn r (λ q. passing t (oneEach t) 0 0 q (view σ .arguments))
+
+      go : (view σ .points ≡ Nothing) ⊎ (view σ .names ≡ Nothing) → Few 4 (flowEdges t (oneEach t) 0 s σ)
+      go (inl e) =
+          few-both {m = 0} {n = 4} (points (view σ .points)) (named-edges (view σ .names)) (subst (λ r. Few 0 (points r)) (sym e) few-none)
+          (few-on (view σ .names) _ (λ q n. few-passing r q (view σ .arguments) (o .passes q n)))
+      go (inr e) =
+          few-both {m = 1} {n = 3} (points (view σ .points)) (named-edges (view σ .names))
+          (few-on (view σ .points) _
+          (λ h n.
+          let own = o .points h n in
+          few-one 0 (view σ .source) h (omega (arith, own .1 .there, acc .handles-most)) (omega (arith, own .0 .there, acc .handles-most))))
+          (subst (λ r. Few 3 (named-edges r)) (sym e) few-none)
 
   -- ---- effects and given-up locks
 
   few-up : (starts : Bool) (c : ℕ) (r : ℕ) (σ : Statement) → Operands t r σ → c < 512 → Few 1 (upEdges starts c σ)
   unfolding upEdges
   few-up starts c r σ o l =
-      let one : Few 1 (edge (named σ) c ∷ []) = few-one 0 (named σ) c (omega (arith, named-small r σ o)) (omega arith) in
-      few-naming σ _ _ one (go starts one)
-    where
-      go : (b : Bool) → Few 1 (edge (named σ) c ∷ []) → Few 1 (cond b (edge (named σ) c ∷ []) [])
-      go true one = one
-      go false one = few-none
+      few-on (cond starts (view σ .names) (calls (view σ))) (λ q. edge (named σ) c ∷ [])
+      (λ q e. few-one 0 (named σ) c (omega (arith, named-small r σ o)) (omega arith))
 
   -- ---- futures
 
   module _ (s r : ℕ) (l : s < 512) (b : r < length (t .routines)) where
-    on : Few 2 (edge (s + 1) s ∷ [])
-    on = few-one 1 (s + 1) s (omega arith) (omega arith)
-
     target-small : (z : ℕ) → InRoutine t r z → z < 65536
     target-small z i = omega (arith, statement-below t acc r z b i, acc .statements-most)
 
     few-next : (σ : Statement) → Operands t r σ → Few 2 (nextEdges s σ)
-    unfolding nextEdges nexts
-    few-next (Read h) o = on
-    few-next (Write h) o = on
-    few-next (Set n) o = on
-    few-next (Add n) o = on
-    few-next (Take h) o = on
-    few-next (Give h) o = on
-    few-next (Point h g) o = on
-    few-next (Call q d) o = on
-    few-next (Start q d) o = on
-    few-next (Jump z) o = few-one 1 (z .statement) s (target-small (z .statement) o) (omega arith)
-    few-next (JumpZero z) o = few-both {m = 1} {n = 1} (edge (z .statement) s ∷ []) (edge (s + 1) s ∷ []) (few-one 0 (z .statement) s (target-small (z .statement) o) (omega arith)) (few-one 0 (s + 1) s (omega arith) (omega arith))
-    few-next Return o = few-none
+    few-next σ o =
+        subst (Few 2) (next-parts t s σ refl)
+        (few-both {m = 1} {n = 1} (listOn (view σ .target) (λ n. edge n s ∷ [])) (when (view σ .onward) (edge (s + 1) s ∷ []))
+        (few-on (view σ .target) (λ n. edge n s ∷ []) (λ n e. few-one 0 n s (target-small n (o .target n e)) (omega arith)))
+        (few-when (view σ .onward) (edge (s + 1) s ∷ []) (few-one 0 (s + 1) s (omega arith) (omega arith))))
 
     few-call : (σ : Statement) → Operands t r σ → Few 1 (callEdges (length (t .statements)) s σ)
     unfolding callEdges
     few-call σ o =
-        few-naming σ _ _
-        (few-one 0 s (length (t .statements) + named σ) (omega arith) (omega (arith, named-small r σ o, acc .statements-most))) few-none
+        few-on (calls (view σ)) (λ q. edge s (length (t .statements) + named σ) ∷ [])
+        (λ q e. few-one 0 s (length (t .statements) + named σ) (omega arith) (omega (arith, named-small r σ o, acc .statements-most)))
 
     few-future : (σ : Statement) → Operands t r σ
         → Few 4 (nextEdges s σ ++ ((edge (length (t .statements) + ownerOf t s) s ∷ []) ++ callEdges (length (t .statements)) s σ))

@@ -1,8 +1,8 @@
 -- The parts of each routine from the lists that lay them out, and the routine of each statement, going through the statements in order. Assumes nothing.
 use Prim.Native.Nat.{ℕ, _+_, _^_, _≤_, _<_}
-use mathlib.Core.Path.{_≡_, refl, sym, _∙_}
+use mathlib.Core.Path.{_≡_, refl, sym, ap, ap₂, _∙_}
 use mathlib.Core.Bool.{Bool, true, false}
-use mathlib.Core.List.{List}
+use mathlib.Core.List.{List, [], _∷_, _++_}
 use native.Mathlib.Omega.{arith}
 use lib.Dec.{ltb}
 use lib.IntN.{ℤ}
@@ -10,17 +10,23 @@ use lib.ListN.{length, getD}
 use borrow.Author.Tests.{ltb-true, ltb-false}
 use Rattle.table.specs.Header.{routines, statements}
 use Rattle.table.specs.Routines.{firstOf}
-use Rattle.table.specs.Table.{Table, tableOf, routine, argumentsIn, InRoutine}
+use Rattle.table.specs.Table.{Table, tableOf, routine, statement, InRoutine}
 use Rattle.table.specs.Extents.{firstStatements, firstHandles, parameterCounts}
 use Rattle.table.specs.ExtentLaws as L
 use Rattle.table.specs.TabulateLaws.{getD-tabulate}
 use Rattle.table.specs.LookupLaws.{routines-length, statements-length, routine-says, in-routine, routine-in}
 use Rattle.table.specs.RoutineLaws.{ends-before}
+use Rattle.sets.specs.Least.{Edge}
+use Rattle.table.specs.View.{view, listOn}
+use Rattle.table.specs.declared.Arguments.{Arguments}
+use Rattle.table.specs.declared.Reference.the-variants.{To}
+use Rattle.table.specs.declared.View.{View}
 use Rattle.table.specs.Accepted.{Accepted, RoutineFacts}
 use Rattle.report.specs.Layout.{ownerOf, oneEach}
 use Rattle.report.specs.Flow.{passing}
 use Rattle.report.specs.OneEach.{copy-is}
-use Rattle.edges.specs.LineLaws.{passingFrom, passing-is}
+use Rattle.edges.specs.Equations.{Flow, edge, edgesAt}
+use Rattle.edges.specs.LineLaws.{passingFrom, passing-is, flow-naming}
 
 -- statement s is one of routine r, or the one behind its last
 pub record Near (f : List ℤ) (r s : ℕ) : Type 0 where
@@ -29,11 +35,11 @@ pub record Near (f : List ℤ) (r s : ℕ) : Type 0 where
   pub low : firstOf f r ≤ s
   pub high : s ≤ firstOf f (r + 1)
 
--- the arguments in a line go to the parameters of routine q: `count` handles from `begin` on
-pub record PassingParts (f : List ℤ) (line q begin count : ℕ) : Type 0 where
+-- arguments go to the parameters of routine q: `count` handles from `begin` on
+pub record PassingParts (f : List ℤ) (a : Arguments) (q begin count : ℕ) : Type 0 where
   pub small : begin < 2 ^ 32
   pub few : count ≤ 4
-  pub is : passingFrom f line begin count ≡ passing (tableOf f) (oneEach (tableOf f)) 0 0 q (argumentsIn f line)
+  pub is : passingFrom a begin count ≡ passing (tableOf f) (oneEach (tableOf f)) 0 0 q a
 
 -- the copy of a statement is its routine
 pub copy-of : (t : Table) (s : ℕ) → s < length (t .statements) → ownerOf t s ≡ oneEach t .statementCopy s
@@ -73,15 +79,22 @@ module _ (f : List ℤ) (acc : Accepted (tableOf f)) where
     parameters-at : getD counts q 0 ≡ routine t q .parameters
     parameters-at = L.count-at f few counts q (is .1) b ∙ sym (routine-says f q b .parameters)
 
-    -- the arguments in a line go to the parameters of routine q
-    pub passing-parts : (line : ℕ) → PassingParts f line q (getD handle q 0) (getD counts q 0)
-    passing-parts line =
-        let few : getD counts q 0 ≤ 4 = omega (arith, parameters-at, facts q b .few-parameters) in
-        record {
-          small = omega (arith, handle-at, facts q b .handles-there, acc .handles-most);
-          few = few;
-          is = passing-is f line q (getD handle q 0) (getD counts q 0) few handle-at parameters-at;
-        }
+    -- arguments go to the parameters of routine q
+    pub passing-parts : (a : Arguments) → PassingParts f a q (getD handle q 0) (getD counts q 0)
+    passing-parts a = record {
+      small = omega (arith, handle-at, facts q b .handles-there, acc .handles-most);
+      few = omega (arith, parameters-at, facts q b .few-parameters);
+      is = passing-is t a q (getD handle q 0) (getD counts q 0) handle-at parameters-at;
+    }
+
+    -- what a statement puts into what, that names routine q
+    pub flow-passing : (s : ℕ) {v : View} → v ≡ view (statement t s) → v .names ≡ To q → {begin count : ℕ} → begin ≡ getD handle q 0 → count ≡ getD counts q 0
+        → (listOn (v .points) (λ (h : ℕ). edge (v .source) (0 + h) ∷ []) ++ passingFrom (v .arguments) begin count) ≡ edgesAt Flow t s
+    unfolding edgesAt
+    flow-passing s {v} is e {begin} {count} eb ec =
+        ap {B = List Edge} (λ (l : List Edge). listOn (v .points) (λ (h : ℕ). edge (v .source) (0 + h) ∷ []) ++ l)
+        (ap₂ {C = List Edge} (passingFrom (v .arguments)) eb ec ∙ passing-parts (v .arguments) .is)
+        ∙ flow-naming t s (statement t s) is q e
 
   -- ---- the routine of each statement
 

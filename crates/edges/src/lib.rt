@@ -8,10 +8,13 @@ ghost use Rattle.table.specs.Table.{tableOf, statement};
 ghost use Rattle.table.specs.Extents.{firstStatements, firstHandles, parameterCounts};
 ghost use Rattle.table.specs.Accepted.{Accepted};
 ghost use Rattle.report.specs.Layout.{ownerOf};
-ghost use Rattle.edges.specs.Equations.{Flow, Futures, upwards, edge, edgesAt, upEdges, nextEdges, callEdges, edgesFor};
+ghost use Rattle.table.specs.View.{listOn, when};
+ghost use Rattle.edges.specs.Equations.{Flow, Futures, upwards, edge, edgesAt, upEdges, edgesFor};
 ghost use Rattle.edges.specs.EdgeLaws.{Appended};
 ghost use Rattle.edges.specs.LineLaws.{Lined, passingFrom};
 ghost use Rattle.edges.specs.RoutineLaws.{Near};
+use table::Arguments;
+use table::Reference;
 
 // The routine of statement `s`, where `r` is that of the statement before.
 fn owner_of(numbers: &[i32], first: &[usize], r: usize, s: usize) -> usize
@@ -43,22 +46,47 @@ fn append(edges: &mut [u32], n: usize, f: usize, t: usize) -> usize
     n
 }
 
-// Appends the edges from the arguments of a CALL or START in `line` to `count` parameters from `begin` on.
+// Appends the edge to `t` from what is referred to, if to anything.
+fn append_from(r: Reference, t: usize, edges: &mut [u32], n: usize) -> usize
+    ensures { λ m. ⌜ Appended (now (edges .entry)) n (now (edges .exit)) m (listOn r (λ q. edge q t ∷ [])) ⌝ }
+{
+    match r {
+        Reference::To(f) => append(edges, n, f, t),
+        Reference::Nothing => n,
+    }
+}
+
+// Appends the edge from `f` to what is referred to, if to anything, counted from `base`.
+fn append_to(f: usize, base: usize, r: Reference, edges: &mut [u32], n: usize) -> usize
+    requires { ⌜ base < 2 ^ 32 ⌝ }
+    ensures { λ m. ⌜ Appended (now (edges .entry)) n (now (edges .exit)) m (listOn r (λ q. edge f (base + q) ∷ [])) ⌝ }
+{
+    match r {
+        Reference::To(q) => {
+            if q < 65536 {
+                return append(edges, n, f, base + q);
+            }
+            n
+        }
+        Reference::Nothing => n,
+    }
+}
+
+// Appends the edges from arguments to `count` parameters from `begin` on.
 fn append_passing(
-    numbers: &[i32],
-    line: usize,
+    arguments: Arguments,
     begin: usize,
     count: usize,
     edges: &mut [u32],
     n: usize,
 ) -> usize
     requires { ⌜ (begin < 2 ^ 32) × (count ≤ 4) ⌝ }
-    ensures { λ r. ⌜ Appended (now (edges .entry)) n (now (edges .exit)) r (passingFrom (now (numbers .entry)) line begin count) ⌝ }
+    ensures { λ r. ⌜ Appended (now (edges .entry)) n (now (edges .exit)) r (passingFrom arguments begin count) ⌝ }
 {
     let mut m = n;
     let mut j = 0;
     while j < count {
-        m = append(edges, m, table::field_of(numbers, line, 3 + j), begin + j);
+        m = append(edges, m, table::argument_of(arguments, j), begin + j);
         j += 1;
     }
     m
@@ -79,20 +107,18 @@ fn append_flow(
     requires { ⌜ Lined (now numbers) base × (s < statements (now numbers)) ⌝ }
     ensures { λ r. ⌜ Appended (now (edges .entry)) n (now (edges .exit)) r (edgesAt Flow (tableOf (now (numbers .entry))) s) ⌝ }
 {
-    let line = base + s;
-    let operation = table::field_of(numbers, line, 1);
-    if operation < 7 {
-        return n;
+    let v = table::view_at(numbers, base + s);
+    let points = v.points;
+    let names = v.names;
+    let arguments = v.arguments;
+    let m = append_to(v.source, 0, points, edges, n);
+    match names {
+        Reference::To(q) => {
+            let begin = lists::number_at(handle, q);
+            append_passing(arguments, begin, lists::number_at(counts, q), edges, m)
+        }
+        Reference::Nothing => m,
     }
-    let a = table::field_of(numbers, line, 2);
-    if operation == 7 {
-        return append(edges, n, table::field_of(numbers, line, 3), a);
-    }
-    if operation < 10 {
-        let begin = lists::number_at(handle, a);
-        return append_passing(numbers, line, begin, lists::number_at(counts, a), edges, n);
-    }
-    n
 }
 
 // Fills the list with the edges of flow, from the front on, and returns how many there are.
@@ -125,17 +151,12 @@ fn append_naming(
     requires { ⌜ Lined (now numbers) base × (s < statements (now numbers)) ⌝ }
     ensures { λ r. ⌜ Appended (now (edges .entry)) n (now (edges .exit)) r (upEdges starts c (statement (tableOf (now (numbers .entry))) s)) ⌝ }
 {
-    let line = base + s;
-    let operation = table::field_of(numbers, line, 1);
-    if operation == 8 {
-        return append(edges, n, table::field_of(numbers, line, 2), c);
+    let v = table::view_at(numbers, base + s);
+    if starts {
+        let names = v.names;
+        return append_from(names, c, edges, n);
     }
-    if operation == 9 {
-        if starts {
-            return append(edges, n, table::field_of(numbers, line, 2), c);
-        }
-    }
-    n
+    append_from(table::called(v), c, edges, n)
 }
 
 // Fills the list with the edges up CALLs, or also up STARTs, and returns how many there are.
@@ -157,44 +178,13 @@ pub fn fill_naming(numbers: &[i32], first: &[usize], starts: bool, edges: &mut [
     n
 }
 
-// Appends the edges to statement `s` from what may come next.
-fn append_nexts(numbers: &[i32], base: usize, s: usize, edges: &mut [u32], n: usize) -> usize
-    requires { ⌜ Lined (now numbers) base × (s < statements (now numbers)) ⌝ }
-    ensures { λ r. ⌜ Appended (now (edges .entry)) n (now (edges .exit)) r (nextEdges s (statement (tableOf (now (numbers .entry))) s)) ⌝ }
+// Appends the edge to statement `s` from the next one, if `s` goes on.
+fn append_next(onward: bool, s: usize, edges: &mut [u32], n: usize) -> usize
+    requires { ⌜ s < 2 ^ 32 ⌝ }
+    ensures { λ r. ⌜ Appended (now (edges .entry)) n (now (edges .exit)) r (when onward (edge (s + 1) s ∷ [])) ⌝ }
 {
-    let line = base + s;
-    let operation = table::field_of(numbers, line, 1);
-    if operation == 0 {
-        return n;
-    }
-    if operation < 10 {
+    if onward {
         return append(edges, n, s + 1, s);
-    }
-    if 11 < operation {
-        return n;
-    }
-    let m = append(edges, n, table::field_of(numbers, line, 2), s);
-    if operation == 10 {
-        return m;
-    }
-    append(edges, m, s + 1, s)
-}
-
-// Appends the edge from a CALL, statement `s`, to the place of the CALLs of the routine that it names; these places stand from `end` on.
-fn append_call(
-    numbers: &[i32],
-    base: usize,
-    s: usize,
-    end: usize,
-    edges: &mut [u32],
-    n: usize,
-) -> usize
-    requires { ⌜ Lined (now numbers) base × (s < statements (now numbers)) × (end < 2 ^ 32) ⌝ }
-    ensures { λ r. ⌜ Appended (now (edges .entry)) n (now (edges .exit)) r (callEdges end s (statement (tableOf (now (numbers .entry))) s)) ⌝ }
-{
-    let line = base + s;
-    if table::field_of(numbers, line, 1) == 8 {
-        return append(edges, n, s, end + table::field_of(numbers, line, 2));
     }
     n
 }
@@ -213,9 +203,12 @@ fn append_future(
     requires { ⌜ (end ≡ statements (now numbers)) × (c ≡ ownerOf (tableOf (now numbers)) s) × (c < 2 ^ 32) ⌝ }
     ensures { λ r. ⌜ Appended (now (edges .entry)) n (now (edges .exit)) r (edgesAt Futures (tableOf (now (numbers .entry))) s) ⌝ }
 {
-    let m = append_nexts(numbers, base, s, edges, n);
+    let v = table::view_at(numbers, base + s);
+    let target = v.target;
+    let k = append_from(target, s, edges, n);
+    let m = append_next(v.onward, s, edges, k);
     let l = append(edges, m, end + c, s);
-    append_call(numbers, base, s, end, edges, l)
+    append_to(s, end, table::called(v), edges, l)
 }
 
 // Fills the list with the edges of futures, and returns how many there are.

@@ -8,8 +8,11 @@ ghost use Rattle.table.specs.Tabulate.{tabulate};
 ghost use Rattle.table.specs.Extents.{firstStatements};
 ghost use Rattle.table.specs.Accepted.{Accepted};
 ghost use Rattle.report.specs.Flow.{startOf};
-ghost use Rattle.edges.specs.Equations.{operationOf, ownSet, inRoutine, effectAt, nextsEffect, futureInitial};
+ghost use Rattle.edges.specs.Equations.{touched, ownSet, inRoutine, effectAt, nextsEffect, futureInitial};
+ghost use Rattle.table.specs.View.{setOn};
 ghost use Rattle.edges.specs.LineLaws.{Lined};
+use table::Reference;
+use table::View;
 
 // What the set of handle `h` begins with: a local's start.
 fn flow_initial(numbers: &[i32], h: usize) -> u64
@@ -36,14 +39,17 @@ pub fn fill_flow(numbers: &[i32], out: &mut [u64])
     }
 }
 
-// The number of GIVE, WRITE or READ.
-fn operation_of(locks: bool, writes: bool) -> usize
-    ensures { λ r. ⌜ r ≡ operationOf locks writes ⌝ }
+// The handle through which a statement gives up a lock, or reads or writes a cell.
+fn touched(v: View, locks: bool, writes: bool) -> Reference
+    ensures { λ r. ⌜ r ≡ touched locks writes v ⌝ }
 {
     if locks {
-        return 6;
+        return v.gives;
     }
-    if writes { 2 } else { 1 }
+    if writes {
+        return v.writes;
+    }
+    v.reads
 }
 
 // The locks that statement `s` itself may give up, or the cells that it reads or writes; `base` is the line of statement 0.
@@ -51,11 +57,8 @@ fn own_set(numbers: &[i32], base: usize, flow: &[u64], locks: bool, writes: bool
     requires { ⌜ Lined (now numbers) base × (s < statements (now numbers)) ⌝ }
     ensures { λ r. ⌜ r ≡ ownSet locks writes (now (flow .entry)) (statement (tableOf (now (numbers .entry))) s) ⌝ }
 {
-    let line = base + s;
-    if table::field_of(numbers, line, 1) == operation_of(locks, writes) {
-        return lists::set_at(flow, table::field_of(numbers, line, 2));
-    }
-    0
+    let v = table::view_at(numbers, base + s);
+    table::set_on(touched(v, locks, writes), flow)
 }
 
 // The union of these over the statements of routine `r`.
@@ -121,18 +124,29 @@ fn effect_at(
     if end <= s {
         return 0;
     }
-    let line = base + s;
-    let operation = table::field_of(numbers, line, 1);
-    if operation == operation_of(false, writes) {
-        return lists::set_at(flow, table::field_of(numbers, line, 2));
+    let v = table::view_at(numbers, base + s);
+    let names = v.names;
+    let own = table::set_on(touched(v, false, writes), flow);
+    sets::union(own, table::set_on(names, effect))
+}
+
+// The effect of the statement that is referred to, if one is.
+fn effect_on(
+    numbers: &[i32],
+    base: usize,
+    end: usize,
+    flow: &[u64],
+    effect: &[u64],
+    writes: bool,
+    r: Reference,
+) -> u64
+    requires { ⌜ Lined (now numbers) base × (end ≡ statements (now numbers)) ⌝ }
+    ensures { λ x. ⌜ x ≡ setOn r (effectAt writes (now (flow .entry)) (now (effect .entry)) (tableOf (now (numbers .entry)))) ⌝ }
+{
+    match r {
+        Reference::To(s) => effect_at(numbers, base, end, flow, effect, writes, s),
+        Reference::Nothing => 0,
     }
-    if operation < 8 {
-        return 0;
-    }
-    if operation < 10 {
-        return lists::set_at(effect, table::field_of(numbers, line, 2));
-    }
-    0
 }
 
 // The effects of the statements that may come after statement `s`.
@@ -148,26 +162,14 @@ fn nexts_effect(
     requires { ⌜ Lined (now numbers) base × (end ≡ statements (now numbers)) × (s < statements (now numbers)) ⌝ }
     ensures { λ r. ⌜ r ≡ nextsEffect writes (now (flow .entry)) (now (effect .entry)) (tableOf (now (numbers .entry))) s ⌝ }
 {
-    let line = base + s;
-    let operation = table::field_of(numbers, line, 1);
-    if operation == 0 {
-        return 0;
+    let v = table::view_at(numbers, base + s);
+    let target = v.target;
+    let there = effect_on(numbers, base, end, flow, effect, writes, target);
+    if v.onward {
+        let next = effect_at(numbers, base, end, flow, effect, writes, s + 1);
+        return sets::union(there, next);
     }
-    if operation < 10 {
-        return effect_at(numbers, base, end, flow, effect, writes, s + 1);
-    }
-    if 11 < operation {
-        return 0;
-    }
-    let target = table::field_of(numbers, line, 2);
-    let there = effect_at(numbers, base, end, flow, effect, writes, target);
-    if operation == 10 {
-        return there;
-    }
-    sets::union(
-        there,
-        effect_at(numbers, base, end, flow, effect, writes, s + 1),
-    )
+    there
 }
 
 // What the future at place `p` begins with: the effects of what may come next, and nothing behind the last statement.

@@ -1,18 +1,18 @@
 -- What stands at each place at the start. Assumes nothing.
-use Prim.Native.Nat.{ℕ, _+_, _-_, _^_, _<_}
-use mathlib.Core.Path.{_≡_, refl, ap}
+use Prim.Native.Nat.{ℕ, _-_, _^_, _<_}
+use mathlib.Core.Path.{_≡_}
 use mathlib.Core.Bool.{Bool, true, false, cond}
 use mathlib.Core.List.{List}
 use native.Mathlib.Omega.{arith}
 use lib.Dec.{ltb}
 use lib.ListN.{getD}
-use borrow.Author.Tests.{lt-ltb, le-ltb, ltb-true, ltb-false}
+use borrow.Author.Tests.{lt-ltb, le-ltb}
 use Rattle.sets.specs.Set.{minus}
 use Rattle.sets.specs.SetLaws.{firsts-below, minus-below}
 use Rattle.table.specs.Table.{Table}
 use Rattle.report.specs.Layout.{Layout}
 use Rattle.report.specs.Held.{allLocks, onlyLock}
-use Rattle.lock_edges.specs.HeldEdges.{backPlace, givenPlace, flowPlace, otherPlace, everyPlace, placeCount, startAt}
+use Rattle.lock_edges.specs.HeldEdges.{givenPlace, flowPlace, otherPlace, everyPlace, startAt}
 
 module _ (t : Table) (k : Layout) (flow given : List ℕ) where
   pub start-early : (p : ℕ) → p < givenPlace k 0 → startAt t k flow given p ≡ 0

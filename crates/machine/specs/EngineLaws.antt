@@ -37,8 +37,8 @@ Known k = (k ≡ 0) ⊎ (18 ≤ k)
 
 limit-known : (started frames : ℕ) (σ : Statement) → Known (limit started frames σ)
 limit-known started frames σ =
-    on-or Known (calls (view σ)) _ _ (λ q. choice-known (leb 32 frames) 19 (omega arith))
-    (on-or Known (starts (view σ)) _ _ (λ q. choice-known (leb 16 started) 18 (omega arith)) (inl refl))
+    on-or Known (calls (view σ)) _ _ (λ q e. choice-known (leb 32 frames) 19 (omega arith))
+    (on-or Known (starts (view σ)) _ _ (λ q e. choice-known (leb 16 started) 18 (omega arith)) (inl refl))
 
 limitOf-known : (t : Table) (started : ℕ) (fs : List Frame) → (limitOf t started fs ≡ 0) ⊎ (18 ≤ limitOf t started fs)
 limitOf-known t started [] = inl refl

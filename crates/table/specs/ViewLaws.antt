@@ -2,7 +2,7 @@
 use mathlib.Core.Path.{_≡_, refl, sym, _∙_}
 use mathlib.Core.Bool.{Bool, true, false, cond, not, _&&_, _||_}
 use mathlib.Core.Logic.{_⊎_, inl, inr}
-use mathlib.Core.List.{List, List·Memᴰ}
+use mathlib.Core.List.{List, map, List·Memᴰ}
 use Prim.Native.Nat.{ℕ, zero, suc, _^_, _<_}
 use native.Mathlib.Omega.{arith}
 use lib.Dec.{eqb, ltb}
@@ -17,6 +17,8 @@ use Rattle.table.specs.declared.Arguments.{Arguments}
 use Rattle.table.specs.declared.Reference.{Reference}
 use Rattle.table.specs.declared.Reference.the-variants.{To, Nothing}
 use Rattle.table.specs.declared.View.{View}
+use Rattle.table.specs.declared.Statement.{Statement}
+use Rattle.table.specs.declared.Statement.the-variants.{Read, Write, Set, Add, Take, Give, Point, Call, Start, Jump, JumpZero, Return}
 
 -- ---- references
 
@@ -62,14 +64,22 @@ module _ (v : View) {q : ℕ} where
       go false e = inl e
 
 -- what holds of all that f says, and of d, holds of what is said of a reference
-pub on-or : {A : Type 0} (P : A → Type 0) (r : Reference) (f : ℕ → A) (d : A) → ((n : ℕ) → P (f n)) → P d → P (onOr r f d)
-on-or P (To n) f d h e = h n
+pub on-or : {A : Type 0} (P : A → Type 0) (r : Reference) (f : ℕ → A) (d : A) → ((n : ℕ) → r ≡ To n → P (f n)) → P d → P (onOr r f d)
+on-or P (To n) f d h e = h n refl
 on-or P Nothing f d h e = e
 
 -- what is said of the number that is referred to
 pub on-number : {A : Type 0} (r : Reference) (g : ℕ → A) (d : A) → onOr r (λ q. g (setOn r (λ n. n))) d ≡ onOr r g d
 on-number (To n) g d = refl
 on-number Nothing g d = refl
+
+-- so of a routine that is CALLed, whose number is the one that is named
+pub on-called : {A : Type 0} (v : View) (g : ℕ → A) (d : A) → onOr (calls v) (λ q. g (setOn (v .names) (λ n. n))) d ≡ onOr (calls v) g d
+on-called v g d = go (v .starting)
+  where
+    go : (b : Bool) → onOr (cond b Nothing (v .names)) (λ q. g (setOn (v .names) (λ n. n))) d ≡ onOr (cond b Nothing (v .names)) g d
+    go true = refl
+    go false = on-number (v .names) g d
 
 -- ---- the set, list and test of a reference
 
@@ -85,7 +95,7 @@ set-from (To n) f x h = (n, refl, h)
 set-from Nothing f x h = never (sym (has-empty x) ∙ h)
 
 pub set-below : (r : Reference) (f : ℕ → ℕ) → ((n : ℕ) → f n < 2 ^ 64) → setOn r f < 2 ^ 64
-set-below r f b = on-or (λ (s : ℕ). s < 2 ^ 64) r f 0 b (omega arith)
+set-below r f b = on-or (λ (s : ℕ). s < 2 ^ 64) r f 0 (λ n e. b n) (omega arith)
 
 module _ {A : Type 0} where
   pub list-has : (r : Reference) (f : ℕ → List A) {n : ℕ} (x : A) → r ≡ To n → List·Memᴰ x (f n) → List·Memᴰ x (listOn r f)
@@ -94,6 +104,18 @@ module _ {A : Type 0} where
   pub list-from : (r : Reference) (f : ℕ → List A) (x : A) → List·Memᴰ x (listOn r f) → On r (λ n. List·Memᴰ x (f n))
   list-from (To n) f x m = (n, refl, m)
   list-from Nothing f x m = elim m [ ]
+
+  pub list-same : (r : Reference) (f g : ℕ → List A) → ((n : ℕ) → f n ≡ g n) → listOn r f ≡ listOn r g
+  list-same (To n) f g e = e n
+  list-same Nothing f g e = refl
+
+  pub list-map : {B : Type 0} (h : A → B) (r : Reference) (f : ℕ → List A) → map h (listOn r f) ≡ listOn r (λ n. map h (f n))
+  list-map h (To n) f = refl
+  list-map h Nothing f = refl
+
+  pub when-map : {B : Type 0} (h : A → B) (b : Bool) (l : List A) → map h (when b l) ≡ when b (map h l)
+  when-map h true l = refl
+  when-map h false l = refl
 
   pub when-has : (b : Bool) (l : List A) (x : A) → b ≡ true → List·Memᴰ x l → List·Memᴰ x (when b l)
   when-has b l x e m = rw e m
@@ -108,6 +130,22 @@ test-is r f e = rw e
 pub test-from : (r : Reference) (f : ℕ → Bool) → testOn r f ≡ true → On r (λ n. f n ≡ true)
 test-from (To n) f h = (n, refl, h)
 test-from Nothing f h = never h
+
+-- ---- a statement does one thing: the one law that attributes do not give
+
+pub points-or-names : (σ : Statement) → (view σ .points ≡ Nothing) ⊎ (view σ .names ≡ Nothing)
+points-or-names (Read h) = inl refl
+points-or-names (Write h) = inl refl
+points-or-names (Set n) = inl refl
+points-or-names (Add n) = inl refl
+points-or-names (Take h) = inl refl
+points-or-names (Give h) = inl refl
+points-or-names (Point h g) = inr refl
+points-or-names (Call q a) = inl refl
+points-or-names (Start q a) = inl refl
+points-or-names (Jump s) = inl refl
+points-or-names (JumpZero s) = inl refl
+points-or-names Return = inl refl
 
 -- ---- each attribute, by the number of the operation: 1 to 11, and RETURN for every other
 

@@ -4,28 +4,25 @@ use Rattle.sets.specs.Least.{Edge}
 use mathlib.Core.Path.{ap}
 use Prim.Native.Nat.{ℕ, _+_, _-_}
 use mathlib.Core.List.{List, [], _∷_}
-use Rattle.table.specs.Fields.{field}
+use lib.ListN.{getD}
+use Rattle.table.specs.Table.{passed}
 use Rattle.edges.specs.Equations.{edge}
 use Rattle.edges.specs.EdgeLaws.{Growing, growing-start, growing-next, growing-done, appended-same}
-use borrow.Author.Needs.{needs}
 use borrow.Author.Needs.{needs}
 use Rattle.edges.proofs.append_passing.Statement.{statement}
 use Rattle.edges.proofs.append_passing.Tie as tie
 
 abbrev Inv-loop : tie.InvT-loop
-Inv-loop numbers line begin count edges₀ n m₀ j₀ edges m j = Growing (λ (i : ℕ). edge (field numbers line (3 + i)) (begin + i) ∷ []) count edges₀ n edges m j
+Inv-loop arguments begin count edges₀ n m₀ j₀ edges m j = Growing (λ (i : ℕ). edge (getD (passed arguments) i 0) (begin + i) ∷ []) count edges₀ n edges m j
 
 abbrev μ-loop : tie.MeasureT-loop
-μ-loop numbers line begin count edges₀ n m₀ j₀ edges m j = count - j
+μ-loop arguments begin count edges₀ n m₀ j₀ edges m j = count - j
 
 loop-holds : tie.Need-loop-holds Inv-loop μ-loop
 loop-holds c = growing-start _ _
 
-add-field-of : tie.Need-add-field-of Inv-loop μ-loop
-add-field-of c = search needs
-
-field-of-requires : tie.Need-field-of-requires Inv-loop μ-loop
-field-of-requires c κs = search needs
+argument-of-requires : tie.Need-argument-of-requires Inv-loop μ-loop
+argument-of-requires c κs = search needs
 
 add-append : tie.Need-add-append Inv-loop μ-loop
 add-append c = search needs
@@ -40,7 +37,7 @@ loop-less : tie.Need-loop-less Inv-loop μ-loop
 loop-less c = search needs
 
 loop-again : tie.Need-loop-again Inv-loop μ-loop
-loop-again c = growing-next (c .before .before .before .before .before .before .loop .inv) (c .before .before .before .before .before .loop-test .taken) (appended-same _ _ (ap {B = List Edge} (λ (x : ℕ). edge x (c .before .before .before .before .before .before .before .before .args .begin + c .before .before .before .before .before .before .loop .j) ∷ []) (c .before .before .before .field-of .ensures .0)) (c .before .before .append .ensures))
+loop-again c = growing-next (c .before .before .before .before .before .before .loop .inv) (c .before .before .before .before .before .loop-test .taken) (appended-same _ _ (ap {B = List Edge} (λ (x : ℕ). edge x (c .before .before .before .before .before .before .before .before .args .begin + c .before .before .before .before .before .before .loop .j) ∷ []) (c .before .before .before .argument-of .ensures)) (c .before .before .append .ensures))
 
 same-length : tie.Need-same-length Inv-loop μ-loop
 same-length c = search needs
@@ -56,8 +53,7 @@ append-passing-spec =
     Inv-loop
     μ-loop
     loop-holds
-    add-field-of
-    field-of-requires
+    argument-of-requires
     add-append
     append-requires
     add-j

@@ -1,10 +1,10 @@
 -- `initial::effect_at` meets its contract. Assumes nothing.
-use Rattle.initial.specs.InitialLaws.{effect-past, effect-own, effect-none, effect-named, effect-after}
-use denote.Ref.{now}
 use Prim.Native.Nat.{ℕ}
-use lib.ListN.{getD}
-use mathlib.Core.Path.{sym, ap, _∙_}
+use mathlib.Core.Path.{ap₂, _∙_}
 use native.Mathlib.Omega.{arith}
+use Rattle.sets.specs.Set.{union}
+use Rattle.edges.specs.LineLaws.{viewed}
+use Rattle.initial.specs.InitialLaws.{effect-past, effect-is}
 use borrow.Author.Needs.{needs}
 use Rattle.initial.proofs.effect_at.Statement.{statement}
 use Rattle.initial.proofs.effect_at.Tie as tie
@@ -12,52 +12,36 @@ use Rattle.initial.proofs.effect_at.Tie as tie
 returns : tie.Need-returns
 returns c = effect-past _ _ _ _ _ (omega (arith, c .before .before .before .pre .1, c .if1 .taken))
 
-add-line : tie.Need-add-line
-add-line c = search needs
+add-view-at : tie.Need-add-view-at
+add-view-at c = search needs
 
-field-of-requires : tie.Need-field-of-requires
-field-of-requires c κs = search needs
+view-at-requires : tie.Need-view-at-requires
+view-at-requires c κs = search needs
 
-operation-of-requires : tie.Need-operation-of-requires
-operation-of-requires c κs = search needs
+touched-requires : tie.Need-touched-requires
+touched-requires c κs = search needs
 
-field-of-requires-2 : tie.Need-field-of-requires-2
-field-of-requires-2 c κs = search needs
+set-on-requires : tie.Need-set-on-requires
+set-on-requires c κs = search needs
 
-set-at-requires : tie.Need-set-at-requires
-set-at-requires c κs = search needs
+set-on-requires-2 : tie.Need-set-on-requires-2
+set-on-requires-2 c κs = search needs
+
+union-requires : tie.Need-union-requires
+union-requires c κs = search needs
 
 returns-2 : tie.Need-returns-2
-returns-2 c = c .set-at .ensures ∙ ap (λ (x : ℕ). getD (now (c .before .before .before .before .before .before .before .before .args .flow)) x 0) (c .before .field-of2 .ensures .0) ∙ effect-own _ _ (c .before .before .before .before .before .before .before .before .pre .0) _ (omega (arith, c .before .before .before .before .before .before .before .before .pre .1, c .before .before .before .before .before .if1 .left)) _ _ _ (sym (c .before .before .before .before .field-of .ensures .0) ∙ c .before .before .if2 .taken ∙ c .before .before .before .operation-of .ensures)
-
-returns-3 : tie.Need-returns-3
-returns-3 c = effect-none _ _ (c .before .before .before .before .before .before .before .pre .0) _ (omega (arith, c .before .before .before .before .before .before .before .pre .1, c .before .before .before .before .if1 .left)) _ _ _ (λ e. c .before .if2 .left (c .before .before .before .field-of .ensures .0 ∙ e ∙ sym (c .before .before .operation-of .ensures))) (omega (arith, c .before .before .before .field-of .ensures .0, c .if3 .taken))
-
-field-of-requires-3 : tie.Need-field-of-requires-3
-field-of-requires-3 c κs = search needs
-
-set-at-requires-2 : tie.Need-set-at-requires-2
-set-at-requires-2 c κs = search needs
-
-returns-4 : tie.Need-returns-4
-returns-4 c = c .set-at2 .ensures ∙ ap (λ (x : ℕ). getD (now (c .before .before .before .before .before .before .before .before .before .before .args .effect)) x 0) (c .before .field-of3 .ensures .0) ∙ effect-named _ _ (c .before .before .before .before .before .before .before .before .before .before .pre .0) _ (omega (arith, c .before .before .before .before .before .before .before .before .before .before .pre .1, c .before .before .before .before .before .before .before .if1 .left)) _ _ _ (omega (arith, c .before .before .before .before .before .before .field-of .ensures .0, c .before .before .before .if3 .left)) (omega (arith, c .before .before .before .before .before .before .field-of .ensures .0, c .before .before .if4 .taken))
-
-returns-5 : tie.Need-returns-5
-returns-5 c = effect-after _ _ (c .before .before .before .before .before .before .before .before .pre .0) _ (omega (arith, c .before .before .before .before .before .before .before .before .pre .1, c .before .before .before .before .before .if1 .left)) _ _ _ (omega (arith, c .before .before .before .before .field-of .ensures .0, c .if4 .left))
+returns-2 c = c .union .ensures ∙ ap₂ {C = ℕ} (λ (x y : ℕ). union x y) (c .before .before .set-on .ensures) (c .before .set-on2 .ensures) ∙ effect-is _ _ (viewed _ _ (c .before .before .before .before .before .before .before .before .pre .0) _ (omega (arith, c .before .before .before .before .before .before .before .before .pre .1, c .before .before .before .before .before .if1 .left)) (c .before .before .before .before .view-at .ensures)) _ _ _ (c .before .before .before .touched .ensures)
 
 pub effect-at-spec : {M : Type 1} → statement M
 effect-at-spec =
     tie.close
     (tie.spec
     returns
-    add-line
-    field-of-requires
-    operation-of-requires
-    field-of-requires-2
-    set-at-requires
-    returns-2
-    returns-3
-    field-of-requires-3
-    set-at-requires-2
-    returns-4
-    returns-5)
+    add-view-at
+    view-at-requires
+    touched-requires
+    set-on-requires
+    set-on-requires-2
+    union-requires
+    returns-2)

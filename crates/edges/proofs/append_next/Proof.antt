@@ -1,0 +1,30 @@
+-- `edges::append_next` meets its contract. Assumes nothing.
+use mathlib.Core.Path.{sym, ap}
+use mathlib.Core.List.{List, [], _∷_}
+use Prim.Native.Nat.{_+_}
+use Rattle.sets.specs.Least.{Edge}
+use Rattle.table.specs.View.{when}
+use Rattle.edges.specs.Equations.{edge}
+use Rattle.edges.specs.EdgeLaws.{appended-same, appended-none}
+use mathlib.Core.Bool.{Bool}
+use borrow.Author.Needs.{needs}
+use Rattle.edges.proofs.append_next.Statement.{statement}
+use Rattle.edges.proofs.append_next.Tie as tie
+
+add-append : tie.Need-add-append
+add-append c = search needs
+
+append-requires : tie.Need-append-requires
+append-requires c κs = search needs
+
+same-length : tie.Need-same-length
+same-length c = search needs
+
+returns : tie.Need-returns
+returns c = appended-same _ _ (ap {B = List Edge} (λ (w : Bool). when w (edge (c .before .before .before .before .before .before .args .s + 1) (c .before .before .before .before .before .before .args .s) ∷ [])) (sym (c .before .before .before .before .if1 .taken))) (c .before .before .append .ensures)
+
+returns-2 : tie.Need-returns-2
+returns-2 c = appended-same _ _ (ap {B = List Edge} (λ (w : Bool). when w (edge (c .before .before .args .s + 1) (c .before .before .args .s) ∷ [])) (sym (c .if1 .left))) appended-none
+
+pub append-next-spec : {M : Type 1} → statement M
+append-next-spec = tie.close (tie.spec add-append append-requires same-length returns returns-2)
