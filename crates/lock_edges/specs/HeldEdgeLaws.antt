@@ -11,7 +11,7 @@ use borrow.Author.Tests.{ltb-true, lt-ltb}
 use Rattle.sets.specs.Set.{has, minus}
 use Rattle.sets.specs.SetLaws.{has-firsts, inside-both}
 use Rattle.sets.specs.Least.{SetList, Edge, plain}
-use Rattle.sets.specs.LeastLaws.{least-holds-start, least-edge, least-induction}
+use Rattle.sets.specs.LeastLaws.{least-sets, least-holds-start, least-edge, least-induction}
 use Rattle.table.specs.Table.{Table, routine, statement, OwnHandle}
 use Rattle.table.specs.Tabulate.{tabulate}
 use Rattle.table.specs.TabulateLaws.{length-tabulate, is-tabulate}
@@ -59,6 +59,10 @@ module _ (t : Table) (k : Layout) (acc : Accepted t) (fits : Fits t k) (flow : L
   unfolding heldOut
   start-out p x l h =
       least-holds-start (placeCount k) (heldEdges t k) start start-sets .at p x (tabulate-has (placeCount k) (startAt t k flow given) p x l h)
+
+  pub out-length : length (heldOut t k flow given) ≡ placeCount k
+  unfolding heldOut
+  out-length = least-sets (placeCount k) (heldEdges t k) start start-sets .places
 
   carries : (e : Edge) → List·Memᴰ e (heldEdges t k) → e .to < placeCount k → (x : ℕ) → Out (e .from) x → Out (e .also) x → Out (e .to) x
   unfolding heldOut
