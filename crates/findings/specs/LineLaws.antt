@@ -9,6 +9,7 @@ use Rattle.sets.specs.Set.{subset, isSingle}
 use Rattle.table.specs.Fields.{field}
 use Rattle.table.specs.Header.{statementLine}
 use Rattle.table.specs.Table.{statementIn, statementOf}
+use Rattle.table.specs.OperationLaws.{view-line}
 use Rattle.table.specs.View.{view, setOn, testOn, starts, accesses}
 use Rattle.table.specs.ViewLaws.{starts-names, set-is}
 use Rattle.table.specs.declared.Reference.the-variants.{To, Nothing}
@@ -24,8 +25,7 @@ module _ (f : List ℤ) (s line : ℕ) (e : line ≡ statementLine f s) {v : Vie
   σ = statementOf f s
 
   here : v ≡ view σ
-  unfolding statementOf
-  here = is ∙ ap (λ (k : ℕ). view (statementIn f k (field f k 1))) e
+  here = view-line f s e is
 
   -- READ and WRITE
   pub own-is : (flow : List ℕ) (w : Bool) → ownBy f flow w s ≡ setOn (accesses w v) (λ h. getD flow h 0)
