@@ -1,0 +1,79 @@
+-- `lock_edges::append` meets its contract. Assumes nothing.
+use native.Mathlib.Omega.{arith}
+use Rattle.lock_edges.specs.StoreLaws.{appended-one, appended-not, appended-full, appended-also-full}
+use borrow.Author.Needs.{needs}
+use Rattle.lock_edges.proofs.append.Statement.{statement}
+use Rattle.lock_edges.proofs.append.Tie as tie
+
+mul-edges : tie.Need-mul-edges
+mul-edges c = search needs
+
+add-edges : tie.Need-add-edges
+add-edges c = search needs
+
+cast-edges : tie.Need-cast-edges
+cast-edges c = search needs
+
+mul-edges-2 : tie.Need-mul-edges-2
+mul-edges-2 c = search needs
+
+slice-write-edges : tie.Need-slice-write-edges
+slice-write-edges c = search needs
+
+cast-also : tie.Need-cast-also
+cast-also c = search needs
+
+mul-also : tie.Need-mul-also
+mul-also c = search needs
+
+slice-write-also : tie.Need-slice-write-also
+slice-write-also c = search needs
+
+add-result : tie.Need-add-result
+add-result c = search needs
+
+same-length : tie.Need-same-length
+same-length c = search needs
+
+same-length-2 : tie.Need-same-length-2
+same-length-2 c = search needs
+
+returns : tie.Need-returns
+returns c = appended-one _ _ _ _ _ (search needs) (search needs) (search needs)
+
+returns-2 : tie.Need-returns-2
+returns-2 c = appended-not _ _ _ _ _ (λ a es h l u v w. omega (arith, c .if5 .left))
+
+returns-3 : tie.Need-returns-3
+returns-3 c = appended-not _ _ _ _ _ (λ a es h l u v w. omega (arith, c .if4 .left))
+
+returns-4 : tie.Need-returns-4
+returns-4 c = appended-not _ _ _ _ _ (λ a es h l u v w. omega (arith, c .if3 .left))
+
+returns-5 : tie.Need-returns-5
+returns-5 c = appended-also-full _ _ _ _ _ (c .if2 .left)
+
+returns-6 : tie.Need-returns-6
+returns-6 c = appended-full _ _ _ _ _ (c .if1 .left)
+
+pub append-spec : {M : Type 1} → statement M
+append-spec =
+    tie.close
+    (tie.spec
+    mul-edges
+    add-edges
+    cast-edges
+    mul-edges-2
+    slice-write-edges
+    cast-also
+    mul-also
+    slice-write-also
+    add-result
+    same-length
+    same-length-2
+    returns
+    returns-2
+    returns-3
+    returns-4
+    returns-5
+    returns-6)
