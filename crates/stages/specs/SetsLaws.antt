@@ -108,6 +108,9 @@ module _ (n m : ℕ) (work out : List ℕ) (fits : m ≤ length work) (among : n
   pub held-count : n ≡ length (take n out)
   held-count = sym (length-take n out ∙ omega (arith, out-long))
 
+  pub kept-fits : (k : ℕ) (later : List ℕ) → n ≤ length (putMid n k (out ++ drop m work) later)
+  kept-fits k later = omega (arith, length-take n (putMid n k (out ++ drop m work) later), ap length (held-kept k later), held-count)
+
 -- three edges a statement and one more
 pub also-fits : (f : List ℤ) → Accepted (tableOf f) → 3 * statements f + 1 ≤ 1537
 also-fits f acc = omega (arith, acc .statements-most, statements-length f)

@@ -1,55 +1,66 @@
+-- `stages::find_held` meets its contract. Assumes nothing.
+use mathlib.Core.Path.{sym, _∙_}
+use Prim.Native.Nat.{ℕ, _≤_}
+use native.Mathlib.Omega.{arith}
+use lib.ListN.{length-replicate}
+use denote.Ref.{now}
+use Rattle.table.specs.Table.{tableOf}
+use Rattle.table.specs.CutLaws.{cut-long}
+use Rattle.stages.specs.SetsLaws.{routines-few, given-known, held-known, front-fits, front-is, front-long, also-fits, edges-fit}
 use borrow.Author.Needs.{needs}
 use Rattle.stages.proofs.find_held.Statement.{statement}
 use Rattle.stages.proofs.find_held.Tie as tie
-use Rattle.stages.proofs.find_held.Reads as reads
-use Rattle.stages.proofs.find_held.Lts as lts
-use Rattle.dataflow.proofs.given_sets.Reads as given-sets-reads
-use Rattle.lockset.proofs.held_sets.Reads as held-sets-reads
-use Rattle.table.proofs.field_of.Reads as field-of-reads
 
--- src/lib.rt:28:9
 field-of-requires : tie.Need-field-of-requires
 field-of-requires c κs = search needs
 
--- src/lib.rt:30:55
 array-borrow-prefix-given : tie.Need-array-borrow-prefix-given
-array-borrow-prefix-given c = ?
+array-borrow-prefix-given c = let f = now (c .before .before .before .before .before .before .args .numbers) in
+    let r : c .before .field-of .result ≤ 32 = omega (arith, c .before .field-of .ensures .0, routines-few f (c .before .before .before .before .before .before .pre .0)) in
+    r
 
--- src/lib.rt:30:55
 slice-aggregate-given-sets : tie.Need-slice-aggregate-given-sets
-slice-aggregate-given-sets c = ?
+slice-aggregate-given-sets c = let f = now (c .before .before .before .before .before .before .before .args .numbers) in
+    let r : c .before .before .field-of .result ≤ 32 = omega (arith, c .before .before .field-of .ensures .0, routines-few f (c .before .before .before .before .before .before .before .pre .0)) in
+    cut-long {A = ℕ} _ 32 0 r
 
--- src/lib.rt:30:5
 given-sets-requires : tie.Need-given-sets-requires
-given-sets-requires c κs = ?
+given-sets-requires c κs = let f = now (c .before .before .before .before .before .before .before .args .numbers) in
+    let r : c .before .before .field-of .result ≤ 32 = omega (arith, c .before .before .field-of .ensures .0, routines-few f (c .before .before .before .before .before .before .before .pre .0)) in
+    (c .before .before .before .before .before .before .before .pre .0, (c .before .before .before .before .before .before .before .pre .1 .0, (c .before .before .before .before .before .before .before .pre .1 .1 .1 .1, (sym (cut-long {A = ℕ} _ 32 0 r) ∙ c .before .before .field-of .ensures .0))))
 
--- src/lib.rt:36:9
 array-share-prefix-given : tie.Need-array-share-prefix-given
-array-share-prefix-given c = ?
+array-share-prefix-given c = let f = now (c .before .before .before .before .before .before .before .before .before .before .before .args .numbers) in
+    let r : c .before .before .before .before .before .before .field-of .result ≤ 32 = omega (arith, c .before .before .before .before .before .before .field-of .ensures .0, routines-few f (c .before .before .before .before .before .before .before .before .before .before .before .pre .0)) in
+    let long = c .before .before .before .given-sets .kept .1 .1 .1 .1 .0 ∙ sym (cut-long {A = ℕ} _ 32 0 r) in
+    front-fits 32 (c .before .before .before .given-sets .last .1 .1 .1 .1 .0) long
 
--- src/lib.rt:36:9
 slice-aggregate-held-sets : tie.Need-slice-aggregate-held-sets
-slice-aggregate-held-sets c = ?
+slice-aggregate-held-sets c = let f = now (c .before .before .before .before .before .before .before .before .before .before .before .before .args .numbers) in
+    let r : c .before .before .before .before .before .before .before .field-of .result ≤ 32 = omega (arith, c .before .before .before .before .before .before .before .field-of .ensures .0, routines-few f (c .before .before .before .before .before .before .before .before .before .before .before .before .pre .0)) in
+    let long = c .before .before .before .before .given-sets .kept .1 .1 .1 .1 .0 ∙ sym (cut-long {A = ℕ} _ 32 0 r) in
+    front-long 32 (c .before .before .before .before .given-sets .last .1 .1 .1 .1 .0) long
 
--- src/lib.rt:38:9
 slice-aggregate-held-sets-2 : tie.Need-slice-aggregate-held-sets-2
 slice-aggregate-held-sets-2 c = search needs
 
--- src/lib.rt:32:5
 held-sets-requires : tie.Need-held-sets-requires
-held-sets-requires c κs = ?
+held-sets-requires c κs = let f = now (c .before .before .before .before .before .before .before .before .before .before .before .before .before .before .before .args .numbers) in
+    (c .before .before .before .before .before .before .before .before .before .before .before .before .before .before .before .pre .0, (c .before .before .before .before .before .before .before .before .before .before .before .before .before .before .before .pre .1 .0, ((edges-fit f (c .before .before .before .before .before .before .before .before .before .before .before .before .before .before .before .pre .0) _ (omega (arith, c .before .before .before .before .before .before .before .before .before .before .before .before .before .before .before .pre .1 .1 .1 .1, c .before .before .before .before .before .before .before .given-sets .kept .1 .1 .1 .0)), omega (arith, also-fits f (c .before .before .before .before .before .before .before .before .before .before .before .before .before .before .before .pre .0), length-replicate {A = ℕ} 1537 0)), c .before .before .before .before .before .before .before .before .before .before .before .before .before .before .before .pre .1 .1 .1 .0)))
 
--- src/lib.rt:20:1
 same-length : tie.Need-same-length
 same-length c = search needs
 
--- src/lib.rt:20:1
 same-length-2 : tie.Need-same-length-2
 same-length-2 c = search needs
 
--- src/lib.rt:20:1
 returns : tie.Need-returns
-returns c = ?
+returns c = let f = now (c .before .before .before .before .before .before .before .before .before .before .before .before .before .before .before .before .before .before .before .before .before .args .numbers) in
+    let r : c .before .before .before .before .before .before .before .before .before .before .before .before .before .before .before .before .field-of .result ≤ 32 = omega (arith, c .before .before .before .before .before .before .before .before .before .before .before .before .before .before .before .before .field-of .ensures .0, routines-few f (c .before .before .before .before .before .before .before .before .before .before .before .before .before .before .before .before .before .before .before .before .before .pre .0)) in
+    let long = c .before .before .before .before .before .before .before .before .before .before .before .before .before .given-sets .kept .1 .1 .1 .1 .0 ∙ sym (cut-long {A = ℕ} _ 32 0 r) in
+    let t = tableOf f in
+    let flow = c .before .before .before .before .before .before .before .before .before .before .before .before .before .before .before .before .before .before .before .before .before .pre .1 .1 .0 in
+    held-known t _ flow _ _ (front-is 32 (c .before .before .before .before .before .before .before .before .before .before .before .before .before .given-sets .last .1 .1 .1 .1 .0) long ∙ given-known t _ flow _ (c .before .before .before .before .before .before .before .before .before .before .before .before .before .given-sets .ensures)) (c .before .before .before .before .before .held-sets .ensures)
 
 pub find-held-spec : {M : Type 1} → statement M
 find-held-spec =

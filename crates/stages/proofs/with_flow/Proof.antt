@@ -1,108 +1,126 @@
+-- `stages::with_flow` meets its contract. Assumes nothing.
+use mathlib.Core.Path.{_≡_, sym, ap, _∙_}
+use Prim.Native.Nat.{ℕ, _+_, _-_, _*_, _≤_}
+use native.Mathlib.Omega.{arith}
+use lib.ListN.{length, replicate, take, length-take}
+use Rattle.table.specs.Header.{statements, routines}
+use Rattle.lock_edges.specs.ViewEdges.{basesOf}
+use Rattle.stages.specs.SetsLaws.{zeros-front, behind-long, held-kept, held-count, kept-fits}
+use denote.Ref.{now}
 use borrow.Author.Needs.{needs}
 use Rattle.stages.proofs.with_flow.Statement.{statement}
 use Rattle.stages.proofs.with_flow.Tie as tie
-use Rattle.stages.proofs.with_flow.Reads as reads
-use Rattle.stages.proofs.with_flow.Lts as lts
-use Rattle.declarations.proofs.first_statements.Reads as first-statements-reads
-use Rattle.lockset.proofs.places_of.Reads as places-of-reads
-use Rattle.stages.proofs.find_held.Reads as find-held-reads
-use Rattle.stages.proofs.find_shared.Reads as find-shared-reads
-use Rattle.stages.proofs.print_found.Reads as print-found-reads
-use Rattle.table.proofs.field_of.Reads as field-of-reads
 
--- src/lib.rt:133:17
 first-statements-requires : tie.Need-first-statements-requires
 first-statements-requires c κs = search needs
 
--- src/lib.rt:134:9
 field-of-requires : tie.Need-field-of-requires
 field-of-requires c κs = search needs
 
--- src/lib.rt:135:36
 field-of-requires-2 : tie.Need-field-of-requires-2
 field-of-requires-2 c κs = search needs
 
--- src/lib.rt:135:28
 add-end : tie.Need-add-end
 add-end c = search needs
 
--- src/lib.rt:135:23
 mul-end : tie.Need-mul-end
 mul-end c = search needs
 
--- src/lib.rt:135:15
 add-end-2 : tie.Need-add-end-2
 add-end-2 c = search needs
 
--- src/lib.rt:136:9
 places-of-requires : tie.Need-places-of-requires
 places-of-requires c κs = search needs
 
--- src/lib.rt:137:24
 slice-aggregate-find-held : tie.Need-slice-aggregate-find-held
 slice-aggregate-find-held c = search needs
 
--- src/lib.rt:137:42
 slice-relend-prefix-find-held : tie.Need-slice-relend-prefix-find-held
-slice-relend-prefix-find-held c = search needs
+slice-relend-prefix-find-held c = omega (arith, c .before .before .before .before .before .before .before .before .before .pre .1 .1 .places-long, c .before .places-of .ensures)
 
--- src/lib.rt:137:42
 slice-aggregate-find-held-2 : tie.Need-slice-aggregate-find-held-2
-slice-aggregate-find-held-2 c = ?
+slice-aggregate-find-held-2 c = let f = now (c .before .before .before .before .before .before .before .before .before .before .args .numbers) in
+    let work = now (c .before .before .before .before .before .before .before .before .before .before .args .work) in
+    let lent = c .before .before .before .before .before .before .before .before .before .before .pre .1 .1 in
+    let count : c .before .before .before .before .field-of .result ≡ statements f = c .before .before .before .before .field-of .ensures .0 in
+    let many : c .before .before .places-of .result ≡ basesOf f .every + 1 = c .before .before .places-of .ensures in
+    let fits : c .before .before .places-of .result ≤ length work = omega (arith, lent .places-long) in
+    sym (length-take (c .before .before .places-of .result) work ∙ omega arith)
 
--- src/lib.rt:137:5
 find-held-requires : tie.Need-find-held-requires
-find-held-requires c κs = ?
+find-held-requires c κs = let f = now (c .before .before .before .before .before .before .before .before .before .before .before .args .numbers) in
+    let work = now (c .before .before .before .before .before .before .before .before .before .before .before .args .work) in
+    let lent = c .before .before .before .before .before .before .before .before .before .before .before .pre .1 .1 in
+    let count : c .before .before .before .before .before .field-of .result ≡ statements f = c .before .before .before .before .before .field-of .ensures .0 in
+    let many : c .before .before .before .places-of .result ≡ basesOf f .every + 1 = c .before .before .before .places-of .ensures in
+    let fits : c .before .before .before .places-of .result ≤ length work = omega (arith, lent .places-long) in
+    (c .before .before .before .before .before .before .before .before .before .before .before .pre .0, (c .before .before .before .before .before .before .first-statements .ensures, (c .before .before .before .before .before .before .before .before .before .before .before .pre .1 .0, (zeros-front _ work (lent .zeros) fits ∙ ap (λ (n : ℕ). replicate {A = ℕ} n 0) many, lent .edges-long))))
 
--- src/lib.rt:138:39
 slice-aggregate-find-shared : tie.Need-slice-aggregate-find-shared
 slice-aggregate-find-shared c = search needs
 
--- src/lib.rt:138:57
 mul-find-shared : tie.Need-mul-find-shared
 mul-find-shared c = search needs
 
--- src/lib.rt:138:57
 sub-find-shared : tie.Need-sub-find-shared
 sub-find-shared c = search needs
 
--- src/lib.rt:138:57
 part-find-shared-start : tie.Need-part-find-shared-start
 part-find-shared-start c = search needs
 
--- src/lib.rt:138:57
 part-find-shared-end : tie.Need-part-find-shared-end
 part-find-shared-end c = search needs
 
--- src/lib.rt:138:9
 find-shared-requires : tie.Need-find-shared-requires
-find-shared-requires c κs = ?
+find-shared-requires c κs = let f = now (c .before .before .before .before .before .before .before .before .before .before .before .before .before .before .before .before .before .before .before .args .numbers) in
+    let work = now (c .before .before .before .before .before .before .before .before .before .before .before .before .before .before .before .before .before .before .before .args .work) in
+    let lent = c .before .before .before .before .before .before .before .before .before .before .before .before .before .before .before .before .before .before .before .pre .1 .1 in
+    let count : c .before .before .before .before .before .before .before .before .before .before .before .before .before .field-of .result ≡ statements f = c .before .before .before .before .before .before .before .before .before .before .before .before .before .field-of .ensures .0 in
+    let many : c .before .before .before .before .before .before .before .before .before .before .before .places-of .result ≡ basesOf f .every + 1 = c .before .before .before .before .before .before .before .before .before .before .before .places-of .ensures in
+    let fits : c .before .before .before .before .before .before .before .before .before .before .before .places-of .result ≤ length work = omega (arith, lent .places-long) in
+    let among : c .before .before .before .before .before .before .before .before .before .before .before .before .before .field-of .result ≤ c .before .before .before .before .before .before .before .before .before .before .before .places-of .result = omega arith in
+    let routines-are : c .before .before .before .before .before .before .before .before .before .before .before .before .field-of2 .result ≡ routines f = c .before .before .before .before .before .before .before .before .before .before .before .before .field-of2 .ensures .0 in
+    (c .before .before .before .before .before .before .before .before .before .before .before .before .before .before .before .before .before .before .before .pre .0, (c .before .before .before .before .before .before .before .before .before .before .before .before .before .before .first-statements .ensures, (c .before .before .before .before .before .before .before .before .before .before .before .before .before .before .before .before .before .before .before .pre .1 .0, (behind-long _ _ work (c .before .before .before .before .before .before .before .find-held .last .1 .1 .1 .0) fits among (c .before .before .before .before .before .before .before .find-held .kept .1 .1 .1 .0) _ (omega arith) (omega (arith, lent .work-long)) ∙ omega arith, omega (arith, lent .edges-long, c .before .before .before .before .before .before .before .find-held .kept .1 .1 .1 .1 .0)))))
 
--- src/lib.rt:139:32
 slice-reshare-prefix-print-found : tie.Need-slice-reshare-prefix-print-found
-slice-reshare-prefix-print-found c = ?
+slice-reshare-prefix-print-found c = let f = now (c .before .before .before .before .before .before .before .before .before .before .before .before .before .before .before .before .before .before .before .before .before .before .before .before .args .numbers) in
+    let work = now (c .before .before .before .before .before .before .before .before .before .before .before .before .before .before .before .before .before .before .before .before .before .before .before .before .args .work) in
+    let lent = c .before .before .before .before .before .before .before .before .before .before .before .before .before .before .before .before .before .before .before .before .before .before .before .before .pre .1 .1 in
+    let count : c .before .before .before .before .before .before .before .before .before .before .before .before .before .before .before .before .before .before .field-of .result ≡ statements f = c .before .before .before .before .before .before .before .before .before .before .before .before .before .before .before .before .before .before .field-of .ensures .0 in
+    let many : c .before .before .before .before .before .before .before .before .before .before .before .before .before .before .before .before .places-of .result ≡ basesOf f .every + 1 = c .before .before .before .before .before .before .before .before .before .before .before .before .before .before .before .before .places-of .ensures in
+    let fits : c .before .before .before .before .before .before .before .before .before .before .before .before .before .before .before .before .places-of .result ≤ length work = omega (arith, lent .places-long) in
+    let among : c .before .before .before .before .before .before .before .before .before .before .before .before .before .before .before .before .before .before .field-of .result ≤ c .before .before .before .before .before .before .before .before .before .before .before .before .before .before .before .before .places-of .result = omega arith in
+    kept-fits _ _ work (c .before .before .before .before .before .before .before .before .before .before .before .before .find-held .last .1 .1 .1 .0) fits among (c .before .before .before .before .before .before .before .before .before .before .before .before .find-held .kept .1 .1 .1 .0) (c .before .before .before .before .before .before .before .before .before .before .before .before .before .before .before .before .before .before .field-of .result + 2 * (c .before .before .before .before .before .before .before .before .before .before .before .before .before .before .before .before .before .before .field-of .result + c .before .before .before .before .before .before .before .before .before .before .before .before .before .before .before .before .before .field-of2 .result) - c .before .before .before .before .before .before .before .before .before .before .before .before .before .before .before .before .before .before .field-of .result) (c .before .before .before .before .find-shared .last .1 .1 .1 .0)
 
--- src/lib.rt:139:32
 slice-aggregate-print-found : tie.Need-slice-aggregate-print-found
-slice-aggregate-print-found c = ?
+slice-aggregate-print-found c = let f = now (c .before .before .before .before .before .before .before .before .before .before .before .before .before .before .before .before .before .before .before .before .before .before .before .before .before .args .numbers) in
+    let work = now (c .before .before .before .before .before .before .before .before .before .before .before .before .before .before .before .before .before .before .before .before .before .before .before .before .before .args .work) in
+    let lent = c .before .before .before .before .before .before .before .before .before .before .before .before .before .before .before .before .before .before .before .before .before .before .before .before .before .pre .1 .1 in
+    let count : c .before .before .before .before .before .before .before .before .before .before .before .before .before .before .before .before .before .before .before .field-of .result ≡ statements f = c .before .before .before .before .before .before .before .before .before .before .before .before .before .before .before .before .before .before .before .field-of .ensures .0 in
+    let many : c .before .before .before .before .before .before .before .before .before .before .before .before .before .before .before .before .before .places-of .result ≡ basesOf f .every + 1 = c .before .before .before .before .before .before .before .before .before .before .before .before .before .before .before .before .before .places-of .ensures in
+    let fits : c .before .before .before .before .before .before .before .before .before .before .before .before .before .before .before .before .before .places-of .result ≤ length work = omega (arith, lent .places-long) in
+    let among : c .before .before .before .before .before .before .before .before .before .before .before .before .before .before .before .before .before .before .before .field-of .result ≤ c .before .before .before .before .before .before .before .before .before .before .before .before .before .before .before .before .before .places-of .result = omega arith in
+    held-count _ _ work (c .before .before .before .before .before .before .before .before .before .before .before .before .before .find-held .last .1 .1 .1 .0) fits among (c .before .before .before .before .before .before .before .before .before .before .before .before .before .find-held .kept .1 .1 .1 .0) ∙ sym (ap length (held-kept _ _ work (c .before .before .before .before .before .before .before .before .before .before .before .before .before .find-held .last .1 .1 .1 .0) fits among (c .before .before .before .before .before .before .before .before .before .before .before .before .before .find-held .kept .1 .1 .1 .0) (c .before .before .before .before .before .before .before .before .before .before .before .before .before .before .before .before .before .before .before .field-of .result + 2 * (c .before .before .before .before .before .before .before .before .before .before .before .before .before .before .before .before .before .before .before .field-of .result + c .before .before .before .before .before .before .before .before .before .before .before .before .before .before .before .before .before .before .field-of2 .result) - c .before .before .before .before .before .before .before .before .before .before .before .before .before .before .before .before .before .before .before .field-of .result) (c .before .before .before .before .before .find-shared .last .1 .1 .1 .0)))
 
--- src/lib.rt:139:5
 print-found-requires : tie.Need-print-found-requires
-print-found-requires c κs = ?
+print-found-requires c κs = let f = now (c .before .before .before .before .before .before .before .before .before .before .before .before .before .before .before .before .before .before .before .before .before .before .before .before .before .before .args .numbers) in
+    let work = now (c .before .before .before .before .before .before .before .before .before .before .before .before .before .before .before .before .before .before .before .before .before .before .before .before .before .before .args .work) in
+    let lent = c .before .before .before .before .before .before .before .before .before .before .before .before .before .before .before .before .before .before .before .before .before .before .before .before .before .before .pre .1 .1 in
+    let count : c .before .before .before .before .before .before .before .before .before .before .before .before .before .before .before .before .before .before .before .before .field-of .result ≡ statements f = c .before .before .before .before .before .before .before .before .before .before .before .before .before .before .before .before .before .before .before .before .field-of .ensures .0 in
+    let many : c .before .before .before .before .before .before .before .before .before .before .before .before .before .before .before .before .before .before .places-of .result ≡ basesOf f .every + 1 = c .before .before .before .before .before .before .before .before .before .before .before .before .before .before .before .before .before .before .places-of .ensures in
+    let fits : c .before .before .before .before .before .before .before .before .before .before .before .before .before .before .before .before .before .before .places-of .result ≤ length work = omega (arith, lent .places-long) in
+    let among : c .before .before .before .before .before .before .before .before .before .before .before .before .before .before .before .before .before .before .before .before .field-of .result ≤ c .before .before .before .before .before .before .before .before .before .before .before .before .before .before .before .before .before .before .places-of .result = omega arith in
+    (c .before .before .before .before .before .before .before .before .before .before .before .before .before .before .before .before .before .before .before .before .before .before .before .before .before .before .pre .0, (c .before .before .before .before .before .before .before .before .before .before .before .before .before .before .before .before .before .before .before .before .before .before .before .before .before .before .pre .1 .0, (held-kept _ _ work (c .before .before .before .before .before .before .before .before .before .before .before .before .before .before .find-held .last .1 .1 .1 .0) fits among (c .before .before .before .before .before .before .before .before .before .before .before .before .before .before .find-held .kept .1 .1 .1 .0) (c .before .before .before .before .before .before .before .before .before .before .before .before .before .before .before .before .before .before .before .before .field-of .result + 2 * (c .before .before .before .before .before .before .before .before .before .before .before .before .before .before .before .before .before .before .before .before .field-of .result + c .before .before .before .before .before .before .before .before .before .before .before .before .before .before .before .before .before .before .before .field-of2 .result) - c .before .before .before .before .before .before .before .before .before .before .before .before .before .before .before .before .before .before .before .before .field-of .result) (c .before .before .before .before .before .before .find-shared .last .1 .1 .1 .0) ∙ ap (λ (n : ℕ). take n (c .before .before .before .before .before .before .before .before .before .before .before .before .before .before .find-held .last .1 .1 .1 .0)) count ∙ c .before .before .before .before .before .before .before .before .before .before .before .before .before .before .find-held .ensures, c .before .before .before .before .before .before .find-shared .ensures)))
 
--- src/lib.rt:119:1
 same-length : tie.Need-same-length
 same-length c = search needs
 
--- src/lib.rt:119:1
 same-length-2 : tie.Need-same-length-2
 same-length-2 c = search needs
 
--- src/lib.rt:119:1
 same-length-3 : tie.Need-same-length-3
 same-length-3 c = search needs
 
--- src/lib.rt:119:1
 returns : tie.Need-returns
 returns c = search needs
 
