@@ -107,10 +107,9 @@ pub record Standing (numbers : List ℤ) (first handle : List ℕ) (sizes : Size
   pub state : State
   pub shows : ListsShow (tableOf numbers) words values registers state
 
--- a line is there, and so are the lines of the handles
-pub record Reaching (numbers : List ℤ) (line : ℕ) : Type 0 where
-  pub line-there : line * 8 + 8 ≤ length numbers
-  pub handles-there : 8 * length (tableOf numbers .handles) + 8 ≤ length numbers
+-- the lines of the handles are there
+abbrev pub HandlesThere : List ℤ → Type 0
+HandlesThere numbers = 8 * length (tableOf numbers .handles) + 8 ≤ length numbers
 
 -- what handle h refers to in a new frame, with arguments from the frame in slot `caller`
 unfoldable pub startValue : Table → List ℕ → ℕ → ℕ → Arguments → ℕ → ℕ

@@ -10,10 +10,8 @@ use lib.ListN.{length, getD, set, length-set}
 use lib.Seq.{set-getD}
 use Rattle.table.specs.Fields.{field}
 use Rattle.table.specs.Header.{statements, statementLine}
-use Rattle.table.specs.Statements.{operation}
 use Rattle.table.specs.TabulateLaws.{length-tabulate}
-use Rattle.table.specs.Table.{Table, tableOf, statement, argumentsIn, statementIn, statementOf, InRoutine}
-use Rattle.table.specs.OperationLaws.{by-operation}
+use Rattle.table.specs.Table.{Table, tableOf, statement, statementIn, statementOf, InRoutine}
 use Rattle.table.specs.Accepted.{Accepted, Operands}
 use Rattle.table.specs.declared.Arguments.{Arguments}
 use Rattle.table.specs.declared.Handle.{Handle}
@@ -25,8 +23,8 @@ use Rattle.machine.specs.Step.{wrap, isZero}
 use Rattle.run_state.specs.declared.Sizes.{Sizes}
 use Rattle.run_state.specs.Lists.{nextsIn, countsIn, startedIn, ownersIn, accumulatorsIn, cellsIn, countPlace, startedPlace, putCell}
 use Rattle.run_state.specs.ListLaws.{started-there, view-next, view-count, view-started, view-owner, view-accumulator, view-cell}
-use Rattle.run_state.specs.Shown.{Arrays, arrays, view, valuePlace, Shows, Fixed, Standing, Reaching, Naming}
-use Rattle.run_state.specs.TableLaws.{statement-read, reaching, LookedUp, looked-up, naming}
+use Rattle.run_state.specs.Shown.{Arrays, arrays, view, valuePlace, Shows, Fixed, Standing, HandlesThere, Naming}
+use Rattle.run_state.specs.TableLaws.{statement-read, handles-there, LookedUp, looked-up, naming}
 use Rattle.operations.specs.declared.Place.{Place}
 use Rattle.operations.specs.declared.Move.{Move}
 use Rattle.operations.specs.declared.Step.{Step}
@@ -89,7 +87,7 @@ module _ (numbers : List ℤ) (first handle : List ℕ) (sizes : Sizes) (words v
 
   pub here-at : (next : ℕ) (σ : Statement) → next ≡ getD (nextsIn words) (n * 32 + count - 1) 0
       → σ ≡ statementIn numbers (sizes .base + next) (field numbers (sizes .base + next) 1)
-      → Here numbers first handle sizes words values registers (record { thread = n; slot = n * 32 + count - 1; next = next; line = sizes .base + next }) σ
+      → Here numbers first handle sizes words values registers (record { thread = n; slot = n * 32 + count - 1; next = next }) σ
   here-at next σ q e =
       record {
         standing = s;
@@ -97,35 +95,8 @@ module _ (numbers : List ℤ) (first handle : List ℕ) (sizes : Sizes) (words v
         some = some-open;
         slot-is = newest-is;
         next-is = q;
-        line-is = omega (arith, s .fixed .sized .base-is);
         statement-is = line-said numbers (sizes .base) next σ (s .fixed .sized .base-is) e;
       }
-
--- what a CALL or START passes is what its line passes
-Passing : Arguments → Statement → Type 0
-Passing arguments (Read h) = Unit {0}
-Passing arguments (Write h) = Unit {0}
-Passing arguments (Set x) = Unit {0}
-Passing arguments (Add x) = Unit {0}
-Passing arguments (Take h) = Unit {0}
-Passing arguments (Give h) = Unit {0}
-Passing arguments (Point h g) = Unit {0}
-Passing arguments (Call q a) = arguments ≡ a
-Passing arguments (Start q a) = arguments ≡ a
-Passing arguments (Jump s) = Unit {0}
-Passing arguments (JumpZero s) = Unit {0}
-Passing arguments Return = Unit {0}
-
-passing : (f : List ℤ) (line op : ℕ) → Passing (argumentsIn f line) (statementIn f line op)
-unfolding Passing
-passing f line op =
-    by-operation f line (λ o σ. Passing (argumentsIn f line) σ) tt tt tt tt tt tt tt refl refl tt tt (λ o. tt) op
-
--- the arguments of a CALL or START are those in its line
-arguments-read : (f : List ℤ) (s q : ℕ) (a : Arguments) (σ : Statement) → σ ≡ statementOf f s → (σ ≡ Call q a) ⊎ (σ ≡ Start q a) → argumentsIn f (statementLine f s) ≡ a
-unfolding Passing statementOf
-arguments-read f s q a σ e (inl k) = subst (Passing (argumentsIn f (statementLine f s))) (sym e ∙ k) (passing f (statementLine f s) (operation f s))
-arguments-read f s q a σ e (inr k) = subst (Passing (argumentsIn f (statementLine f s))) (sym e ∙ k) (passing f (statementLine f s) (operation f s))
 
 -- ---- at the statement
 
@@ -174,7 +145,7 @@ module _ (numbers : List ℤ) (first handle : List ℕ) (sizes : Sizes) (words v
 
   pub placed-here : Placed at
   placed-here =
-      let q = placed t accepted a (here .standing .state) (at .thread) (at .slot) shown-here (here .low) stands (at .line) in
+      let q = placed t accepted a (here .standing .state) (at .thread) (at .slot) shown-here (here .low) stands in
       record { thread-low = q .thread-low; slot-low = q .slot-low; next-low = subst (λ (i : ℕ). i < 512) (sym (stands-at (here .standing .state) shown-here)) (q .next-low) }
 
   pub cells-few : sizes .cells ≤ 64
@@ -192,20 +163,8 @@ module _ (numbers : List ℤ) (first handle : List ℕ) (sizes : Sizes) (words v
   pub slot-below : at .slot < startedIn words * 32
   slot-below = omega (arith, here .low, stands .slot-is, stands .few)
 
-  pub line-there : Reaching numbers (at .line)
-  unfolding tableOf
-  line-there =
-      reaching numbers (at .line) (fixed .long)
-      (omega (
-        arith,
-        here .line-is,
-        stands-at (here .standing .state) shown-here,
-        stands .shown .inside .high,
-        rw length-tabulate at (accepted .routine-facts (stands .f .routine) (stands .shown .there) .statements-there),
-      ))
-
-  passes : (q : ℕ) (arguments : Arguments) → (σ ≡ Call q arguments) ⊎ (σ ≡ Start q arguments) → argumentsIn numbers (at .line) ≡ arguments
-  passes q arguments e = ap (argumentsIn numbers) (here .line-is) ∙ arguments-read numbers (at .next) q arguments σ (here .statement-is) e
+  pub lines-there : HandlesThere numbers
+  lines-there = handles-there numbers (fixed .long)
 
   target-low : (s : ℕ) → InRoutine (tableOf numbers) (stands .f .routine) s → s < 512
   target-low s i = omega (arith, i .high, accepted .routine-facts (stands .f .routine) (stands .shown .there) .statements-there, accepted .statements-most)
@@ -341,7 +300,7 @@ module _ (numbers : List ℤ) (first handle : List ℕ) (sizes : Sizes) (words v
       (λ state s. point-step t accepted a state (at .thread) (at .slot) s (here .low) (p state s) (at .next) (stands-at state s) h g (is state s (Point h g) e))
 
   pub did-call : (q : ℕ) (arguments : Arguments) (words′ values′ : List ℕ) (r : Move) → σ ≡ Call q arguments
-      → Called (tableOf numbers) (getD first q 0) (getD handle q 0) (getD handle (q + 1) 0) (argumentsIn numbers (at .line)) at r words words′ values values′
+      → Called (tableOf numbers) (getD first q 0) (getD handle q 0) (getD handle (q + 1) 0) arguments at r words words′ values values′
       → Operated (tableOf numbers) words values registers words′ values′ registers at σ r
   did-call q arguments words′ values′ r e (inl w) =
       let u = looked q (routine-there q arguments (inl e)) in
@@ -358,11 +317,10 @@ module _ (numbers : List ℤ) (first handle : List ℕ) (sizes : Sizes) (words v
       ∙ ap (λ (b : Arrays). arrays (b .started) (b .nexts) (b .values) (set (b .counts) (at .thread) count) (b .accumulators) (b .owners) (b .cells))
       (view-next t words values′ registers (at .slot + 1) (getD first q 0) (omega (arith, here .slot-is, w .free, placed-here .thread-low))))
       (λ state s. call-step t accepted a state (at .thread) (at .slot) s (here .low) (p state s) (at .next) (stands-at state s) q arguments
-      (getD first q 0) (getD handle q 0) (getD handle (q + 1) 0) (u .first-is) (u .from-is) (u .end-is) values′ (is state s (Call q arguments) e) (w .free)
-      (rw (passes q arguments (inl e)) at (w .entered)))
+      (getD first q 0) (getD handle q 0) (getD handle (q + 1) 0) (u .first-is) (u .from-is) (u .end-is) values′ (is state s (Call q arguments) e) (w .free) (w .entered))
 
   pub did-start : (q : ℕ) (arguments : Arguments) (words′ values′ : List ℕ) (registers′ : List ℤ) (r : Move) → σ ≡ Start q arguments
-      → Started (tableOf numbers) (getD first q 0) (getD handle q 0) (getD handle (q + 1) 0) (argumentsIn numbers (at .line)) at r words words′ values values′ registers registers′
+      → Started (tableOf numbers) (getD first q 0) (getD handle q 0) (getD handle (q + 1) 0) arguments at r words words′ values values′ registers registers′
       → Operated (tableOf numbers) words values registers words′ values′ registers′ at σ r
   did-start q arguments words′ values′ registers′ r e (inl w) =
       let u = looked q (routine-there q arguments (inr e)) in
@@ -373,8 +331,7 @@ module _ (numbers : List ℤ) (first handle : List ℕ) (sizes : Sizes) (words v
       let u = looked q (routine-there q arguments (inr e)) in
       went-on words′ values′ registers′ r _ (Start q arguments) e (w .answer-is) (begun (startedIn words) refl (w .free) (w .words-are) (w .registers-are))
       (λ state s. start-step t accepted a state (at .thread) (at .slot) s (here .low) (p state s) (at .next) (stands-at state s) q arguments
-      (getD first q 0) (getD handle q 0) (getD handle (q + 1) 0) (u .first-is) (u .from-is) (u .end-is) values′ (is state s (Start q arguments) e) (w .free)
-      (rw (passes q arguments (inr e)) at (w .entered)))
+      (getD first q 0) (getD handle q 0) (getD handle (q + 1) 0) (u .first-is) (u .from-is) (u .end-is) values′ (is state s (Start q arguments) e) (w .free) (w .entered))
     where
       begun : (n : ℕ) → n ≡ startedIn words → n < 16 → words′ ≡ set (set (set words (n * 32) (getD first q 0)) (countPlace n) 1) startedPlace (n + 1) → registers′ ≡ set registers n (pos 0)
           → view (tableOf numbers) words′ values′ registers′

@@ -108,8 +108,8 @@ pub record Accumulated (old new : List ℤ) (n : ℕ) (b : ℤ) : Type 0 where
   pub other : (m : ℕ) → (m ≡ n → ⊥) → getD new m (pos 0) ≡ getD old m (pos 0)
 
 module _ (t : Table) (accepted : Accepted t) (a : Arrays) (state : State) (n slot : ℕ) (s : Shows t a state) (low : n < a .started) (p : Top t a state n slot) where
-  pub placed : (line : ℕ) → Placed (record { thread = n; slot = slot; next = p .f .next; line = line })
-  placed line =
+  pub placed : Placed (record { thread = n; slot = slot; next = p .f .next })
+  placed =
       let facts = accepted .routine-facts (p .f .routine) (p .shown .there) in
       record {
         thread-low = omega (arith, s .most);

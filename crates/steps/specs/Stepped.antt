@@ -4,7 +4,6 @@ use mathlib.Core.Path.{_≡_}
 use mathlib.Core.List.{List, _++_}
 use lib.IntN.{ℤ}
 use lib.ListN.{length, getD, set, drop}
-use Rattle.table.specs.Header.{statementLine}
 use Rattle.table.specs.Table.{Table, statementOf}
 use Rattle.table.specs.declared.Statement.{Statement}
 use Rattle.machine.specs.State.{State}
@@ -46,7 +45,6 @@ pub record Here (numbers : List ℤ) (first handle : List ℕ) (sizes : Sizes) (
   pub some : 0 < getD (countsIn words) (at .thread) 0
   pub slot-is : at .slot + 1 ≡ at .thread * 32 + getD (countsIn words) (at .thread) 0
   pub next-is : at .next ≡ getD (nextsIn words) (at .slot) 0
-  pub line-is : at .line ≡ statementLine numbers (at .next)
   pub statement-is : σ ≡ statementOf numbers (at .next)
 
 -- an operation, to be followed by the store of its frame's next statement

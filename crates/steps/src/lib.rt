@@ -47,7 +47,7 @@ fn operate(
     sizes: Sizes,
     statement: Statement,
     at: Place,
-    words: &mut [u16; 545],
+    words: &mut [u32; 545],
     values: &mut [u8; 4096],
     registers: &mut [i32; 80],
 ) -> Move
@@ -67,18 +67,22 @@ fn operate(
             at,
             values,
         ),
-        Statement::Call {
-            routine,
-            arguments: _,
-        } => operations::call(numbers, first, handle, routine, at, words, values),
-        Statement::Start {
-            routine,
-            arguments: _,
-        } => operations::start(
+        Statement::Call { routine, arguments } => operations::call(
             numbers,
             first,
             handle,
             routine,
+            arguments,
+            at,
+            words,
+            values,
+        ),
+        Statement::Start { routine, arguments } => operations::start(
+            numbers,
+            first,
+            handle,
+            routine,
+            arguments,
             at,
             words,
             values,
@@ -101,7 +105,7 @@ pub fn step(
     handle: &[usize; 33],
     sizes: Sizes,
     n: usize,
-    words: &mut [u16; 545],
+    words: &mut [u32; 545],
     values: &mut [u8; 4096],
     registers: &mut [i32; 80],
 ) -> Step
@@ -117,13 +121,11 @@ pub fn step(
     }
     let slot = n * 32 + count - 1;
     let next = places::next_of(words, slot);
-    let line = sizes.base + next;
-    let statement = table::statement_at(numbers, line);
+    let statement = table::statement_at(numbers, sizes.base + next);
     let at = Place {
         thread: n,
         slot,
         next,
-        line,
     };
     let done = operate(
         numbers,
@@ -148,7 +150,7 @@ pub fn follow(
     sizes: Sizes,
     schedule: &[u8],
     answers: &mut [u8],
-    words: &mut [u16; 545],
+    words: &mut [u32; 545],
     values: &mut [u8; 4096],
     registers: &mut [i32; 80],
 )

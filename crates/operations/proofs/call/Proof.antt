@@ -6,11 +6,8 @@ use borrow.Author.Needs.{needs}
 use Rattle.operations.proofs.call.Statement.{statement}
 use Rattle.operations.proofs.call.Tie as tie
 
-count-of-requires : tie.Need-count-of-requires
-count-of-requires c κs = search needs
-
 returns : tie.Need-returns
-returns c = inl (record { full = rw (c .before .count-of .ensures) at (c .if1 .taken); answer-is = refl; words-are = refl; values-are = refl })
+returns c = inl (record { full = full-count _ _ (c .before .pre .2) (c .if1 .taken); answer-is = refl; words-are = refl; values-are = refl })
 
 mul-enter : tie.Need-mul-enter
 mul-enter c = search needs
@@ -61,7 +58,6 @@ pub call-spec : {M : Type 1} → statement M
 call-spec =
     tie.close
     (tie.spec
-    count-of-requires
     returns
     mul-enter
     element-copy-out-enter

@@ -31,8 +31,8 @@ sub-slot c = search needs
 next-of-requires : tie.Need-next-of-requires
 next-of-requires c κs = newest-low _ _ _ _ _ _ _ _ _ _ (c .before .before .before .before .before .before .before .pre) (c .before .before .before .before .before .started-of .ensures) (c .before .before .before .before .if1 .left) (c .before .before .count-of .ensures) (c .before .if2 .left)
 
-add-line : tie.Need-add-line
-add-line c = record { fits = omega (arith, lined _ _ _ _ _ _ _ _ _ _ (c .before .before .before .before .before .before .before .before .before .pre) (c .before .before .before .before .before .before .before .started-of .ensures) (c .before .before .before .before .before .before .if1 .left) (c .before .before .before .before .count-of .ensures) (c .before .before .before .if2 .left) _ (c .before .next-of .ensures) .small) }
+add-statement-at : tie.Need-add-statement-at
+add-statement-at c = record { fits = omega (arith, lined _ _ _ _ _ _ _ _ _ _ (c .before .before .before .before .before .before .before .before .before .pre) (c .before .before .before .before .before .before .before .started-of .ensures) (c .before .before .before .before .before .before .if1 .left) (c .before .before .before .before .count-of .ensures) (c .before .before .before .if2 .left) _ (c .before .next-of .ensures) .small) }
 
 statement-at-requires : tie.Need-statement-at-requires
 statement-at-requires c κs = lined _ _ _ _ _ _ _ _ _ _ (c .before .before .before .before .before .before .before .before .before .pre) (c .before .before .before .before .before .before .before .started-of .ensures) (c .before .before .before .before .before .before .if1 .left) (c .before .before .before .before .count-of .ensures) (c .before .before .before .if2 .left) _ (c .before .next-of .ensures) .there
@@ -61,7 +61,7 @@ step-spec =
     add-slot
     sub-slot
     next-of-requires
-    add-line
+    add-statement-at
     statement-at-requires
     operate-requires
     go-to-requires
