@@ -63,11 +63,7 @@ pub fn owner_at(words: &[u32; 545], locks: usize, k: usize) -> usize
     requires { ⌜ locks ≤ 16 ⌝ }
     ensures { λ r. ⌜ r ≡ getD (ownersIn locks (now (words .entry))) k 0 ⌝ }
 {
-    if k < locks {
-        wide(words[529 + k])
-    } else {
-        0
-    }
+    if k < locks { wide(words[529 + k]) } else { 0 }
 }
 
 // Stores who holds lock `k` of so many locks.

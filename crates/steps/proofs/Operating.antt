@@ -7,7 +7,6 @@ use mathlib.Core.Logic.{_⊎_, inl, inr}
 use native.Mathlib.Omega.{arith}
 use lib.IntN.{ℤ, pos, _+ℤ_}
 use lib.ListN.{length, getD, set, length-set}
-use lib.Seq.{set-getD}
 use Rattle.table.specs.Fields.{field}
 use Rattle.table.specs.Header.{statements, statementLine}
 use Rattle.table.specs.TabulateLaws.{length-tabulate}
@@ -27,11 +26,11 @@ use Rattle.run_state.specs.Shown.{Arrays, arrays, view, valuePlace, Shows, Fixe
 use Rattle.run_state.specs.TableLaws.{statement-read, handles-there, LookedUp, looked-up, naming}
 use Rattle.operations.specs.declared.Place.{Place}
 use Rattle.operations.specs.declared.Move.{Move}
+use Rattle.operations.specs.declared.Move.the-variants.{To, Closed, Stopped}
 use Rattle.operations.specs.declared.Step.{Step}
 use Rattle.operations.specs.declared.Step.the-variants.{Ran, Refused}
-use Rattle.operations.specs.Step.{answeredAt}
-use Rattle.operations.specs.Operation.{Placed, on, to, stopped, Locked, Called, Started}
-use Rattle.steps.specs.Stepped.{Stepped, Here, Operated}
+use Rattle.operations.specs.Operation.{Placed, on, Locked, Called, Started}
+use Rattle.steps.specs.Stepped.{Stepped, Here, stored, Storable, answerBy, Operated}
 use Rattle.steps.specs.StepLaws.{Top, top, placed, read-step, write-step, set-step, add-step, jump-step, jump-zero-step, return-step, take-refused, take-step, give-refused, give-step, point-step, call-refused, call-step, start-refused, start-step}
 
 -- the statement of a line is the table's
@@ -92,17 +91,12 @@ module _ (numbers : List ℤ) (first handle : List ℕ) (sizes : Sizes) (words v
       record {
         standing = s;
         low = inside;
-        some = some-open;
-        slot-is = newest-is;
+        newest = record { some = some-open; few = s .shows .thread-is n inside .few; slot-is = newest-is };
         next-is = q;
         statement-is = line-said numbers (sizes .base) next σ (s .fixed .sized .base-is) e;
       }
 
 -- ---- at the statement
-
--- x becomes the next statement of the frame in a slot
-abbrev stored : Arrays → ℕ → ℕ → Arrays
-stored a slot x = arrays (a .started) (set (a .nexts) slot x) (a .values) (a .counts) (a .accumulators) (a .owners) (a .cells)
 
 module _ (numbers : List ℤ) (first handle : List ℕ) (sizes : Sizes) (words values : List ℕ) (registers : List ℤ) (at : Place) (σ : Statement)
     (here : Here numbers first handle sizes words values registers at σ) where
@@ -120,7 +114,7 @@ module _ (numbers : List ℤ) (first handle : List ℕ) (sizes : Sizes) (words v
 
   module _ (state : State) (s : Shows (tableOf numbers) (view (tableOf numbers) words values registers) state) where
     abbrev p : Top (tableOf numbers) (view (tableOf numbers) words values registers) state (at .thread) (at .slot)
-    p = top t a state (at .thread) (at .slot) s (here .low) (here .some) (here .slot-is)
+    p = top t a state (at .thread) (at .slot) s (here .low) (here .newest .some) (here .newest .slot-is)
 
     stands-at : at .next ≡ p .f .next
     stands-at = here .next-is ∙ p .shown .next-is
@@ -154,9 +148,6 @@ module _ (numbers : List ℤ) (first handle : List ℕ) (sizes : Sizes) (words v
   pub locks-few : sizes .locks ≤ 16
   locks-few = omega (arith, fixed .sized .locks-are, accepted .locks-most)
 
-  pub count-few : getD (countsIn words) (at .thread) 0 ≤ 32
-  count-few = shown-here .thread-is (at .thread) (here .low) .few
-
   pub values-long : length values ≡ 4096
   values-long = shown-here .lengths .values
 
@@ -181,45 +172,48 @@ module _ (numbers : List ℤ) (first handle : List ℕ) (sizes : Sizes) (words v
 
   -- ---- what the operations leave
 
-  -- by what the lists hold after the operation, before the frame's next statement is stored
-  left : (words′ values′ : List ℕ) (registers′ : List ℤ) (r m : Move) (new : Arrays) (answer : Step) → r ≡ m → m .next < 65536
-      → view (tableOf numbers) words′ values′ registers′ ≡ new → answeredAt (m .number) σ ≡ answer
-      → ((state : State) (s : Shows (tableOf numbers) (view (tableOf numbers) words values registers) state) → Stepped (tableOf numbers) (stored new (at .slot) (m .next)) state (at .thread) answer)
+  -- by what the lists hold after the operation and the store
+  left : (words′ values′ : List ℕ) (registers′ : List ℤ) (r m : Move) (new : Arrays) (answer : Step) → r ≡ m → Storable m
+      → view (tableOf numbers) (stored (at .slot) m words′) values′ registers′ ≡ new → answerBy m σ ≡ answer
+      → ((state : State) (s : Shows (tableOf numbers) (view (tableOf numbers) words values registers) state) → Stepped (tableOf numbers) new state (at .thread) answer)
       → Operated (tableOf numbers) words values registers words′ values′ registers′ at σ r
   left words′ values′ registers′ r m new answer e l v k did =
       subst (λ (q : Move). Operated t words values registers words′ values′ registers′ at σ q) (sym e)
       (record {
-        small = l;
+        storable = l;
         steps = λ state s.
-            subst (λ (x : Step). Stepped t (view t (set words′ (at .slot) (m .next)) values′ registers′) state (at .thread) x) (sym k)
-            (subst (λ (b : Arrays). Stepped t b state (at .thread) answer)
-            (sym (view-next t words′ values′ registers′ (at .slot) (m .next) (placed-here .slot-low) ∙ ap (λ (b : Arrays). stored b (at .slot) (m .next)) v)) (did state s));
+            subst (λ (x : Step). Stepped t (view t (stored (at .slot) m words′) values′ registers′) state (at .thread) x) (sym k)
+            (subst (λ (b : Arrays). Stepped t b state (at .thread) answer) (sym v) (did state s));
       })
 
-  next-small : at .next + 1 < 65536
+  went-to : (words′ values′ : List ℕ) (registers′ : List ℤ) (r : Move) (x : ℕ) (new : Arrays) (τ : Statement) → σ ≡ τ → r ≡ To x → x < 4294967296
+      → view (tableOf numbers) words′ values′ registers′ ≡ new
+      → ((state : State) (s : Shows (tableOf numbers) (view (tableOf numbers) words values registers) state)
+      → Stepped (tableOf numbers) (arrays (new .started) (set (new .nexts) (at .slot) x) (new .values) (new .counts) (new .accumulators) (new .owners) (new .cells)) state (at .thread) (Ran τ))
+      → Operated (tableOf numbers) words values registers words′ values′ registers′ at σ r
+  went-to words′ values′ registers′ r x new τ e q l v did =
+      left words′ values′ registers′ r (To x) _ (Ran τ) q l
+      (view-next t words′ values′ registers′ (at .slot) x (placed-here .slot-low)
+      ∙ ap (λ (b : Arrays). arrays (b .started) (set (b .nexts) (at .slot) x) (b .values) (b .counts) (b .accumulators) (b .owners) (b .cells)) v)
+      (ap Ran e) did
+
+  next-small : at .next + 1 < 4294967296
   next-small = omega (arith, placed-here .next-low)
 
   went-on : (words′ values′ : List ℕ) (registers′ : List ℤ) (r : Move) (new : Arrays) (τ : Statement) → σ ≡ τ → r ≡ on at
       → view (tableOf numbers) words′ values′ registers′ ≡ new
       → ((state : State) (s : Shows (tableOf numbers) (view (tableOf numbers) words values registers) state)
-      → Stepped (tableOf numbers) (stored new (at .slot) (at .next + 1)) state (at .thread) (Ran τ))
+      → Stepped (tableOf numbers) (arrays (new .started) (set (new .nexts) (at .slot) (at .next + 1)) (new .values) (new .counts) (new .accumulators) (new .owners) (new .cells)) state (at .thread) (Ran τ))
       → Operated (tableOf numbers) words values registers words′ values′ registers′ at σ r
-  went-on words′ values′ registers′ r new τ e q v did = left words′ values′ registers′ r (on at) new (Ran τ) q next-small v (ap Ran e) did
+  went-on words′ values′ registers′ r new τ e q v did = went-to words′ values′ registers′ r (at .next + 1) new τ e q next-small v did
 
-  -- the frame's next statement stored again
-  same : (b : Arrays) → b .nexts ≡ nextsIn words → stored b (at .slot) (at .next) ≡ b
-  same b e =
-      ap (λ (l : List ℕ). arrays (b .started) l (b .values) (b .counts) (b .accumulators) (b .owners) (b .cells))
-      (ap (λ (i : ℕ). set (b .nexts) (at .slot) i) (here .next-is ∙ ap (λ (l : List ℕ). getD l (at .slot) 0) (sym e)) ∙ set-getD (b .nexts) (at .slot) 0)
-
-  was-refused : (number : ℕ) (words′ values′ : List ℕ) (registers′ : List ℤ) (r : Move) (τ : Statement) → σ ≡ τ → answeredAt number σ ≡ Refused number σ → r ≡ stopped number at
+  was-refused : (number : ℕ) (words′ values′ : List ℕ) (registers′ : List ℤ) (r : Move) (τ : Statement) → σ ≡ τ → r ≡ Stopped number
       → words′ ≡ words → values′ ≡ values → registers′ ≡ registers
       → ((state : State) (s : Shows (tableOf numbers) (view (tableOf numbers) words values registers) state)
       → Stepped (tableOf numbers) (view (tableOf numbers) words values registers) state (at .thread) (Refused number τ))
       → Operated (tableOf numbers) words values registers words′ values′ registers′ at σ r
-  was-refused number words′ values′ registers′ r τ e k q x y z did =
-      left words′ values′ registers′ r (stopped number at) a (Refused number τ) q (omega (arith, placed-here .next-low)) (rw (x, y, z)) (k ∙ ap (Refused number) e)
-      (λ state s. subst (λ (b : Arrays). Stepped t b state (at .thread) (Refused number τ)) (sym (same a refl)) (did state s))
+  was-refused number words′ values′ registers′ r τ e q x y z did =
+      left words′ values′ registers′ r (Stopped number) a (Refused number τ) q tt (rw (x, y, z)) (ap (Refused number) e) did
 
   pub did-read : (h : Handle) (registers′ : List ℤ) (r : Move) → σ ≡ Read h → r ≡ on at
       → registers′ ≡ set registers (at .thread) (getD (cellsIn (sizes .cells) registers) (getD values (valuePlace (at .slot) (h .number)) 0) (pos 0))
@@ -270,7 +264,7 @@ module _ (numbers : List ℤ) (first handle : List ℕ) (sizes : Sizes) (words v
       go : Locked 16 0 (at .thread + 1) (getD values (valuePlace (at .slot) (h .number)) 0) at (tableOf numbers .locks) r words words′
           → Operated (tableOf numbers) words values registers words′ values registers at σ r
       go (inl w) =
-          was-refused 16 words′ values registers r (Take h) e refl (w .answer-is) (w .words-are) refl refl
+          was-refused 16 words′ values registers r (Take h) e (w .answer-is) (w .words-are) refl refl
           (λ state s. take-refused t accepted a state (at .thread) (at .slot) s (here .low) (p state s) (at .next) (stands-at state s) h (is state s (Take h) e) (w .blocked))
       go (inr w) =
           went-on words′ values registers r _ (Take h) e (w .answer-is)
@@ -285,7 +279,7 @@ module _ (numbers : List ℤ) (first handle : List ℕ) (sizes : Sizes) (words v
       go : Locked 17 (at .thread + 1) 0 (getD values (valuePlace (at .slot) (h .number)) 0) at (tableOf numbers .locks) r words words′
           → Operated (tableOf numbers) words values registers words′ values registers at σ r
       go (inl w) =
-          was-refused 17 words′ values registers r (Give h) e refl (w .answer-is) (w .words-are) refl refl
+          was-refused 17 words′ values registers r (Give h) e (w .answer-is) (w .words-are) refl refl
           (λ state s. give-refused t accepted a state (at .thread) (at .slot) s (here .low) (p state s) (at .next) (stands-at state s) h (is state s (Give h) e) (w .blocked))
       go (inr w) =
           went-on words′ values registers r _ (Give h) e (w .answer-is)
@@ -304,7 +298,7 @@ module _ (numbers : List ℤ) (first handle : List ℕ) (sizes : Sizes) (words v
       → Operated (tableOf numbers) words values registers words′ values′ registers at σ r
   did-call q arguments words′ values′ r e (inl w) =
       let u = looked q (routine-there q arguments (inl e)) in
-      was-refused 19 words′ values′ registers r (Call q arguments) e refl (w .answer-is) (w .words-are) (w .values-are) refl
+      was-refused 19 words′ values′ registers r (Call q arguments) e (w .answer-is) (w .words-are) (w .values-are) refl
       (λ state s. call-refused t accepted a state (at .thread) (at .slot) s (here .low) (p state s) (at .next) (stands-at state s) q arguments
       (getD first q 0) (getD handle q 0) (getD handle (q + 1) 0) (u .first-is) (u .from-is) (u .end-is) (is state s (Call q arguments) e) (w .full))
   did-call q arguments words′ values′ r e (inr w) =
@@ -315,7 +309,7 @@ module _ (numbers : List ℤ) (first handle : List ℕ) (sizes : Sizes) (words v
       (ap (λ (l : List ℕ). view t l values′ registers) (w .words-are)
       ∙ view-count t opened values′ registers (at .thread) (countPlace (at .thread)) count (placed-here .thread-low) refl
       ∙ ap (λ (b : Arrays). arrays (b .started) (b .nexts) (b .values) (set (b .counts) (at .thread) count) (b .accumulators) (b .owners) (b .cells))
-      (view-next t words values′ registers (at .slot + 1) (getD first q 0) (omega (arith, here .slot-is, w .free, placed-here .thread-low))))
+      (view-next t words values′ registers (at .slot + 1) (getD first q 0) (omega (arith, here .newest .slot-is, w .free, placed-here .thread-low))))
       (λ state s. call-step t accepted a state (at .thread) (at .slot) s (here .low) (p state s) (at .next) (stands-at state s) q arguments
       (getD first q 0) (getD handle q 0) (getD handle (q + 1) 0) (u .first-is) (u .from-is) (u .end-is) values′ (is state s (Call q arguments) e) (w .free) (w .entered))
 
@@ -324,7 +318,7 @@ module _ (numbers : List ℤ) (first handle : List ℕ) (sizes : Sizes) (words v
       → Operated (tableOf numbers) words values registers words′ values′ registers′ at σ r
   did-start q arguments words′ values′ registers′ r e (inl w) =
       let u = looked q (routine-there q arguments (inr e)) in
-      was-refused 18 words′ values′ registers′ r (Start q arguments) e refl (w .answer-is) (w .words-are) (w .values-are) (w .registers-are)
+      was-refused 18 words′ values′ registers′ r (Start q arguments) e (w .answer-is) (w .words-are) (w .values-are) (w .registers-are)
       (λ state s. start-refused t accepted a state (at .thread) (at .slot) s (here .low) (p state s) (at .next) (stands-at state s) q arguments
       (getD first q 0) (getD handle q 0) (getD handle (q + 1) 0) (u .first-is) (u .from-is) (u .end-is) (is state s (Start q arguments) e) (w .full))
   did-start q arguments words′ values′ registers′ r e (inr w) =
@@ -348,33 +342,36 @@ module _ (numbers : List ℤ) (first handle : List ℕ) (sizes : Sizes) (words v
           (view-count t opened values′ (set registers n (pos 0)) n (countPlace n) 1 low refl
           ∙ ap (λ (b : Arrays). arrays (b .started) (b .nexts) (b .values) (set (b .counts) n 1) (b .accumulators) (b .owners) (b .cells))
           (view-next t words values′ (set registers n (pos 0)) (n * 32) (getD first q 0) frame-low
-          ∙ ap (λ (b : Arrays). stored b (n * 32) (getD first q 0)) (view-accumulator t words values′ registers n (pos 0) low)))
+          ∙ ap (λ (b : Arrays). arrays (b .started) (set (b .nexts) (n * 32) (getD first q 0)) (b .values) (b .counts) (b .accumulators) (b .owners) (b .cells)) (view-accumulator t words values′ registers n (pos 0) low)))
 
-  pub did-jump : (target : Target) (r : Move) → σ ≡ Jump target → r ≡ to (target .statement) → Operated (tableOf numbers) words values registers words values registers at σ r
+  pub did-jump : (target : Target) (r : Move) → σ ≡ Jump target → r ≡ To (target .statement) → Operated (tableOf numbers) words values registers words values registers at σ r
   did-jump target r e q =
-      left words values registers r (to (target .statement)) a (Ran (Jump target)) q
-      (omega (arith, target-low (target .statement) (operands (here .standing .state) shown-here (Jump target) e))) refl (ap Ran e)
+      went-to words values registers r (target .statement) a (Jump target) e q
+      (omega (arith, target-low (target .statement) (operands (here .standing .state) shown-here (Jump target) e))) refl
       (λ state s. jump-step t accepted a state (at .thread) (at .slot) s (here .low) (p state s) (at .next) (stands-at state s) target (is state s (Jump target) e))
 
   pub did-jump-zero : (target : Target) (r : Move) → σ ≡ JumpZero target
-      → r ≡ to (cond (isZero (getD (accumulatorsIn registers) (at .thread) (pos 0))) (target .statement) (at .next + 1))
+      → r ≡ To (cond (isZero (getD (accumulatorsIn registers) (at .thread) (pos 0))) (target .statement) (at .next + 1))
       → Operated (tableOf numbers) words values registers words values registers at σ r
   did-jump-zero target r e q =
       let z = isZero (getD (accumulatorsIn registers) (at .thread) (pos 0)) in
-      left words values registers r (to (cond z (target .statement) (at .next + 1))) a (Ran (JumpZero target)) q (small z) refl (ap Ran e)
+      went-to words values registers r (cond z (target .statement) (at .next + 1)) a (JumpZero target) e q (small z) refl
       (λ state s. jump-zero-step t accepted a state (at .thread) (at .slot) s (here .low) (p state s) (at .next) (stands-at state s) target (is state s (JumpZero target) e))
     where
-      small : (b : Bool) → cond b (target .statement) (at .next + 1) < 65536
+      small : (b : Bool) → cond b (target .statement) (at .next + 1) < 4294967296
       small true = omega (arith, target-low (target .statement) (operands (here .standing .state) shown-here (JumpZero target) e))
       small false = next-small
 
-  pub did-return : (words′ : List ℕ) (r : Move) → σ ≡ Return → r ≡ to (at .next)
+  pub did-return : (words′ : List ℕ) (r : Move) → σ ≡ Return → r ≡ Closed
       → words′ ≡ set words (countPlace (at .thread)) (getD (countsIn words) (at .thread) 0 - 1)
       → Operated (tableOf numbers) words values registers words′ values registers at σ r
   did-return words′ r e q x =
       let count = getD (countsIn words) (at .thread) 0 - 1 in
-      left words′ values registers r (to (at .next)) _ (Ran Return) q (omega (arith, placed-here .next-low))
+      left words′ values registers r Closed _ (Ran Return) q tt
       (ap (λ (l : List ℕ). view t l values registers) x ∙ view-count t words values registers (at .thread) (countPlace (at .thread)) count (placed-here .thread-low) refl) (ap Ran e)
-      (λ state s. subst (λ (b : Arrays). Stepped t b state (at .thread) (Ran Return))
-      (sym (same (arrays (startedIn words) (nextsIn words) values (set (countsIn words) (at .thread) count) (accumulatorsIn registers) (ownersIn (t .locks) words) (cellsIn (t .cells) registers)) refl))
-      (return-step t accepted a state (at .thread) (at .slot) s (here .low) (p state s) (at .next) (stands-at state s) (is state s Return e)))
+      (λ state s. return-step t accepted a state (at .thread) (at .slot) s (here .low) (p state s) (at .next) (stands-at state s) (is state s Return e))
+
+-- what an operation left, where that is known
+pub known : (t : Table) (words values : List ℕ) (registers : List ℤ) (words′ values′ : List ℕ) (registers′ : List ℤ) (at : Place) (σ : Statement) (r m : Move) → r ≡ m
+    → Operated t words values registers words′ values′ registers′ at σ r → Operated t words values registers words′ values′ registers′ at σ m
+known t words values registers words′ values′ registers′ at σ r m e o = subst (Operated t words values registers words′ values′ registers′ at σ) e o

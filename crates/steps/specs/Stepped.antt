@@ -14,8 +14,11 @@ use Rattle.run_state.specs.Lists.{nextsIn, countsIn, startedIn}
 use Rattle.run_state.specs.Shown.{Arrays, view, user, Shows, ListsShow, Standing}
 use Rattle.operations.specs.declared.Place.{Place}
 use Rattle.operations.specs.declared.Move.{Move}
+use Rattle.operations.specs.declared.Move.the-variants.{To, Closed, Stopped}
 use Rattle.operations.specs.declared.Step.{Step}
-use Rattle.operations.specs.Step.{numberOf, answeredAt, stepOf}
+use Rattle.operations.specs.declared.Step.the-variants.{Ran, Refused}
+use Rattle.operations.specs.Operation.{Newest}
+use Rattle.operations.specs.Step.{numberOf, stepOf}
 
 -- a step of thread n: the answer and the state after it are the engine's
 pub record Stepped (t : Table) (new : Arrays) (state : State) (n : ℕ) (step : Step) : Type 0 where
@@ -42,12 +45,29 @@ Follows t words values registers words′ values′ registers′ schedule lent l
 pub record Here (numbers : List ℤ) (first handle : List ℕ) (sizes : Sizes) (words values : List ℕ) (registers : List ℤ) (at : Place) (σ : Statement) : Type 0 where
   pub standing : Standing numbers first handle sizes words values registers
   pub low : at .thread < startedIn words
-  pub some : 0 < getD (countsIn words) (at .thread) 0
-  pub slot-is : at .slot + 1 ≡ at .thread * 32 + getD (countsIn words) (at .thread) 0
+  pub newest : Newest at (getD (countsIn words) (at .thread) 0)
   pub next-is : at .next ≡ getD (nextsIn words) (at .slot) 0
   pub statement-is : σ ≡ statementOf numbers (at .next)
 
--- an operation, to be followed by the store of its frame's next statement
+-- the words after an operation, with the store of its frame's next statement
+abbrev pub stored : ℕ → Move → List ℕ → List ℕ
+stored slot (To s) words = set words slot s
+stored slot Closed words = words
+stored slot (Stopped number) words = words
+
+-- a statement that can be stored
+abbrev pub Storable : Move → Type 0
+Storable (To s) = s < 4294967296
+Storable Closed = Unit {0}
+Storable (Stopped number) = Unit {0}
+
+-- the answer to a step at a statement, by what its operation left
+abbrev pub answerBy : Move → Statement → Step
+answerBy (To s) σ = Ran σ
+answerBy Closed σ = Ran σ
+answerBy (Stopped number) σ = Refused number σ
+
+-- an operation, to be followed by that store
 pub record Operated (t : Table) (words values : List ℕ) (registers : List ℤ) (words′ values′ : List ℕ) (registers′ : List ℤ) (at : Place) (σ : Statement) (r : Move) : Type 0 where
-  pub small : r .next < 65536
-  pub steps : Steps t words values registers (set words′ (at .slot) (r .next)) values′ registers′ (at .thread) (answeredAt (r .number) σ)
+  pub storable : Storable r
+  pub steps : Steps t words values registers (stored (at .slot) r words′) values′ registers′ (at .thread) (answerBy r σ)

@@ -4,7 +4,7 @@ ghost use Prim.Native.Nat.{_<_, _≤_};
 ghost use lib.ListN.{length};
 ghost use Rattle.table.specs.Table.{tableOf};
 ghost use Rattle.run_state.specs.Shown.{Standing};
-ghost use Rattle.operations.specs.Step.{numberOf, answeredAt};
+ghost use Rattle.operations.specs.Step.{numberOf};
 ghost use Rattle.steps.specs.Stepped.{Steps, Follows, Here, Operated};
 use operations::Move;
 use operations::Place;
@@ -25,17 +25,6 @@ pub fn answer_byte(answer: Step) -> u8
             statement: _,
         } => (number % 256) as u8,
         Step::Nothing { number } => (number % 256) as u8,
-    }
-}
-
-// The answer to a step at a statement.
-fn answered(number: u32, statement: Statement) -> Step
-    ensures { λ r. ⌜ r ≡ answeredAt number statement ⌝ }
-{
-    if number == 0 {
-        Step::Ran(statement)
-    } else {
-        Step::Refused { number, statement }
     }
 }
 
@@ -88,10 +77,7 @@ fn operate(
             values,
             registers,
         ),
-        Statement::Jump(target) => Move {
-            number: 0,
-            next: target.statement,
-        },
+        Statement::Jump(target) => Move::To(target.statement),
         Statement::JumpZero(target) => operations::jump_zero(target.statement, at, registers),
         Statement::Return => operations::close(at, words),
     }
@@ -138,8 +124,14 @@ pub fn step(
         values,
         registers,
     );
-    places::go_to(words, slot, done.next);
-    answered(done.number, statement)
+    match done {
+        Move::To(s) => {
+            places::go_to(words, slot, s);
+            Step::Ran(statement)
+        }
+        Move::Closed => Step::Ran(statement),
+        Move::Stopped(number) => Step::Refused { number, statement },
+    }
 }
 
 // The steps of a schedule, each byte a thread number, in order, with one answer for each in the first places of `answers`.

@@ -9,7 +9,7 @@ put-count-requires : tie.Need-put-count-requires
 put-count-requires c κs = search needs
 
 returns : tie.Need-returns
-returns c = (refl, rw (c .put-count .ensures, older-open _ _ (c .before .pre .1)))
+returns c = (refl, rw (c .put-count .ensures, older-open _ _ (c .before .before .before .pre .1)))
 
 pub close-spec : {M : Type 1} → statement M
 close-spec = tie.close (tie.spec put-count-requires returns)
