@@ -139,7 +139,8 @@ pub fn take(h: usize, at: Place, locks: usize, words: &mut [u32; 545], values: &
     ensures { λ r. ⌜ Locked 16 0 (at .thread + 1) (getD (now (values .entry)) (valuePlace (at .slot) h) 0) at locks r (now (words .entry)) (now (words .exit)) ⌝ }
 {
     let k = value_of(values, at.slot, h);
-    hand_over(k, 0, at.thread + 1, 16, at, locks, words)
+    let owner = at.thread + 1;
+    hand_over(k, 0, owner, 16, at, locks, words)
 }
 
 // GIVE: "this thread's lock becomes free"; 17 where it is not this thread's.
@@ -148,7 +149,8 @@ pub fn give(h: usize, at: Place, locks: usize, words: &mut [u32; 545], values: &
     ensures { λ r. ⌜ Locked 17 (at .thread + 1) 0 (getD (now (values .entry)) (valuePlace (at .slot) h) 0) at locks r (now (words .entry)) (now (words .exit)) ⌝ }
 {
     let k = value_of(values, at.slot, h);
-    hand_over(k, at.thread + 1, 0, 17, at, locks, words)
+    let owner = at.thread + 1;
+    hand_over(k, owner, 0, 17, at, locks, words)
 }
 
 // POINT: "h refers to what g refers to".
