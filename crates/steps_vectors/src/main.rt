@@ -32,7 +32,8 @@ fn say_answers(answers: &[u8; 300], count: usize) {
     let mut i = 0;
     while i < count {
         if i < 300 {
-            say_number(answers[i] as i32);
+            say(b" ");
+            io::print_decimal(STDOUT_FILENO, lists::wide_byte(answers[i]) as u64);
         }
         i += 1;
     }
@@ -48,13 +49,12 @@ fn say_cells(cells: &[i32]) {
     say(b"\n");
 }
 
-// The cells of a run, so many.
-fn show_left(registers: &[i32; 80], count: usize)
-    requires { ⌜ (count ≤ 64) × (length (cellsIn count (now registers)) ≡ count) ⌝ }
+// The cells of a run, by a list that just fits them.
+fn show_left(registers: &[i32; 80], cells: &mut [i32])
+    requires { ⌜ (length (cellsIn (length (now cells)) (now registers)) ≡ length (now cells)) × (length (now cells) ≤ 64) ⌝ }
 {
-    let mut cells = [0i32; 64];
-    run_state::leave(registers, &mut cells[..count]);
-    say_cells(&cells[..count]);
+    run_state::leave(registers, cells);
+    say_cells(cells);
 }
 
 // Step `i` of a schedule in the lists of a run, by the byte that answers it; 0 past the schedule's end.
@@ -90,26 +90,14 @@ fn take_turns(a: &[i32], b: &[i32], one: &[u8], other: &[u8])
     let mut words_a = [0u32; 545];
     let mut values_a = [0u8; 4096];
     let mut registers_a = [0i32; 80];
-    run_state::begin(
-        a,
-        &handle_a,
-        &mut words_a,
-        &mut values_a,
-        &mut registers_a,
-    );
+    run_state::begin(a, &handle_a, &mut words_a, &mut values_a, &mut registers_a);
     let first_b = declarations::first_statements(b);
     let handle_b = declarations::first_handles(b);
     let sizes_b = run_state::sizes_of(b);
     let mut words_b = [0u32; 545];
     let mut values_b = [0u8; 4096];
     let mut registers_b = [0i32; 80];
-    run_state::begin(
-        b,
-        &handle_b,
-        &mut words_b,
-        &mut values_b,
-        &mut registers_b,
-    );
+    run_state::begin(b, &handle_b, &mut words_b, &mut values_b, &mut registers_b);
     let mut answers_a = [0u8; 300];
     let mut answers_b = [0u8; 300];
     let mut i = 0;
@@ -139,28 +127,23 @@ fn take_turns(a: &[i32], b: &[i32], one: &[u8], other: &[u8])
         i += 1;
     }
     say_answers(&answers_a, one.len());
-    show_left(&registers_a, sizes_a.cells);
+    let mut cells_a = [0i32; 64];
+    show_left(&registers_a, &mut cells_a[..sizes_a.cells]);
     say_answers(&answers_b, other.len());
-    show_left(&registers_b, sizes_b.cells);
+    let mut cells_b = [0i32; 64];
+    show_left(&registers_b, &mut cells_b[..sizes_b.cells]);
 }
 
 // Two texts in turn, with lists that have room for their numbers; nothing where one is refused.
-fn in_turn(
-    text_a: &[u8],
-    numbers_a: &mut [i32],
-    text_b: &[u8],
-    numbers_b: &mut [i32],
-    one: &[u8],
-    other: &[u8],
-)
-    requires { ⌜ (length (now numbers_a) ≡ 8 * lineCount (now text_a)) × (length (now numbers_b) ≡ 8 * lineCount (now text_b)) ⌝ }
+fn in_turn(text: &[u8], a: &mut [i32], second: &[u8], b: &mut [i32], one: &[u8], other: &[u8])
+    requires { ⌜ (length (now a) ≡ 8 * lineCount (now text)) × (length (now b) ≡ 8 * lineCount (now second)) ⌝ }
 {
-    match reader::read_into(text_a, numbers_a) {
+    match reader::read_into(text, a) {
         Verdict::Refused { number: _, line: _ } => {}
-        Verdict::Accepted => match reader::read_into(text_b, numbers_b) {
+        Verdict::Accepted => match reader::read_into(second, b) {
             Verdict::Refused { number: _, line: _ } => {}
             Verdict::Accepted => {
-                take_turns(numbers_a, numbers_b, one, other);
+                take_turns(a, b, one, other);
             }
         },
     }
@@ -243,28 +226,8 @@ fn show_pair(table_a: &[u8], schedule_a: &[u8], table_b: &[u8], schedule_b: &[u8
 }
 
 fn main() {
-    show_pair(
-        b"016.table",
-        b"016.schedule",
-        b"036.table",
-        b"036.schedule",
-    );
-    show_pair(
-        b"031.table",
-        b"031.schedule",
-        b"032.table",
-        b"032.schedule",
-    );
-    show_pair(
-        b"010.table",
-        b"010.schedule",
-        b"006.table",
-        b"006.schedule",
-    );
-    show_pair(
-        b"020.table",
-        b"020.schedule",
-        b"005.table",
-        b"005.schedule",
-    );
+    show_pair(b"016.table", b"016.schedule", b"036.table", b"036.schedule");
+    show_pair(b"031.table", b"031.schedule", b"032.table", b"032.schedule");
+    show_pair(b"010.table", b"010.schedule", b"006.table", b"006.schedule");
+    show_pair(b"020.table", b"020.schedule", b"005.table", b"005.schedule");
 }
