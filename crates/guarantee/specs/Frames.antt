@@ -1,7 +1,7 @@
 -- The parts of the invariant that one frame or one stack has: they survive a change of the locks, and a new frame has them. Assumes nothing.
 use Prim.Native.Nat.{ℕ, _+_, _-_, _<_, _≤_}
 use native.Mathlib.Omega.{arith}
-use mathlib.Core.Path.{_≡_, sym, _∙_, subst}
+use mathlib.Core.Path.{_≡_, sym, ap, _∙_, subst}
 use mathlib.Core.Bool.{cond}
 use mathlib.Core.List.{List, [], _∷_}
 use mathlib.Core.Logic.{⊎-elim}
@@ -10,7 +10,9 @@ use borrow.Author.Tests.{eq-eqb}
 use lib.ListN.{getD, length, set}
 use Rattle.table.specs.Table.{Table, declaration, routine, passed, OwnHandle}
 use Rattle.table.specs.Accepted.{Accepted, Passes}
+use Rattle.table.specs.View.{view, calls}
 use Rattle.table.specs.declared.Arguments.{Arguments}
+use Rattle.table.specs.declared.Statement.{Statement}
 use Rattle.machine.specs.State.{Holder, entered, opened}
 use Rattle.report.specs.Rules.{Copies, Families, Rules, Passing}
 use Rattle.guarantee.specs.Lists.{set-case}
@@ -37,7 +39,7 @@ module _ {t : Table} (copies : Copies t) (f : Families) (rules : Rules copies f)
     where
       up : (k : ℕ) → f .gives d k → f .gives (m .copy) k
       up k given =
-          rules .gives-rules .by-call (m .copy) (m .place) k (here .named) (here .arguments) (here .here) (here .calls)
+          rules .gives-rules .by-call (m .copy) (m .place) k (here .named) (here .here) (ap (λ (σ : Statement). calls (view σ)) (here .calls))
           (subst (λ (e : ℕ). f .gives e k) (sym (here .leads)) given)
 
   -- a thread that loses no lock keeps all

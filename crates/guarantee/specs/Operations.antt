@@ -11,6 +11,9 @@ use lib.ListN.{getD, length, set, length-set}
 use lib.Seq.{getD-set-same}
 use borrow.Author.Tests.{eqb-true}
 use Rattle.table.specs.Table.{Table, routine, statement}
+use Rattle.table.specs.View.{view, calls, starts}
+use Rattle.table.specs.ViewLaws.{nothing-to, one-reference}
+use Rattle.table.specs.declared.Reference.the-variants.{To, Nothing}
 use Rattle.table.specs.Accepted.{Accepted, Operands, Passes, OwnOfKind, Names}
 use Rattle.table.specs.declared.Arguments.{Arguments}
 use Rattle.table.specs.declared.Handle.{Handle}
@@ -57,11 +60,18 @@ module _ {t : Table} (accepted : Accepted t) (copies : Copies t) (f : Families) 
   goes-as : (σ : Statement) → statement t (m .place) ≡ σ → (s : ℕ) → Goes (m .place) σ s → Goes (m .place) (statement t (m .place)) s
   goes-as σ eq s g = subst (λ (τ : Statement). Goes (m .place) τ s) (sym eq) g
 
+  -- what is held at the statement that it goes to, is held after it
+  after-as : (σ : Statement) → statement t (m .place) ≡ σ → (s : ℕ) → Goes (m .place) σ s → (k : ℕ) → f .held (m .copy) s k
+      → After copies (f .flow) (f .gives) (f .held) (m .copy) (m .place) k σ
+  after-as σ eq s g k held =
+      subst (After copies (f .flow) (f .gives) (f .held) (m .copy) (m .place) k) eq
+      (rules .held-rules .way (m .copy) (m .place) s k (top .here) (goes-as σ eq s g) held)
+
   -- a step inside the newest frame touches nothing new
-  stays-within : (s : ℕ) (values : List ℕ) (σ : Statement) → statement t (m .place) ≡ σ → Goes (m .place) σ s → (w : Bool) (x : ℕ)
+  stays-within : (s : ℕ) (values : List ℕ) → Goes (m .place) (statement t (m .place)) s → (w : Bool) (x : ℕ)
       → Potential copies f (record { copy = m .copy; place = s; values = values } ∷ ms) w x → Potential copies f (m ∷ ms) w x
-  stays-within s values σ eq g w x =
-      ⊎-elim (λ ahead. inl (inr (ahead-follows accepted copies f rules (goes-place accepted copies (top .here) σ eq g) (goes-as σ eq s g) ahead)))
+  stays-within s values g w x =
+      ⊎-elim (λ ahead. inl (inr (ahead-follows accepted copies f rules (goes-place accepted copies (top .here) g) g ahead)))
       (λ left. inr left)
 
   before : (w : Bool) (x : ℕ) → Potential copies f (m ∷ ms) w x → Potential copies f (marks n) w x
@@ -76,18 +86,25 @@ module _ {t : Table} (accepted : Accepted t) (copies : Copies t) (f : Families) 
   in-frame s values b cells locks σ eq g all valued holds wait others = (
     replaced marks n (record { copy = m .copy; place = s; values = values } ∷ ms),
     thread-changed copies f rules state marks inv n there b _ cells locks (record { copy = m .copy; place = s; values = values } ∷ ms) refl all
-        (record { here = goes-place accepted copies (top .here) σ eq g; valued = valued; holds = holds }, wait) others
-        (λ w x p. before w x (stays-within s values σ eq g w x p)),
+        (record { here = goes-place accepted copies (top .here) (goes-as σ eq s g); valued = valued; holds = holds }, wait) others
+        (λ w x p. before w x (stays-within s values (goes-as σ eq s g) w x p)),
   )
 
-  -- an operation that keeps the values, the locks and the held set
+  -- a statement that takes nothing and calls nothing adds no lock
+  adds-none : (k : ℕ) (σ : Statement) → view σ .takes ≡ Nothing → calls (view σ) ≡ Nothing
+      → After copies (f .flow) (f .gives) (f .held) (m .copy) (m .place) k σ → f .held (m .copy) (m .place) k
+  adds-none k σ takes calls (inl (inl (h, is, only))) = nothing-to (sym takes ∙ is)
+  adds-none k σ takes calls (inl (inr (q, is, all))) = nothing-to (sym calls ∙ is)
+  adds-none k σ takes calls (inr (was, kept)) = was
+
+  -- an operation that keeps the values and the locks
   onward : (s : ℕ) (b : ℤ) (cells : List ℤ) (σ : Statement) → statement t (m .place) ≡ σ → Goes (m .place) σ s
-      → ((k : ℕ) → After copies (f .flow) (f .gives) (f .held) (m .copy) (m .place) k σ → f .held (m .copy) (m .place) k)
+      → view σ .takes ≡ Nothing → calls (view σ) ≡ Nothing
       → Kept copies f state
       (moved (with-thread state n b (newest copies f (record { copy = m .copy; place = s; values = m .values }) ∷ older copies f ms) cells (state .locks)))
-  onward s b cells σ eq g same =
+  onward s b cells σ eq g takes calls =
       in-frame s (m .values) b cells (state .locks) σ eq g (inv .all-locks) (top .valued)
-      (λ k held. top .holds k (same k (rules .held-rules .way (m .copy) (m .place) s k (top .here) σ eq g held))) below (λ o k other has. has)
+      (λ k held. top .holds k (adds-none k σ takes calls (after-as σ eq s g k held))) below (λ o k other has. has)
 
   -- ---- TAKE and GIVE
 
@@ -98,9 +115,8 @@ module _ {t : Table} (accepted : Accepted t) (copies : Copies t) (f : Families) 
       (set (state .locks) (getD (m .values) (h .number) 0) (Machine.held n))))
   taken h eq (Machine.held o) is = (marks, inv)
   taken h eq free is =
-      in-frame (m .place + 1) (m .values) a (state .cells) locks (Take h) eq refl (length-set (state .locks) x (Machine.held n) ∙ inv .all-locks) (top .valued)
-      (λ k held. ⊎-elim (λ was. mine k (top .holds k was)) (λ only. new k (only .alone x (fits .flows)))
-      (rules .held-rules .way (m .copy) (m .place) (m .place + 1) k (top .here) (Take h) eq refl held))
+      in-frame (m .place + 1) (m .values) a (state .cells) locks (Take h) eq (inr (refl, refl)) (length-set (state .locks) x (Machine.held n) ∙ inv .all-locks) (top .valued)
+      (λ k held. holds k (after-as (Take h) eq (m .place + 1) (inr (refl, refl)) k held))
       (wait-still copies f rules (state .locks) locks n (m .copy) ms (λ k kept. mine k) below) others
     where
       x : ℕ
@@ -110,7 +126,7 @@ module _ {t : Table} (accepted : Accepted t) (copies : Copies t) (f : Families) 
       locks = set (state .locks) x (Machine.held n)
 
       operand : OwnOfKind t (copies .of (m .copy)) 2 (h .number)
-      operand = operands (Take h) eq
+      operand = operands (Take h) eq .takes (h .number) refl
 
       fits : Fits copies f (m .copy) (h .number) x
       fits = top .valued (h .number) (operand .own)
@@ -124,6 +140,12 @@ module _ {t : Table} (accepted : Accepted t) (copies : Copies t) (f : Families) 
       new : (k : ℕ) → x ≡ k → Has copies f locks n k
       new k at = subst (λ (j : ℕ). Has copies f locks n j) at (getD-set-same (state .locks) x (Machine.held n) free in-range)
 
+      holds : (k : ℕ) → After copies (f .flow) (f .gives) (f .held) (m .copy) (m .place) k (Take h) → Has copies f locks n k
+      holds k (inl (inl (j, is, only))) =
+          new k (only .alone x (subst (λ (i : ℕ). f .flow (m .copy) i x) (one-reference (To j) (sym is) refl) (fits .flows)))
+      holds k (inl (inr (q, is, all))) = nothing-to is
+      holds k (inr (was, kept)) = mine k (top .holds k was)
+
       others : (o k : ℕ) → (o ≡ n → ⊥) → Has copies f (state .locks) o k → Has copies f locks o k
       others o k other has =
           set-case (λ w. w ≡ Machine.held o) (state .locks) x k (Machine.held n) free
@@ -135,9 +157,8 @@ module _ {t : Table} (accepted : Accepted t) (copies : Copies t) (f : Families) 
       (with-thread state n a (newest copies f (record { copy = m .copy; place = m .place + 1; values = m .values }) ∷ older copies f ms) (state .cells)
       (set (state .locks) (getD (m .values) (h .number) 0) free)))
   given-now h eq is =
-      in-frame (m .place + 1) (m .values) a (state .cells) locks (Give h) eq refl (length-set (state .locks) x free ∙ inv .all-locks) (top .valued)
-      (λ k held. let was = rules .held-rules .way (m .copy) (m .place) (m .place + 1) k (top .here) (Give h) eq refl held in
-      kept n k (λ at. was .1 (subst (f .flow (m .copy) (h .number)) (sym at) (fits .flows))) (top .holds k (was .0)))
+      in-frame (m .place + 1) (m .values) a (state .cells) locks (Give h) eq (inr (refl, refl)) (length-set (state .locks) x free ∙ inv .all-locks) (top .valued)
+      (λ k held. holds k (after-as (Give h) eq (m .place + 1) (inr (refl, refl)) k held))
       (wait-still copies f rules (state .locks) locks n (m .copy) ms
       (λ k not-given. kept n k (λ at. not-given (subst (f .gives (m .copy)) (sym at) gives))) below)
       (λ o k other has. kept o k (λ at. other (one-holder (holder state x) o n (subst (λ (j : ℕ). Has copies f (state .locks) o j) at has) is)) has)
@@ -149,16 +170,22 @@ module _ {t : Table} (accepted : Accepted t) (copies : Copies t) (f : Families) 
       locks = set (state .locks) x free
 
       operand : OwnOfKind t (copies .of (m .copy)) 2 (h .number)
-      operand = operands (Give h) eq
+      operand = operands (Give h) eq .gives (h .number) refl
 
       fits : Fits copies f (m .copy) (h .number) x
       fits = top .valued (h .number) (operand .own)
 
       gives : f .gives (m .copy) x
-      gives = rules .gives-rules .by-give (m .copy) (m .place) x h (top .here) eq (fits .flows)
+      gives = rules .gives-rules .by-give (m .copy) (m .place) x (h .number) (top .here) (ap (λ (σ : Statement). view σ .gives) eq) (fits .flows)
 
       kept : (o k : ℕ) → (k ≡ x → ⊥) → Has copies f (state .locks) o k → Has copies f locks o k
       kept o k other has = set-case (λ w. w ≡ Machine.held o) (state .locks) x k free free (λ at. absurd (other at)) has
+
+      holds : (k : ℕ) → After copies (f .flow) (f .gives) (f .held) (m .copy) (m .place) k (Give h) → Has copies f locks n k
+      holds k (inl (inl (j, is, only))) = nothing-to is
+      holds k (inl (inr (q, is, all))) = nothing-to is
+      holds k (inr (was, stays)) =
+          kept n k (λ at. stays (inl (h .number, refl, subst (f .flow (m .copy) (h .number)) (sym at) (fits .flows)))) (top .holds k was)
 
   given : (h : Handle) → statement t (m .place) ≡ Give h → (w : Holder) → holder state (getD (m .values) (h .number) 0) ≡ w
       → Kept copies f state
@@ -179,6 +206,11 @@ module _ {t : Table} (accepted : Accepted t) (copies : Copies t) (f : Families) 
       go false same = (marks, inv)
 
   -- ---- CALL, RETURN and START
+
+  passing-as : (σ : Statement) → statement t (m .place) ≡ σ → (q : ℕ) → Names σ q → Passing copies (f .flow) (m .copy) (m .place) q (view σ .arguments)
+  passing-as σ eq q names =
+      subst (λ (τ : Statement). Passing copies (f .flow) (m .copy) (m .place) q (view τ .arguments)) eq
+      (rules .flow-rules .passing (m .copy) (m .place) q (top .here) (subst (λ (τ : Statement). Names τ q) (sym eq) names))
 
   -- the copy that a CALL or START leads to, its first statement, and the frame that is opened there
   module _ (σ : Statement) (eq : statement t (m .place) ≡ σ) (q : ℕ) (arguments : Arguments) (names : Names σ q)
@@ -227,7 +259,7 @@ module _ {t : Table} (accepted : Accepted t) (copies : Copies t) (f : Families) 
           record {
             here = callee-place σ eq q arguments refl passes passing;
             valued = callee-valued σ eq q arguments refl passes passing;
-            holds = λ k held. top .holds k (rules .held-rules .by-call (m .copy) (m .place) k q arguments (top .here) eq held);
+            holds = λ k held. top .holds k (rules .held-rules .by-call (m .copy) (m .place) k q (top .here) (ap (λ (τ : Statement). calls (view τ)) eq) held);
           },
           (
             record {
@@ -249,17 +281,17 @@ module _ {t : Table} (accepted : Accepted t) (copies : Copies t) (f : Families) 
       σ = Call q arguments
 
       passes : Passes t (copies .of (m .copy)) q arguments
-      passes = operands σ eq
+      passes = operands σ eq .passes q refl
 
       passing : Passing copies (f .flow) (m .copy) (m .place) q arguments
-      passing = rules .flow-rules .statement-rule (m .copy) (m .place) (top .here) σ eq
+      passing = passing-as σ eq q refl
 
       new : Mark
       new = callee σ eq q arguments refl passes passing
 
       within : (w : Bool) (x : ℕ) → Potential copies f (new ∷ m ∷ ms) w x → Potential copies f (m ∷ ms) w x
       within w x (inl ahead) =
-          inl (inl (rw eq (ahead-in-effect accepted copies f rules (callee-place σ eq q arguments refl passes passing) ahead)))
+          inl (inl (inr (q, ap (λ (τ : Statement). view τ .names) eq, ahead-in-effect accepted copies f rules (callee-place σ eq q arguments refl passes passing) ahead)))
       within w x (inr (inl inside)) = inl (inr inside)
       within w x (inr (inr left)) = inr left
 
@@ -284,32 +316,38 @@ module _ {t : Table} (accepted : Accepted t) (copies : Copies t) (f : Families) 
           back : Mark
           back = record { copy = c .copy; place = c .place + 1; values = c .values }
 
-          back-place : Place copies (c .copy) (c .place + 1)
-          back-place = goes-place accepted copies (wait .here) (Call (wait .named) (wait .arguments)) (wait .calls) refl
-
           goes : Goes (c .place) (statement t (c .place)) (c .place + 1)
-          goes = subst (λ (τ : Statement). Goes (c .place) τ (c .place + 1)) (sym (wait .calls)) refl
+          goes = inr (ap (λ (τ : Statement). view τ .onward) (wait .calls), refl)
+
+          back-place : Place copies (c .copy) (c .place + 1)
+          back-place = goes-place accepted copies (wait .here) goes
+
+          holds-after : (k : ℕ) → After copies (f .flow) (f .gives) (f .held) (c .copy) (c .place) k (Call (wait .named) (wait .arguments))
+              → Has copies f (state .locks) n k
+          holds-after k (inl (inl (h, is, only))) = nothing-to is
+          holds-after k (inl (inr (q, is, all))) =
+              top .holds k
+              (subst (λ (d : ℕ). f .held d (m .place) k) (wait .leads)
+              (all (m .place) (subst (λ (d : ℕ). Place copies d (m .place)) (sym (wait .leads)) (top .here)) (ap (λ (τ : Statement). view τ .ends) eq)))
+          holds-after k (inr (was, kept)) = wait .holds k was (λ given. kept (inr (wait .named, refl, subst (λ (d : ℕ). f .gives d k) (sym (wait .leads)) given)))
 
           holds : (k : ℕ) → f .held (c .copy) (c .place + 1) k → Has copies f (state .locks) n k
           holds k held =
-              ⊎-elim
-              (λ all. top .holds k
-              (subst (λ (d : ℕ). f .held d (m .place) k) (wait .leads)
-              (all (m .place) (subst (λ (d : ℕ). Place copies d (m .place)) (sym (wait .leads)) (top .here)) eq)))
-              (λ kept. wait .holds k (kept .0) (subst (λ (d : ℕ). f .gives d k → ⊥) (wait .leads) (kept .1)))
-              (rules .held-rules .way (c .copy) (c .place) (c .place + 1) k (wait .here) (Call (wait .named) (wait .arguments)) (wait .calls) refl held)
+              holds-after k
+              (subst (After copies (f .flow) (f .gives) (f .held) (c .copy) (c .place) k) (wait .calls)
+              (rules .held-rules .way (c .copy) (c .place) (c .place + 1) k (wait .here) goes held))
 
   started : (q : ℕ) (arguments : Arguments) → statement t (m .place) ≡ Start q arguments
       → Kept copies f state (operate t state n a (newest copies f m) (older copies f ms) (Start q arguments))
   unfolding callee operate onward in-frame
   started q arguments eq = (
     replaced (replaced marks n (on ∷ ms)) _ (new ∷ []),
-    thread-added copies f rules _ (replaced marks n (on ∷ ms)) (onward (m .place + 1) a (state .cells) σ eq refl (λ k held. held) .1) (pos 0) _ (new ∷ [])
+    thread-added copies f rules _ (replaced marks n (on ∷ ms)) (onward (m .place + 1) a (state .cells) σ eq (inr (refl, refl)) refl refl .1) (pos 0) _ (new ∷ [])
         (ap (λ (g : Frame). g ∷ []) (callee-frame σ eq q arguments refl passes passing)) (
           record {
             here = new-place;
             valued = callee-valued σ eq q arguments refl passes passing;
-            holds = λ k held. absurd (rules .held-rules .by-start (m .copy) (m .place) k q arguments (top .here) eq held);
+            holds = λ k held. absurd (rules .held-rules .by-start (m .copy) (m .place) k q (top .here) (ap (λ (τ : Statement). starts (view τ)) eq) held);
           },
           tt,
         ) parted,
@@ -319,10 +357,10 @@ module _ {t : Table} (accepted : Accepted t) (copies : Copies t) (f : Families) 
       σ = Start q arguments
 
       passes : Passes t (copies .of (m .copy)) q arguments
-      passes = operands σ eq
+      passes = operands σ eq .passes q refl
 
       passing : Passing copies (f .flow) (m .copy) (m .place) q arguments
-      passing = rules .flow-rules .statement-rule (m .copy) (m .place) (top .here) σ eq
+      passing = passing-as σ eq q refl
 
       new : Mark
       new = callee σ eq q arguments refl passes passing
@@ -334,8 +372,11 @@ module _ {t : Table} (accepted : Accepted t) (copies : Copies t) (f : Families) 
       on : Mark
       on = record { copy = m .copy; place = m .place + 1; values = m .values }
 
+      goes : Goes (m .place) (statement t (m .place)) (m .place + 1)
+      goes = inr (ap (λ (τ : Statement). view τ .onward) eq, refl)
+
       on-place : Place copies (m .copy) (m .place + 1)
-      on-place = goes-place accepted copies (top .here) σ eq refl
+      on-place = goes-place accepted copies (top .here) goes
 
       -- the new thread touches what the started copy does
       in-effect : (w : Bool) (x : ℕ) → Potential copies f (new ∷ []) w x → f .effect (new .copy) w x
@@ -345,17 +386,17 @@ module _ {t : Table} (accepted : Accepted t) (copies : Copies t) (f : Families) 
       -- the starter touches what lies in the START's future
       in-future : (w : Bool) (x : ℕ) → Potential copies f (on ∷ ms) w x → f .future (m .copy) (m .place) w x
       in-future w x (inl ahead) =
-          inside-in-future accepted copies f rules (top .here) (ahead-follows accepted copies f rules on-place (goes-as σ eq (m .place + 1) refl) ahead)
+          inside-in-future accepted copies f rules (top .here) (ahead-follows accepted copies f rules on-place goes ahead)
       in-future w x (inr left) = left-in-future accepted copies f rules (state .locks) n (m .copy) (m .place) ms w x (top .here) below left
 
       -- what the new thread touches, the starter's START did
       from-starter : (w : Bool) (x : ℕ) → Potential copies f (new ∷ []) w x → Potential copies f (marks n) w x
-      from-starter w x p = before w x (inl (inl (rw eq (in-effect w x p))))
+      from-starter w x p = before w x (inl (inl (inr (q, ap (λ (τ : Statement). view τ .names) eq, in-effect w x p))))
 
       parted : (o x : ℕ) → Clash (Potential copies f (new ∷ [])) (Potential copies f (replaced marks n (on ∷ ms) o)) x → f .shared x
       parted o x =
           replaced-all (λ o s. Clash (Potential copies f (new ∷ [])) (Potential copies f s) x → f .shared x) marks n (on ∷ ms)
-          (λ clash. rules .shared-rules .at-start (m .copy) (m .place) x q arguments (top .here) eq
+          (λ clash. rules .shared-rules .at-start (m .copy) (m .place) x q (top .here) (ap (λ (τ : Statement). starts (view τ)) eq)
           (clash-wider (λ w. in-effect w x) (λ w. in-future w x) clash))
           (λ o other clash. inv .apart n o x (λ same. other (sym same)) (clash-wider (λ w. from-starter w x) (λ w p. p) clash)) o
 
@@ -363,25 +404,27 @@ module _ {t : Table} (accepted : Accepted t) (copies : Copies t) (f : Families) 
 
   pub operated : (σ : Statement) → statement t (m .place) ≡ σ → Kept copies f state (operate t state n a (newest copies f m) (older copies f ms) σ)
   unfolding operate
-  operated (Read h) eq = onward (m .place + 1) _ (state .cells) (Read h) eq refl (λ k held. held)
-  operated (Write h) eq = onward (m .place + 1) a _ (Write h) eq refl (λ k held. held)
-  operated (Set number) eq = onward (m .place + 1) number (state .cells) (Set number) eq refl (λ k held. held)
-  operated (Add number) eq = onward (m .place + 1) _ (state .cells) (Add number) eq refl (λ k held. held)
+  operated (Read h) eq = onward (m .place + 1) _ (state .cells) (Read h) eq (inr (refl, refl)) refl refl
+  operated (Write h) eq = onward (m .place + 1) a _ (Write h) eq (inr (refl, refl)) refl refl
+  operated (Set number) eq = onward (m .place + 1) number (state .cells) (Set number) eq (inr (refl, refl)) refl refl
+  operated (Add number) eq = onward (m .place + 1) _ (state .cells) (Add number) eq (inr (refl, refl)) refl refl
   operated (Take h) eq = taken h eq _ refl
   operated (Give h) eq = given h eq _ refl
   operated (Point h g) eq =
-      let ops = operands (Point h g) eq in
-      in-frame (m .place + 1) _ a (state .cells) (state .locks) (Point h g) eq refl (inv .all-locks)
+      let ops = operands (Point h g) eq .points (h .number) refl in
+      in-frame (m .place + 1) _ a (state .cells) (state .locks) (Point h g) eq (inr (refl, refl)) (inv .all-locks)
       (pointed-valued accepted copies f rules (m .values) (h .number) (g .number) (ops .1) (ops .2)
-      (rules .flow-rules .statement-rule (m .copy) (m .place) (top .here) (Point h g) eq) (top .valued))
-      (λ k held. top .holds k (rules .held-rules .way (m .copy) (m .place) (m .place + 1) k (top .here) (Point h g) eq refl held)) below
+      (subst (λ (τ : Statement). (x : ℕ) → f .flow (m .copy) (view τ .source) x → f .flow (m .copy) (h .number) x) eq
+      (rules .flow-rules .point (m .copy) (m .place) (h .number) (top .here) (ap (λ (τ : Statement). view τ .points) eq)))
+      (top .valued))
+      (λ k held. top .holds k (adds-none k (Point h g) refl refl (after-as (Point h g) eq (m .place + 1) (inr (refl, refl)) k held))) below
       (λ o k other has. has)
   operated (Call q arguments) eq = called q arguments eq
   operated (Start q arguments) eq = started q arguments eq
-  operated (Jump z) eq = onward (z .statement) a (state .cells) (Jump z) eq refl (λ k held. held)
-  operated (JumpZero z) eq = onward _ a (state .cells) (JumpZero z) eq (either (isZero a)) (λ k held. held)
+  operated (Jump z) eq = onward (z .statement) a (state .cells) (Jump z) eq (inl refl) refl refl
+  operated (JumpZero z) eq = onward _ a (state .cells) (JumpZero z) eq (either (isZero a)) refl refl
     where
       either : (b : Bool) → Goes (m .place) (JumpZero z) (cond b (z .statement) (m .place + 1))
       either true = inl refl
-      either false = inr refl
+      either false = inr (refl, refl)
   operated Return eq = returned eq

@@ -1,15 +1,16 @@
 -- What a thread may still touch: it lies in the effect of the copies and in the futures, and a clash is symmetric and monotone. Assumes nothing.
-use Prim.Native.Nat.{ℕ, _+_, _<_, _≤_}
+use Prim.Native.Nat.{ℕ, _<_, _≤_}
 use native.Mathlib.Omega.{arith}
-use mathlib.Core.Path.{_≡_, refl, sym, subst}
+use mathlib.Core.Path.{_≡_, sym, ap, subst}
 use mathlib.Core.Bool.{Bool}
 use mathlib.Core.List.{List, [], _∷_}
 use mathlib.Core.Logic.{inl, inr, ⊎-swap}
-use Rattle.table.specs.Table.{Table, routine, statement, InRoutine}
-use Rattle.table.specs.Accepted.{Accepted, GoesOn, Operands}
+use Rattle.table.specs.Table.{Table, routine, statement}
+use Rattle.table.specs.View.{view, calls}
+use Rattle.table.specs.Accepted.{Accepted}
 use Rattle.table.specs.declared.Statement.{Statement}
-use Rattle.table.specs.declared.Statement.the-variants.{Read, Write, Set, Add, Take, Give, Point, Call, Start, Jump, JumpZero, Return}
 use Rattle.machine.specs.State.{Holder}
+use Rattle.report.specs.NextLaws.{goes-inside}
 use Rattle.report.specs.Rules.{Copies, Place, Goes, Does, Clash, Families, Rules}
 use Rattle.guarantee.specs.Invariant.{Mark, Inside, next, later, Left, Ahead, AllWait}
 
@@ -27,29 +28,13 @@ clash-wider p q c =
 module _ {t : Table} (accepted : Accepted t) (copies : Copies t) where
   -- ---- places: what may follow a statement, and where a named routine begins, is a place of the copy
 
-  moved-to : {c s s′ : ℕ} → Place copies c s → s′ ≡ s + 1 → InRoutine t (copies .of c) (s + 1) → Place copies c s′
-  moved-to p e i = record { there = p .there; inside = rw e i }
-
-  pub goes-place : {c s s′ : ℕ} → Place copies c s → (σ : Statement) → statement t s ≡ σ → Goes s σ s′ → Place copies c s′
-  goes-place {c} {s} {s′} p σ e = go σ (subst (GoesOn t (copies .of c) s) e (accepted .goes-on _ s there (p .inside))) (subst (Operands t (copies .of c)) e (accepted .operands _ s there (p .inside)))
-    where
-      there : copies .of c < lib.ListN.length (t .routines)
-      there = copies .of-there c (p .there)
-
-      go : (σ : Statement) → GoesOn t (copies .of c) s σ → Operands t (copies .of c) σ → Goes s σ s′ → Place copies c s′
-      go (Read h) on ops g = moved-to p g on
-      go (Write h) on ops g = moved-to p g on
-      go (Set n) on ops g = moved-to p g on
-      go (Add n) on ops g = moved-to p g on
-      go (Take h) on ops g = moved-to p g on
-      go (Give h) on ops g = moved-to p g on
-      go (Point h k) on ops g = moved-to p g on
-      go (Call q a) on ops g = moved-to p g on
-      go (Start q a) on ops g = moved-to p g on
-      go (Jump z) on ops g = record { there = p .there; inside = rw g ops }
-      go (JumpZero z) on ops (inl g) = record { there = p .there; inside = rw g ops }
-      go (JumpZero z) on ops (inr g) = moved-to p g on
-      go Return on ops g = absurd g
+  pub goes-place : {c s s′ : ℕ} → Place copies c s → Goes s (statement t s) s′ → Place copies c s′
+  goes-place {c} {s} {s′} p g =
+      let there = copies .of-there c (p .there) in
+      record {
+        there = p .there;
+        inside = goes-inside t (copies .of c) s (statement t s) (accepted .operands _ s there (p .inside)) (accepted .goes-on _ s there (p .inside)) s′ g;
+      }
 
   pub first-place : (d q : ℕ) → d < copies .count → copies .of d ≡ q → Place copies d (routine t q .first)
   first-place d q there e =
@@ -60,7 +45,7 @@ module _ {t : Table} (accepted : Accepted t) (copies : Copies t) where
     -- ---- effects
 
     pub does-in-effect : {c s : ℕ} {w : Bool} {x : ℕ} → Place copies c s → Does copies (f .flow) (f .effect) c s (statement t s) w x → f .effect c w x
-    does-in-effect {c} {s} {w} {x} p d = rules .effect-rules .of-statement c s w x p _ refl d
+    does-in-effect {c} {s} {w} {x} p d = rules .effect-rules .of-statement c s w x p d
 
     pub inside-in-effect : {c s : ℕ} {w : Bool} {x : ℕ} → Inside copies f c w x s → f .effect c w x
     inside-in-effect (next p g d) = does-in-effect p d
@@ -82,7 +67,7 @@ module _ {t : Table} (accepted : Accepted t) (copies : Copies t) where
     left-in-future locks n d z [] w x p wait l = absurd l
     left-in-future locks n d z (m ∷ ms) w x p (here, below) l =
         subst (λ (e : ℕ). f .future e z w x) (here .leads)
-        (rules .future-rules .callers (m .copy) (m .place) z w x (here .named) (here .arguments) (here .here) (here .calls)
+        (rules .future-rules .callers (m .copy) (m .place) z w x (here .named) (here .here) (ap (λ (σ : Statement). calls (view σ)) (here .calls))
         (subst (λ (e : ℕ). Place copies e z) (sym (here .leads)) p) (below-call l (left-in-future locks n (m .copy) (m .place) ms w x (here .here) below)))
       where
         below-call : Left copies f (m ∷ ms) w x → (Left copies f ms w x → f .future (m .copy) (m .place) w x) → f .future (m .copy) (m .place) w x

@@ -1,17 +1,18 @@
 -- Demand 3 over sets that satisfy the rules: if the report is clean, then after every run (a) and (b) hold. Assumes nothing.
 use Prim.Native.Nat.{ℕ, _<_}
-use mathlib.Core.Path.{_≡_, refl, sym, subst, _∙_}
-use mathlib.Core.Bool.{Bool, true}
+use mathlib.Core.Path.{_≡_, sym, subst, _∙_}
+use mathlib.Core.Bool.{Bool, true, false}
 use mathlib.Core.List.{List, [], _∷_}
 use mathlib.Core.Logic.{_⊎_, inl, ⊎-elim}
 use Rattle.table.specs.Table.{Table, statement}
-use Rattle.table.specs.Accepted.{Accepted, Operands}
+use Rattle.table.specs.View.{view, accesses}
+use Rattle.table.specs.declared.Reference.the-variants.{To}
+use Rattle.table.specs.Accepted.{Accepted, Operands, OwnOfKind}
 use Rattle.table.specs.declared.Statement.{Statement}
-use Rattle.table.specs.declared.Statement.the-variants.{Read, Write, Set, Add, Take, Give, Point, Call, Start, Jump, JumpZero, Return}
 use Rattle.machine.specs.State.{State, holder, start}
 use Rattle.machine.specs.Step.{run}
 use Rattle.machine.specs.Words.{AccessIn, ReleaseIn, Next, Access, Release, Holds, Safe}
-use Rattle.report.specs.Rules.{Copies, Place, Accesses, Does, Families, Rules, Clean}
+use Rattle.report.specs.Rules.{Copies, Place, Accesses, Families, Rules, Clean}
 use Rattle.guarantee.specs.Invariant.{Mark, newest, frames, Fits, Stands, Good, Potential, Invariant}
 use Rattle.guarantee.specs.Operations.{one-holder}
 use Rattle.guarantee.specs.Runs.{run-keeps, start-keeps}
@@ -30,26 +31,17 @@ module _ {t : Table} (accepted : Accepted t) (copies : Copies t) (f : Families) 
   operands : (m : Mark) → Place copies (m .copy) (m .place) → Operands t (copies .of (m .copy)) (statement t (m .place))
   operands m here = accepted .operands _ (m .place) (copies .of-there (m .copy) (here .there)) (here .inside)
 
-  -- an access, by what the handle refers to, is one by flow sets
+  -- an access, by what the handle refers to, is one by flow sets, of a cell
   by-flow : (state : State) (n : ℕ) (m : Mark) (w : Bool) (x : ℕ) → Stands copies f (state .locks) n m → (σ : Statement)
-      → Operands t (copies .of (m .copy)) σ → AccessIn (newest copies f m) σ w x
-      → Accesses copies (f .flow) (m .copy) σ w x × Does copies (f .flow) (f .effect) (m .copy) (m .place) σ w x × (x < t .cells)
-  by-flow state n m w x top (Read h) ops (reads, at) =
-      let fits : Fits copies f (m .copy) (h .number) x = subst (Fits copies f (m .copy) (h .number)) at (top .valued (h .number) (ops .own)) in
-      ((reads, fits .flows), (reads, fits .flows), fits .cell (ops .kind))
-  by-flow state n m w x top (Write h) ops (writes, at) =
-      let fits : Fits copies f (m .copy) (h .number) x = subst (Fits copies f (m .copy) (h .number)) at (top .valued (h .number) (ops .own)) in
-      ((writes, fits .flows), (writes, fits .flows), fits .cell (ops .kind))
-  by-flow state n m w x top (Set k) ops access = absurd access
-  by-flow state n m w x top (Add k) ops access = absurd access
-  by-flow state n m w x top (Take h) ops access = absurd access
-  by-flow state n m w x top (Give h) ops access = absurd access
-  by-flow state n m w x top (Point h g) ops access = absurd access
-  by-flow state n m w x top (Call q a) ops access = absurd access
-  by-flow state n m w x top (Start q a) ops access = absurd access
-  by-flow state n m w x top (Jump z) ops access = absurd access
-  by-flow state n m w x top (JumpZero z) ops access = absurd access
-  by-flow state n m w x top Return ops access = absurd access
+      → Operands t (copies .of (m .copy)) σ → AccessIn (newest copies f m) σ w x → Accesses copies (f .flow) (m .copy) σ w x × (x < t .cells)
+  by-flow state n m w x top σ ops (h, is, at) =
+      let own = accessed-own w h is in
+      let fits : Fits copies f (m .copy) h x = subst (Fits copies f (m .copy) h) at (top .valued h (own .own)) in
+      ((h, is, fits .flows), fits .cell (own .kind))
+    where
+      accessed-own : (w : Bool) (h : ℕ) → accesses w (view σ) ≡ To h → OwnOfKind t (copies .of (m .copy)) 1 h
+      accessed-own true h is = ops .writes h is
+      accessed-own false h is = ops .reads h is
 
   access-before : (state : State) (n : ℕ) (w : Bool) (x : ℕ) (ms : List Mark) → Good copies f (state .locks) n ms
       → Next t (λ g σ. AccessIn g σ w x) (frames copies f ms) → Before copies f state n ms w x
@@ -61,35 +53,25 @@ module _ {t : Table} (accepted : Accepted t) (copies : Copies t) (f : Families) 
         place = m .place;
         here = top .here;
         accesses = known .0;
-        is-cell = known .2;
-        touches = inl (inl (known .1));
+        is-cell = known .1;
+        touches = inl (inl (inl (known .0)));
         holds = top .holds;
       }
 
   -- a release of a GIVE that is not stray is of the lock that is held
-  not-stray-releases : Clean copies f → (state : State) (n k : ℕ) (m : Mark) → Stands copies f (state .locks) n m → (σ : Statement)
-      → statement t (m .place) ≡ σ → Operands t (copies .of (m .copy)) σ → ReleaseIn (newest copies f m) σ k → Holds state n k
-  not-stray-releases clean state n k m top (Give h) eq ops at =
-      let sound = clean .not-stray (m .copy) (m .place) h (top .here) eq in
-      let is : k ≡ sound .lock = sym at ∙ sound .one .alone _ (top .valued (h .number) (ops .own) .flows) in
-      rw is (top .holds (sound .lock) (sound .before))
-  not-stray-releases clean state n k m top (Read h) eq ops at = absurd at
-  not-stray-releases clean state n k m top (Write h) eq ops at = absurd at
-  not-stray-releases clean state n k m top (Set j) eq ops at = absurd at
-  not-stray-releases clean state n k m top (Add j) eq ops at = absurd at
-  not-stray-releases clean state n k m top (Take h) eq ops at = absurd at
-  not-stray-releases clean state n k m top (Point h g) eq ops at = absurd at
-  not-stray-releases clean state n k m top (Call q a) eq ops at = absurd at
-  not-stray-releases clean state n k m top (Start q a) eq ops at = absurd at
-  not-stray-releases clean state n k m top (Jump z) eq ops at = absurd at
-  not-stray-releases clean state n k m top (JumpZero z) eq ops at = absurd at
-  not-stray-releases clean state n k m top Return eq ops at = absurd at
+  not-stray-releases : Clean copies f → (state : State) (n k : ℕ) (m : Mark) → Stands copies f (state .locks) n m
+      → ReleaseIn (newest copies f m) (statement t (m .place)) k → Holds state n k
+  not-stray-releases clean state n k m top (h, is, at) =
+      let sound = clean .not-stray (m .copy) (m .place) h (top .here) is in
+      let own = operands m (top .here) .gives h is in
+      let same : k ≡ sound .lock = sym at ∙ sound .one .alone _ (top .valued h (own .own) .flows) in
+      rw same (top .holds (sound .lock) (sound .before))
 
   release-held : Clean copies f → (state : State) (n k : ℕ) (ms : List Mark) → Good copies f (state .locks) n ms
       → Next t (λ g σ. ReleaseIn g σ k) (frames copies f ms) → Holds state n k
   release-held clean state n k [] good release = absurd release
   release-held clean state n k (m ∷ ms) (top, below) release =
-      not-stray-releases clean state n k m top (statement t (m .place)) refl (operands m (top .here)) release
+      not-stray-releases clean state n k m top release
 
   -- (a) and (b) follow from the invariant and a clean report
   pub invariant-safe : Clean copies f → (state : State) (marks : ℕ → List Mark) → Invariant copies f state marks → Safe t state

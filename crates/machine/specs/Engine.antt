@@ -5,25 +5,14 @@ use mathlib.Core.List.{List, [], _∷_}
 use lib.Dec.{eqb, leb}
 use lib.ListN.{length}
 use Rattle.table.specs.Table.{Table, statement}
+use Rattle.table.specs.View.{view, onOr, calls, starts}
 use Rattle.table.specs.declared.Statement.{Statement}
-use Rattle.table.specs.declared.Statement.the-variants.{Read, Write, Set, Add, Take, Give, Point, Call, Start, Jump, JumpZero, Return}
 use Rattle.machine.specs.State.{State, Frame, thread}
 use Rattle.machine.specs.Step.{Answer, moved, refused, step, after}
 
 -- 18: "START finds 16 threads started", 19: "CALL finds 32 frames open", with so many threads started and frames open; 0 for neither
 abbrev pub limit : ℕ → ℕ → Statement → ℕ
-limit started frames (Read h) = 0
-limit started frames (Write h) = 0
-limit started frames (Set n) = 0
-limit started frames (Add n) = 0
-limit started frames (Take h) = 0
-limit started frames (Give h) = 0
-limit started frames (Point h g) = 0
-limit started frames (Call r a) = cond (leb 32 frames) 19 0
-limit started frames (Start r a) = cond (leb 16 started) 18 0
-limit started frames (Jump s) = 0
-limit started frames (JumpZero s) = 0
-limit started frames Return = 0
+limit started frames σ = onOr (calls (view σ)) (λ q. cond (leb 32 frames) 19 0) (onOr (starts (view σ)) (λ q. cond (leb 16 started) 18 0) 0)
 
 -- the limit that the newest frame's next statement meets
 abbrev pub limitOf : Table → ℕ → List Frame → ℕ

@@ -9,8 +9,9 @@ use lib.Dec.{eqb, leb}
 use lib.ListN.{length}
 use borrow.Author.Tests.{eqb-false, le-leb, lt-leb}
 use Rattle.table.specs.Table.{Table, statement}
+use Rattle.table.specs.View.{view, calls, starts}
+use Rattle.table.specs.ViewLaws.{on-or}
 use Rattle.table.specs.declared.Statement.{Statement}
-use Rattle.table.specs.declared.Statement.the-variants.{Read, Write, Set, Add, Take, Give, Point, Call, Start, Jump, JumpZero, Return}
 use Rattle.machine.specs.State.{State, Frame, thread}
 use Rattle.machine.specs.Step.{Answer, moved, refused, step, after, run}
 use Rattle.machine.specs.Engine.{limit, limitOf, engineStep, answer, engineRun}
@@ -31,19 +32,13 @@ choice-known : (b : Bool) (k : ℕ) → 18 ≤ k → (cond b k 0 ≡ 0) ⊎ (18 
 choice-known true k h = inr h
 choice-known false k h = inl refl
 
-limit-known : (started frames : ℕ) (σ : Statement) → (limit started frames σ ≡ 0) ⊎ (18 ≤ limit started frames σ)
-limit-known started frames (Read h) = inl refl
-limit-known started frames (Write h) = inl refl
-limit-known started frames (Set n) = inl refl
-limit-known started frames (Add n) = inl refl
-limit-known started frames (Take h) = inl refl
-limit-known started frames (Give h) = inl refl
-limit-known started frames (Point h g) = inl refl
-limit-known started frames (Call r a) = choice-known (leb 32 frames) 19 (omega arith)
-limit-known started frames (Start r a) = choice-known (leb 16 started) 18 (omega arith)
-limit-known started frames (Jump s) = inl refl
-limit-known started frames (JumpZero s) = inl refl
-limit-known started frames Return = inl refl
+abbrev Known : ℕ → Type 0
+Known k = (k ≡ 0) ⊎ (18 ≤ k)
+
+limit-known : (started frames : ℕ) (σ : Statement) → Known (limit started frames σ)
+limit-known started frames σ =
+    on-or Known (calls (view σ)) _ _ (λ q. choice-known (leb 32 frames) 19 (omega arith))
+    (on-or Known (starts (view σ)) _ _ (λ q. choice-known (leb 16 started) 18 (omega arith)) (inl refl))
 
 limitOf-known : (t : Table) (started : ℕ) (fs : List Frame) → (limitOf t started fs ≡ 0) ⊎ (18 ≤ limitOf t started fs)
 limitOf-known t started [] = inl refl

@@ -66,7 +66,7 @@ own-lock-stays-shut = refl
 -- (b) of demand 3 says something: a thread that stands before a GIVE of a free lock is not safe
 pub give-of-free-is-not-safe : let t = alone (Give (record { number = 0 }) ∷ Return ∷ Return ∷ []) in Safe t (start t) → ⊥
 unfolding alone start opened entered tabulateFrom tabulate
-give-of-free-is-not-safe safe = let held-by : free ≡ held 0 = safe .no-stray 0 0 refl in let z : _≡_ {A = ℕ} 0 1 = cc in omega arith
+give-of-free-is-not-safe safe = let held-by : free ≡ held 0 = safe .no-stray 0 0 (0, refl, refl) in let z : _≡_ {A = ℕ} 0 1 = cc in omega arith
 
 -- ---- document 01's own table
 
@@ -86,4 +86,4 @@ example =
 -- after one step of thread 0 it stands before a WRITE of cell 0, and thread 1 before a READ of it
 pub example-races : Safe example (run example (start example) (0 ∷ [])) → ⊥
 unfolding example run start opened entered tabulateFrom tabulate
-example-races safe = safe .no-race 0 1 0 true false (omega arith) (refl, refl) (refl, refl) (inl refl)
+example-races safe = safe .no-race 0 1 0 true false (omega arith) (0, refl, refl) (1, refl, refl) (inl refl)

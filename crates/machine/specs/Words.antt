@@ -1,44 +1,22 @@
 -- The words of demand 3, and the demand's (a) and (b) of one state. Assumes nothing.
 use Prim.Native.Nat.{ℕ}
 use mathlib.Core.Path.{_≡_}
-use mathlib.Core.Bool.{Bool, true, false}
+use mathlib.Core.Bool.{Bool, true}
 use mathlib.Core.List.{List, [], _∷_}
 use mathlib.Core.Logic.{_⊎_}
 use Rattle.table.specs.Table.{Table, statement}
+use Rattle.table.specs.View.{view, On, accesses}
 use Rattle.table.specs.declared.Statement.{Statement}
-use Rattle.table.specs.declared.Statement.the-variants.{Read, Write, Set, Add, Take, Give, Point, Call, Start, Jump, JumpZero, Return}
 use Rattle.machine.specs.State.{State, Frame, held, thread, holder, refers}
 
 -- "An access to a cell is a READ or WRITE whose handle refers to that cell in that frame; a WRITE is a write": the statement, in frame f, is an access to
 -- cell x, a write if `writes` is true
 abbrev pub AccessIn : Frame → Statement → Bool → ℕ → Type 0
-AccessIn f (Read h) writes x = (writes ≡ false) × (refers f (h .number) ≡ x)
-AccessIn f (Write h) writes x = (writes ≡ true) × (refers f (h .number) ≡ x)
-AccessIn f (Set n) writes x = ⊥
-AccessIn f (Add n) writes x = ⊥
-AccessIn f (Take h) writes x = ⊥
-AccessIn f (Give h) writes x = ⊥
-AccessIn f (Point h g) writes x = ⊥
-AccessIn f (Call r a) writes x = ⊥
-AccessIn f (Start r a) writes x = ⊥
-AccessIn f (Jump s) writes x = ⊥
-AccessIn f (JumpZero s) writes x = ⊥
-AccessIn f Return writes x = ⊥
+AccessIn f σ writes x = On (accesses writes (view σ)) (λ h. refers f h ≡ x)
 
 -- "A release is a GIVE, of the lock that its handle refers to there": the statement, in frame f, is a release of lock k
 abbrev pub ReleaseIn : Frame → Statement → ℕ → Type 0
-ReleaseIn f (Read h) k = ⊥
-ReleaseIn f (Write h) k = ⊥
-ReleaseIn f (Set n) k = ⊥
-ReleaseIn f (Add n) k = ⊥
-ReleaseIn f (Take h) k = ⊥
-ReleaseIn f (Give h) k = refers f (h .number) ≡ k
-ReleaseIn f (Point h g) k = ⊥
-ReleaseIn f (Call r a) k = ⊥
-ReleaseIn f (Start r a) k = ⊥
-ReleaseIn f (Jump s) k = ⊥
-ReleaseIn f (JumpZero s) k = ⊥
-ReleaseIn f Return k = ⊥
+ReleaseIn f σ k = On (view σ .gives) (λ h. refers f h ≡ k)
 
 -- "A thread's next statement is that of its newest frame; an ended thread has none": what holds of the newest frame and the next statement
 abbrev pub Next : Table → (Frame → Statement → Type 0) → List Frame → Type 0

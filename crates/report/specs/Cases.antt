@@ -15,10 +15,10 @@ use Rattle.table.specs.Tabulate.{tabulateFrom, tabulate}
 use Rattle.report.specs.Over.{joinedFrom, unionFrom, interFrom, countFrom, unionAt}
 use Rattle.report.specs.Greatest.{leaving, narrow, narrowAll, leftOut, greatest}
 use Rattle.report.specs.Layout.{named, isIn, ownerOf, oneEach}
-use Rattle.report.specs.Operations.{nexts, byNaming, isReturn, accessed, given}
+use Rattle.report.specs.Operations.{nexts, accessed, given}
 use Rattle.report.specs.Flow.{startOf, passing, flowEdges, allFlowEdges, flowInitials, flowSets}
 use Rattle.report.specs.Effect.{overCopy, upFrom, namingEdges, callEdges, effects, gives, effectOf}
-use Rattle.report.specs.Held.{entry, onlyLock, atReturns, heldAfter, waysFrom, allWays, heldSets}
+use Rattle.report.specs.Held.{entry, onlyLock, atReturns, gained, lost, heldAfter, waysFrom, allWays, heldSets}
 use Rattle.report.specs.Future.{callers, nextEffects, futureEdges, futureInitials, futures}
 use Rattle.report.specs.Findings.{setsOf, clash, sharedAt, sharedCells, ownAccess, touchesAt, commonLocks, isUnguarded, strayBy, strayAt, accessCount, isStray}
 use Rattle.report.specs.Report.{cellLine, cellLines, strayLine, strayLines, countLines, saysUnguarded, saysStray, totalLine, findingLines, linesFor, reportLines}
@@ -37,7 +37,7 @@ inOneList (l ∷ ls) = l ++ inOneList ls
 
 -- the reports of the cases, as the definitions give them and as they are to be
 unfoldable pub asComputed : List Case → List (List (List ℤ))
-unfolding onesIn has firsts one union inter minus subset isEmpty count isSingle same room settle settled putInto along passEdges least lowest until plain handlesFrom parameters firstOf tabulateFrom tabulate argumentsIn statementIn statementOf declarationOf routineAt tableOf joinedFrom unionFrom interFrom countFrom unionAt leaving narrow narrowAll leftOut greatest named isIn ownerOf oneEach nexts byNaming isReturn accessed given startOf passing flowEdges allFlowEdges flowInitials flowSets overCopy upFrom namingEdges callEdges effects gives effectOf entry onlyLock atReturns heldAfter waysFrom allWays heldSets callers nextEffects futureEdges futureInitials futures setsOf clash sharedAt sharedCells ownAccess touchesAt commonLocks isUnguarded strayBy strayAt accessCount isStray cellLine cellLines strayLine strayLines countLines saysUnguarded saysStray totalLine findingLines linesFor reportLines
+unfolding onesIn has firsts one union inter minus subset isEmpty count isSingle same room settle settled putInto along passEdges least lowest until plain handlesFrom parameters firstOf tabulateFrom tabulate argumentsIn statementIn statementOf declarationOf routineAt tableOf joinedFrom unionFrom interFrom countFrom unionAt leaving narrow narrowAll leftOut greatest named isIn ownerOf oneEach nexts accessed given startOf passing flowEdges allFlowEdges flowInitials flowSets overCopy upFrom namingEdges callEdges effects gives effectOf entry onlyLock atReturns gained lost heldAfter waysFrom allWays heldSets callers nextEffects futureEdges futureInitials futures setsOf clash sharedAt sharedCells ownAccess touchesAt commonLocks isUnguarded strayBy strayAt accessCount isStray cellLine cellLines strayLine strayLines countLines saysUnguarded saysStray totalLine findingLines linesFor reportLines
 asComputed [] = []
 asComputed (c ∷ cs) = reportLines (tableOf (inOneList (c .lines))) ∷ asComputed cs
 

@@ -1,15 +1,15 @@
 -- What the report says of a cell and of a GIVE, from the sets. Assumes nothing.
 use Prim.Native.Nat.{ℕ}
-use mathlib.Core.Bool.{Bool, false, cond, not, _&&_, _||_}
+use mathlib.Core.Bool.{Bool, cond, not, _&&_, _||_}
 use mathlib.Core.List.{List}
 use lib.ListN.{getD, length}
 use Rattle.sets.specs.Set.{has, union, inter, subset, isEmpty, isSingle}
 use Rattle.table.specs.Table.{Table, statement}
+use Rattle.table.specs.View.{view, setOn, testOn, starts}
 use Rattle.table.specs.declared.Statement.{Statement}
-use Rattle.table.specs.declared.Statement.the-variants.{Read, Write, Set, Add, Take, Give, Point, Call, Start, Jump, JumpZero, Return}
 use Rattle.report.specs.Over.{unionFrom, interFrom, countFrom, unionAt}
 use Rattle.report.specs.Layout.{Layout}
-use Rattle.report.specs.Operations.{reading, writing, accessed, byNaming}
+use Rattle.report.specs.Operations.{reading, writing, accessed}
 use Rattle.report.specs.Flow.{flowAt, flowSets}
 use Rattle.report.specs.Effect.{effects, gives}
 use Rattle.report.specs.Held.{allLocks, heldSets}
@@ -53,8 +53,8 @@ clash reads writes otherReads otherWrites =
 unfoldable pub sharedAt : Table → Layout → Sets → ℕ → ℕ
 sharedAt t k a p =
     let d = k .leads (k .statementCopy p) (k .statementAt p) in
-    byNaming 0 (clash (getD (a .reads) d 0) (getD (a .writes) d 0) (getD (a .futureReads) p 0) (getD (a .futureWrites) p 0)) 0
-    (statement t (k .statementAt p))
+    setOn (starts (view (statement t (k .statementAt p))))
+    (λ q. clash (getD (a .reads) d 0) (getD (a .writes) d 0) (getD (a .futureReads) p 0) (getD (a .futureWrites) p 0))
 
 -- all shared cells
 unfoldable pub sharedCells : Table → Layout → Sets → ℕ
@@ -64,7 +64,7 @@ sharedCells t k a = unionFrom 0 (k .statements) (sharedAt t k a)
 
 -- the cells that the statement at a place reads or writes itself
 unfoldable pub ownAccess : Table → Layout → Sets → Bool → ℕ → ℕ
-ownAccess t k a w p = accessed w (flowAt k (a .flow) (k .statementCopy p)) 0 (statement t (k .statementAt p))
+ownAccess t k a w p = accessed w (flowAt k (a .flow) (k .statementCopy p)) (statement t (k .statementAt p))
 
 -- the statement at a place is an access of cell x
 unfoldable pub touchesAt : Table → Layout → Sets → ℕ → ℕ → Bool
@@ -83,18 +83,7 @@ isUnguarded shared common x = has shared x && isEmpty common
 
 -- "A GIVE is stray unless its flow set is one lock that is held there"
 unfoldable pub strayBy : (ℕ → ℕ) → ℕ → Statement → Bool
-strayBy flow held (Read h) = false
-strayBy flow held (Write h) = false
-strayBy flow held (Set n) = false
-strayBy flow held (Add n) = false
-strayBy flow held (Take h) = false
-strayBy flow held (Give h) = not (isSingle (flow (h .number)) && subset (flow (h .number)) held)
-strayBy flow held (Point h g) = false
-strayBy flow held (Call q a) = false
-strayBy flow held (Start q a) = false
-strayBy flow held (Jump s) = false
-strayBy flow held (JumpZero s) = false
-strayBy flow held Return = false
+strayBy flow held σ = testOn (view σ .gives) (λ h. not (isSingle (flow h) && subset (flow h) held))
 
 -- the statement at a place is a stray GIVE
 unfoldable pub strayAt : Table → Layout → Sets → ℕ → Bool

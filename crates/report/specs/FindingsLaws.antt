@@ -10,10 +10,10 @@ use borrow.Author.Tests.{eqb-true, eq-eqb, not-false}
 use Rattle.sets.specs.Set.{has, subset, isEmpty, isSingle, count}
 use Rattle.sets.specs.SetLaws.{has-beyond, below-of-has, firsts-below, subset-has, has-subset, single-is-one, has-one, lowest-some, lowest-is}
 use Rattle.table.specs.Table.{Table, statement}
+use Rattle.table.specs.View.{view}
+use Rattle.table.specs.ViewLaws.{test-is}
 use Rattle.table.specs.Accepted.{Accepted}
-use Rattle.table.specs.declared.Handle.{Handle}
-use Rattle.table.specs.declared.Statement.{Statement}
-use Rattle.table.specs.declared.Statement.the-variants.{Read, Write, Set, Add, Take, Give, Point, Call, Start, Jump, JumpZero, Return}
+use Rattle.table.specs.declared.Reference.the-variants.{To}
 use Rattle.report.specs.Over.{unionAt}
 use Rattle.report.specs.OverLaws.{never, none-in, both-true, true-both, not-has, inter-at, inter-inside, inter-has, unionAt-has, unionAt-from, below-within, within-below}
 use Rattle.report.specs.Layout.{Layout}
@@ -21,7 +21,7 @@ use Rattle.report.specs.Fits.{Fits, StatementPlaced, copiesOf}
 use Rattle.report.specs.Operations.{accessed, reading, writing}
 use Rattle.report.specs.Flow.{flowAt}
 use Rattle.report.specs.FlowLaws.{flow-sets}
-use Rattle.report.specs.EffectLaws.{reads-of, writes-of, from-reads, from-writes}
+use Rattle.report.specs.EffectLaws.{accessed-accesses, accesses-accessed}
 use Rattle.report.specs.Held.{allLocks}
 use Rattle.report.specs.HeldLaws.{single-only, only-single}
 use Rattle.report.specs.Findings.{Sets, setsOf, sharedCells, ownAccess, touchesAt, commonLocks, isUnguarded, strayBy, strayAt, isStray}
@@ -70,50 +70,18 @@ module _ (t : Table) (k : Layout) (acc : Accepted t) (fits : Fits t k) where
 
   -- ---- accesses
 
-  accesses-has : (c : ℕ) (σ : Statement) (w : Bool) (x : ℕ) → Accesses (copiesOf fits) (families t k .flow) c σ w x
-      → has (accessed w (flowAt k (theSets .flow) c) 0 σ) x ≡ true
-  unfolding accessed
-  accesses-has c (Read h) w x a = reads-of w x _ a
-  accesses-has c (Write h) w x a = writes-of w x _ a
-  accesses-has c (Set n) w x a = absurd a
-  accesses-has c (Add n) w x a = absurd a
-  accesses-has c (Take h) w x a = absurd a
-  accesses-has c (Give h) w x a = absurd a
-  accesses-has c (Point h g) w x a = absurd a
-  accesses-has c (Call q b) w x a = absurd a
-  accesses-has c (Start q b) w x a = absurd a
-  accesses-has c (Jump z) w x a = absurd a
-  accesses-has c (JumpZero z) w x a = absurd a
-  accesses-has c Return w x a = absurd a
-
-  has-accesses : (c : ℕ) (σ : Statement) (w : Bool) (x : ℕ) → has (accessed w (flowAt k (theSets .flow) c) 0 σ) x ≡ true
-      → Accesses (copiesOf fits) (families t k .flow) c σ w x
-  unfolding accessed
-  has-accesses c (Read h) w x a = from-reads w x _ a
-  has-accesses c (Write h) w x a = from-writes w x _ a
-  has-accesses c (Set n) w x a = none-in x a
-  has-accesses c (Add n) w x a = none-in x a
-  has-accesses c (Take h) w x a = none-in x a
-  has-accesses c (Give h) w x a = none-in x a
-  has-accesses c (Point h g) w x a = none-in x a
-  has-accesses c (Call q b) w x a = none-in x a
-  has-accesses c (Start q b) w x a = none-in x a
-  has-accesses c (Jump z) w x a = none-in x a
-  has-accesses c (JumpZero z) w x a = none-in x a
-  has-accesses c Return w x a = none-in x a
-
   accesses-touch : (c s : ℕ) (w : Bool) (x : ℕ) → Place (copiesOf fits) c s → Accesses (copiesOf fits) (families t k .flow) c (statement t s) w x
       → touchesAt t k theSets x (k .statementPlace c s) ≡ true
   unfolding touchesAt ownAccess
   accesses-touch c s w x v a =
       at-placed t k fits
-      (λ p d z τ. (has (accessed reading (flowAt k (theSets .flow) d) 0 τ) x || has (accessed writing (flowAt k (theSets .flow) d) 0 τ) x) ≡ true)
-      c s v (statement t s) refl (go w (accesses-has c (statement t s) w x a))
+      (λ p d z τ. (has (accessed reading (flowAt k (theSets .flow) d) τ) x || has (accessed writing (flowAt k (theSets .flow) d) τ) x) ≡ true)
+      c s v (statement t s) refl (go w (accesses-accessed t k fits (theSets .flow) flow-below c w x (statement t s) a))
     where
-      go : (w : Bool) → has (accessed w (flowAt k (theSets .flow) c) 0 (statement t s)) x ≡ true
-          → (has (accessed reading (flowAt k (theSets .flow) c) 0 (statement t s)) x || has (accessed writing (flowAt k (theSets .flow) c) 0 (statement t s)) x) ≡ true
-      go true h = either-right (has (accessed reading (flowAt k (theSets .flow) c) 0 (statement t s)) x) h
-      go false h = either-left (has (accessed writing (flowAt k (theSets .flow) c) 0 (statement t s)) x) h
+      go : (w : Bool) → has (accessed w (flowAt k (theSets .flow) c) (statement t s)) x ≡ true
+          → (has (accessed reading (flowAt k (theSets .flow) c) (statement t s)) x || has (accessed writing (flowAt k (theSets .flow) c) (statement t s)) x) ≡ true
+      go true h = either-right (has (accessed reading (flowAt k (theSets .flow) c) (statement t s)) x) h
+      go false h = either-left (has (accessed writing (flowAt k (theSets .flow) c) (statement t s)) x) h
 
   touch-accesses : (p x : ℕ) → touchesAt t k theSets x p ≡ true
       → (w : Bool) × Accesses (copiesOf fits) (families t k .flow) (k .statementCopy p) (statement t (k .statementAt p)) w x
@@ -122,8 +90,8 @@ module _ (t : Table) (k : Layout) (acc : Accepted t) (fits : Fits t k) where
     where
       go : (has (ownAccess t k theSets reading p) x ≡ true) ⊎ (has (ownAccess t k theSets writing p) x ≡ true)
           → (w : Bool) × Accesses (copiesOf fits) (families t k .flow) (k .statementCopy p) (statement t (k .statementAt p)) w x
-      go (inl a) = (false, has-accesses (k .statementCopy p) (statement t (k .statementAt p)) false x a)
-      go (inr a) = (true, has-accesses (k .statementCopy p) (statement t (k .statementAt p)) true x a)
+      go (inl a) = (false, accessed-accesses t k fits (theSets .flow) flow-below (k .statementCopy p) false x (statement t (k .statementAt p)) a)
+      go (inr a) = (true, accessed-accesses t k fits (theSets .flow) flow-below (k .statementCopy p) true x (statement t (k .statementAt p)) a)
 
   -- ---- common locks: exactly the locks that are held at all accesses
 
@@ -196,32 +164,39 @@ module _ (t : Table) (k : Layout) (acc : Accepted t) (fits : Fits t k) where
   not-both : (a b : Bool) → not (a && b) ≡ false → (a ≡ true) × (b ≡ true)
   not-both a b h = both-true a b (not-false (a && b) h)
 
-  pub sound-if : (c s : ℕ) (h : Handle) → Place (copiesOf fits) c s → statement t s ≡ Give h → strayAt t k theSets (k .statementPlace c s) ≡ false
-      → Sound (families t k .flow) (families t k .held) c s (h .number)
+  -- the test of a GIVE through handle h, where `locks` are held
+  abbrev strayThrough : ℕ → ℕ → ℕ → Bool
+  strayThrough c locks h = let F : ℕ = flowAt k (theSets .flow) c h in not (isSingle F && subset F locks)
+
+  pub sound-if : (c s h : ℕ) → Place (copiesOf fits) c s → view (statement t s) .gives ≡ To h → strayAt t k theSets (k .statementPlace c s) ≡ false
+      → Sound (families t k .flow) (families t k .held) c s h
   unfolding strayAt strayBy isSingle
   sound-if c s h v e f =
-      let F : ℕ = flowAt k (theSets .flow) c (h .number) in
+      let F : ℕ = flowAt k (theSets .flow) c h in
       let H : ℕ = getD (theSets .held) (k .statementPlace c s) 0 in
       let b : (isSingle F ≡ true) × (subset F H ≡ true) =
       not-both (isSingle F) (subset F H)
-      (from-placed t k fits (λ p d z τ. strayBy (flowAt k (theSets .flow) d) (getD (theSets .held) p 0) τ ≡ false) c s v (Give h) e f) in
-      let i = single-has F (flow-below (k .handlePlace c (h .number))) (b .0) in
+      (sym (test-is (view (statement t s) .gives) (strayThrough c H) e)
+      ∙ from-placed t k fits (λ p d z τ. strayBy (flowAt k (theSets .flow) d) (getD (theSets .held) p 0) τ ≡ false) c s v (statement t s) refl f) in
+      let i = single-has F (flow-below (k .handlePlace c h)) (b .0) in
       record {
         lock = i .0;
-        one = single-only F (flow-below (k .handlePlace c (h .number))) (b .0) (i .0) (i .1);
+        one = single-only F (flow-below (k .handlePlace c h)) (b .0) (i .0) (i .1);
         before = subset-has F H (b .1) (i .0) (i .1);
       }
 
-  pub sound-is : (c s : ℕ) (h : Handle) → Place (copiesOf fits) c s → statement t s ≡ Give h → Sound (families t k .flow) (families t k .held) c s (h .number)
+  pub sound-is : (c s h : ℕ) → Place (copiesOf fits) c s → view (statement t s) .gives ≡ To h → Sound (families t k .flow) (families t k .held) c s h
       → strayAt t k theSets (k .statementPlace c s) ≡ false
   unfolding strayAt strayBy
   sound-is c s h v e o =
-      at-placed t k fits (λ p d z τ. strayBy (flowAt k (theSets .flow) d) (getD (theSets .held) p 0) τ ≡ false) c s v (Give h) e
-      (rw (
-        only-single (flowAt k (theSets .flow) c (h .number)) (o .lock) (flow-below (k .handlePlace c (h .number))) (o .one),
-        has-subset (flowAt k (theSets .flow) c (h .number)) (getD (theSets .held) (k .statementPlace c s) 0)
-            (λ y g. ap (has (getD (theSets .held) (k .statementPlace c s) 0)) (o .one .alone y g) ∙ o .before),
-      ))
+      let H : ℕ = getD (theSets .held) (k .statementPlace c s) 0 in
+      let sound : strayThrough c H h ≡ false =
+      rw (
+        only-single (flowAt k (theSets .flow) c h) (o .lock) (flow-below (k .handlePlace c h)) (o .one),
+        has-subset (flowAt k (theSets .flow) c h) H (λ y g. ap (has H) (o .one .alone y g) ∙ o .before),
+      ) in
+      at-placed t k fits (λ p d z τ. strayBy (flowAt k (theSets .flow) d) (getD (theSets .held) p 0) τ ≡ false) c s v (statement t s) refl
+      (test-is (view (statement t s) .gives) (strayThrough c H) e ∙ sound)
 
   -- a statement is a stray GIVE if it is one at some place
 
@@ -244,7 +219,7 @@ module _ (t : Table) (k : Layout) (acc : Accepted t) (fits : Fits t k) where
       let u : StatementPlaced k c s = placed t k fits c s v in
       unionAt-has (k .placesOf s) (ownAccess t k theSets w) (k .statementPlace c s) x
       (subst (λ (z : ℕ). List·Memᴰ (k .statementPlace c s) (k .placesOf z)) (u .same) (fits .statement-there (k .statementPlace c s) (u .there) .among))
-      (at-placed t k fits (λ p d z τ. has (accessed w (flowAt k (theSets .flow) d) 0 τ) x ≡ true) c s v (statement t s) refl (accesses-has c (statement t s) w x a))
+      (at-placed t k fits (λ p d z τ. has (accessed w (flowAt k (theSets .flow) d) τ) x ≡ true) c s v (statement t s) refl (accesses-accessed t k fits (theSets .flow) flow-below c w x (statement t s) a))
 
   counted-is : (s : ℕ) (w : Bool) (x : ℕ) → s < length (t .statements) → has (unionAt (k .placesOf s) (ownAccess t k theSets w)) x ≡ true
       → (c : ℕ) × Place (copiesOf fits) c s × Accesses (copiesOf fits) (families t k .flow) c (statement t s) w x
@@ -255,7 +230,7 @@ module _ (t : Table) (k : Layout) (acc : Accepted t) (fits : Fits t k) where
         k .statementCopy (r .0),
         subst (Place (copiesOf fits) (k .statementCopy (r .0))) (q .1) (place-at t k fits (r .0) (q .0)),
         subst (λ (z : ℕ). Accesses (copiesOf fits) (families t k .flow) (k .statementCopy (r .0)) (statement t z) w x) (q .1)
-            (has-accesses (k .statementCopy (r .0)) (statement t (k .statementAt (r .0))) w x (r .2)),
+            (accessed-accesses t k fits (theSets .flow) flow-below (k .statementCopy (r .0)) w x (statement t (k .statementAt (r .0))) (r .2)),
       )
 
   pub counted-exactly : (s : ℕ) (w : Bool) (x : ℕ) → s < length (t .statements)

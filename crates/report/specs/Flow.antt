@@ -2,16 +2,16 @@
 -- its parameter's." A list of sets, one for each handle of each copy. Assumes nothing.
 use Prim.Native.Nat.{ℕ, _+_}
 use mathlib.Core.Bool.{cond}
-use mathlib.Core.List.{List, [], _∷_}
+use mathlib.Core.List.{List, [], _∷_, _++_}
 use lib.Dec.{eqb}
 use lib.ListN.{getD}
 use Rattle.sets.specs.Set.{one}
-use Rattle.sets.specs.Least.{Edge, least}
+use Rattle.sets.specs.Least.{Edge, plain, least}
 use Rattle.table.specs.Table.{Table, declaration, routine, statement, passed}
 use Rattle.table.specs.Tabulate.{tabulate}
+use Rattle.table.specs.View.{view, listOn}
 use Rattle.table.specs.declared.Arguments.{Arguments}
 use Rattle.table.specs.declared.Statement.{Statement}
-use Rattle.table.specs.declared.Statement.the-variants.{Read, Write, Set, Add, Take, Give, Point, Call, Start, Jump, JumpZero, Return}
 use Rattle.report.specs.Over.{joinedFrom}
 use Rattle.report.specs.Layout.{Layout}
 
@@ -27,22 +27,13 @@ startOf t h = cond (eqb (declaration t h .origin) 1) (one (declaration t h .star
 unfoldable pub passing : Table → Layout → ℕ → ℕ → ℕ → Arguments → List Edge
 passing t k c d q a =
     joinedFrom 0 (routine t q .parameters)
-    (λ j. record { from = k .handlePlace c (getD (passed a) j 0); to = k .handlePlace d (routine t q .handle + j) } ∷ [])
+    (λ j. plain (k .handlePlace c (getD (passed a) j 0)) (k .handlePlace d (routine t q .handle + j)) ∷ [])
 
 -- what statement s of copy c puts into what
 unfoldable pub flowEdges : Table → Layout → ℕ → ℕ → Statement → List Edge
-flowEdges t k c s (Read h) = []
-flowEdges t k c s (Write h) = []
-flowEdges t k c s (Set n) = []
-flowEdges t k c s (Add n) = []
-flowEdges t k c s (Take h) = []
-flowEdges t k c s (Give h) = []
-flowEdges t k c s (Point h g) = record { from = k .handlePlace c (g .number); to = k .handlePlace c (h .number) } ∷ []
-flowEdges t k c s (Call q a) = passing t k c (k .leads c s) q a
-flowEdges t k c s (Start q a) = passing t k c (k .leads c s) q a
-flowEdges t k c s (Jump q) = []
-flowEdges t k c s (JumpZero q) = []
-flowEdges t k c s Return = []
+flowEdges t k c s σ =
+    listOn (view σ .points) (λ h. plain (k .handlePlace c (view σ .source)) (k .handlePlace c h) ∷ [])
+    ++ listOn (view σ .names) (λ q. passing t k c (k .leads c s) q (view σ .arguments))
 
 -- those of all statements
 unfoldable pub allFlowEdges : Table → Layout → List Edge

@@ -5,12 +5,13 @@ use Prim.Native.Nat.{ℕ, _+_}
 use mathlib.Core.Bool.{Bool, cond}
 use mathlib.Core.List.{List, [], _∷_, _++_, map}
 use lib.Dec.{ltb}
-use Rattle.sets.specs.Least.{Edge, least}
+use Rattle.sets.specs.Least.{Edge, plain, least}
 use Rattle.table.specs.Table.{Table, statement}
 use Rattle.table.specs.Tabulate.{tabulate}
+use Rattle.table.specs.View.{view, listOn, calls}
 use Rattle.report.specs.Over.{joinedFrom, unionAt}
 use Rattle.report.specs.Layout.{Layout}
-use Rattle.report.specs.Operations.{nexts, byNaming}
+use Rattle.report.specs.Operations.{nexts}
 use Rattle.report.specs.Effect.{effectOf}
 
 -- the place of the futures of all CALLs of copy c
@@ -26,9 +27,9 @@ unfoldable pub futureEdges : Table → Layout → List Edge
 futureEdges t k =
     joinedFrom 0 (k .statements)
     (λ p.
-    map (λ (n : ℕ). record { from = k .statementPlace (k .statementCopy p) n; to = p }) (nexts (k .statementAt p) (statement t (k .statementAt p)))
-    ++ (record { from = callers k (k .statementCopy p); to = p }
-    ∷ byNaming (record { from = p; to = callers k (k .leads (k .statementCopy p) (k .statementAt p)) } ∷ []) [] [] (statement t (k .statementAt p))))
+    map (λ (n : ℕ). plain (k .statementPlace (k .statementCopy p) n) p) (nexts (k .statementAt p) (statement t (k .statementAt p)))
+    ++ (plain (callers k (k .statementCopy p)) p
+    ∷ listOn (calls (view (statement t (k .statementAt p)))) (λ q. plain p (callers k (k .leads (k .statementCopy p) (k .statementAt p))) ∷ [])))
 
 -- before anything goes along the edges: the effects of what may come next, and nothing for the CALLs of a copy
 unfoldable pub futureInitials : Table → Layout → List ℕ → List ℕ → Bool → List ℕ

@@ -9,22 +9,24 @@ use lib.Dec.{ltb}
 use lib.ListN.{getD}
 use borrow.Author.Tests.{ltb-true, lt-ltb}
 use Rattle.sets.specs.Set.{has}
-use Rattle.sets.specs.Least.{SetList, Edge}
+use Rattle.sets.specs.SetLaws.{union-below}
+use Rattle.sets.specs.Least.{SetList, Edge, plain}
 use Rattle.sets.specs.LeastLaws.{least-sets, least-holds-start, least-edge, least-induction}
 use Rattle.table.specs.Table.{Table, statement}
+use Rattle.table.specs.View.{view, On, listOn, calls}
+use Rattle.table.specs.ViewLaws.{set-below, list-has, list-from}
 use Rattle.table.specs.Accepted.{Accepted}
-use Rattle.table.specs.declared.Arguments.{Arguments}
 use Rattle.table.specs.declared.Statement.{Statement}
-use Rattle.table.specs.declared.Statement.the-variants.{Read, Write, Set, Add, Take, Give, Point, Call, Start, Jump, JumpZero, Return}
+use Rattle.table.specs.declared.Reference.the-variants.{To}
 use Rattle.report.specs.Over.{unionAt}
 use Rattle.report.specs.OverLaws.{none-in, unionAt-has, unionAt-from, unionAt-below, tabulate-sets, tabulate-has, tabulate-from}
 use Rattle.report.specs.Layout.{Layout}
 use Rattle.report.specs.Fits.{Fits, StatementPlaced, copiesOf}
-use Rattle.report.specs.Operations.{nexts, byNaming}
+use Rattle.report.specs.Operations.{nexts}
 use Rattle.report.specs.Flow.{flowAt}
 use Rattle.report.specs.FlowLaws.{FlowHas}
 use Rattle.report.specs.Effect.{effectOf}
-use Rattle.report.specs.EffectLaws.{EffectHas, accessed-below, accessed-does, does-accessed}
+use Rattle.report.specs.EffectLaws.{EffectHas, accessed-below, effect-does, does-effect}
 use Rattle.report.specs.Future.{callers, nextEffects, futureEdges, futureInitials, futures}
 use Rattle.report.specs.NextLaws.{goes-next, next-goes, goes-placed, map-has, map-from}
 use Rattle.report.specs.PlaceLaws.{placed, place-at, at-placed, among-all, of-some}
@@ -42,7 +44,8 @@ module _ (t : Table) (k : Layout) (acc : Accepted t) (fits : Fits t k) (flow : L
   effectOf-below : (w : Bool) (c s : ℕ) → effectOf t k flow (effect w) w c s < 2 ^ 64
   unfolding effectOf
   effectOf-below w c s =
-      accessed-below (flowAt k flow c) (λ h. below (k .handlePlace c h)) w (getD (effect w) (k .leads c s) 0) (effect-below w (k .leads c s)) (statement t s)
+      union-below 64 (accessed-below (flowAt k flow c) (λ h. below (k .handlePlace c h)) w (statement t s))
+      (set-below (view (statement t s) .names) (λ q. getD (effect w) (k .leads c s) 0) (λ q. effect-below w (k .leads c s)))
 
   startAt-below : (w : Bool) (p : ℕ) → startAt w p < 2 ^ 64
   unfolding nextEffects
@@ -62,21 +65,22 @@ module _ (t : Table) (k : Layout) (acc : Accepted t) (fits : Fits t k) (flow : L
 
   -- the edges that a statement makes
   abbrev nextEdges : ℕ → ℕ → ℕ → Statement → List Edge
-  nextEdges p c s σ = map (λ (n : ℕ). record { from = k .statementPlace c n; to = p }) (nexts s σ)
+  nextEdges p c s σ = map (λ (n : ℕ). plain (k .statementPlace c n) p) (nexts s σ)
 
   abbrev callEdges : ℕ → ℕ → ℕ → Statement → List Edge
-  callEdges p c s σ = byNaming (record { from = p; to = callers k (k .leads c s) } ∷ []) [] [] σ
+  callEdges p c s σ = listOn (calls (view σ)) (λ q. plain p (callers k (k .leads c s)) ∷ [])
 
   abbrev edgesAt : ℕ → ℕ → ℕ → Statement → List Edge
-  edgesAt p c s σ = nextEdges p c s σ ++ (record { from = callers k c; to = p } ∷ callEdges p c s σ)
+  edgesAt p c s σ = nextEdges p c s σ ++ (plain (callers k c) p ∷ callEdges p c s σ)
 
-  along : (w : Bool) (c s : ℕ) → Place (copiesOf fits) c s → (σ : Statement) → statement t s ≡ σ → (e : Edge)
-      → List·Memᴰ e (edgesAt (k .statementPlace c s) c s σ) → e .to < k .statements + k .copies → (x : ℕ)
-      → has (getD (futures t k flow (effect w) w) (e .from) 0) x ≡ true → has (getD (futures t k flow (effect w) w) (e .to) 0) x ≡ true
+  along : (w : Bool) (c s : ℕ) → Place (copiesOf fits) c s → (e : Edge)
+      → List·Memᴰ e (edgesAt (k .statementPlace c s) c s (statement t s)) → e .to < k .statements + k .copies → (x : ℕ)
+      → has (getD (futures t k flow (effect w) w) (e .from) 0) x ≡ true → has (getD (futures t k flow (effect w) w) (e .also) 0) x ≡ true
+      → has (getD (futures t k flow (effect w) w) (e .to) 0) x ≡ true
   unfolding futures futureEdges
-  along w c s v σ q e m l x h =
+  along w c s v e m l x h b =
       least-edge (k .statements + k .copies) (futureEdges t k) (futureInitials t k flow (effect w) w) (starts-sets w) e
-      (among-all t k fits edgesAt e c s v σ q m) l x h
+      (among-all t k fits edgesAt e c s v (statement t s) refl m) l x h b
 
   -- ---- the rules
 
@@ -88,31 +92,33 @@ module _ (t : Table) (k : Layout) (acc : Accepted t) (fits : Fits t k) (flow : L
 
   at-next : (c s s′ : ℕ) (w : Bool) (x : ℕ) → Place (copiesOf fits) c s → Goes s (statement t s) s′
       → Does (copiesOf fits) (FlowHas k flow) (EffectHas effect) c s′ (statement t s′) w x → Future c s w x
-  unfolding futures futureInitials nextEffects effectOf
+  unfolding futures futureInitials nextEffects
   at-next c s s′ w x v g d =
       least-holds-start (k .statements + k .copies) (futureEdges t k) (futureInitials t k flow (effect w) w) (starts-sets w) .at (k .statementPlace c s) x
       (tabulate-has (k .statements + k .copies) (startAt w) (k .statementPlace c s) x (place-below c s v)
       (rw (lt-ltb (k .statementPlace c s) (k .statements) (placed t k fits c s v .there))
       (at-placed t k fits (λ p b z τ. has (unionAt (nexts z τ) (effectOf t k flow (effect w) w b)) x ≡ true) c s v (statement t s) refl
       (unionAt-has (nexts s (statement t s)) (effectOf t k flow (effect w) w c) s′ x (goes-next s (statement t s) s′ g)
-      (does-accessed t k fits flow below (EffectHas effect) c s′ w (getD (effect w) (k .leads c s′) 0) x (λ a. a) (statement t s′) d)))))
+      (does-effect t k fits flow below effect c s′ w x d)))))
 
   at-later : (c s s′ : ℕ) (w : Bool) (x : ℕ) → Place (copiesOf fits) c s → Goes s (statement t s) s′ → Future c s′ w x → Future c s w x
   at-later c s s′ w x v g a =
-      along w c s v (statement t s) refl (record { from = k .statementPlace c s′; to = k .statementPlace c s })
-      (Memᴰ·append-left (record { from = callers k c; to = k .statementPlace c s } ∷ callEdges (k .statementPlace c s) c s (statement t s)) (map-has (λ (n : ℕ). record { from = k .statementPlace c n; to = k .statementPlace c s }) _ s′ (goes-next s (statement t s) s′ g)))
-      (place-below c s v) x a
+      along w c s v (plain (k .statementPlace c s′) (k .statementPlace c s))
+      (Memᴰ·append-left (plain (callers k c) (k .statementPlace c s) ∷ callEdges (k .statementPlace c s) c s (statement t s)) (map-has (λ (n : ℕ). plain (k .statementPlace c n) (k .statementPlace c s)) _ s′ (goes-next s (statement t s) s′ g)))
+      (place-below c s v) x a a
 
-  of-callers : (c s z : ℕ) (w : Bool) (x q : ℕ) (a : Arguments) → Place (copiesOf fits) c s → statement t s ≡ Call q a
+  of-callers : (c s z : ℕ) (w : Bool) (x q : ℕ) → Place (copiesOf fits) c s → calls (view (statement t s)) ≡ To q
       → Place (copiesOf fits) (k .leads c s) z → Future c s w x → Future (k .leads c s) z w x
-  unfolding byNaming callers
-  of-callers c s z w x q a v e u f =
-      along w (k .leads c s) z u (statement t z) refl (record { from = callers k (k .leads c s); to = k .statementPlace (k .leads c s) z })
+  unfolding callers
+  of-callers c s z w x q v e u f =
+      let at-callers : has (getD (futures t k flow (effect w) w) (callers k (k .leads c s)) 0) x ≡ true =
+      along w c s v (plain (k .statementPlace c s) (callers k (k .leads c s)))
+      (Memᴰ·append-right (nextEdges (k .statementPlace c s) c s (statement t s))
+      (List·Memᴰ·tail (list-has (calls (view (statement t s))) (λ r. plain (k .statementPlace c s) (callers k (k .leads c s)) ∷ []) _ e (List·Memᴰ·head refl))))
+      (let l : k .leads c s < k .copies = u .there in omega arith) x f f in
+      along w (k .leads c s) z u (plain (callers k (k .leads c s)) (k .statementPlace (k .leads c s) z))
       (Memᴰ·append-right (nextEdges (k .statementPlace (k .leads c s) z) (k .leads c s) z (statement t z)) (List·Memᴰ·head refl))
-      (place-below (k .leads c s) z u) x
-      (along w c s v (Call q a) e (record { from = k .statementPlace c s; to = callers k (k .leads c s) })
-      (Memᴰ·append-right (nextEdges (k .statementPlace c s) c s (Call q a)) (List·Memᴰ·tail (List·Memᴰ·head refl)))
-      (let l : k .leads c s < k .copies = u .there in omega arith) x f)
+      (place-below (k .leads c s) z u) x at-callers at-callers
 
   pub future-rules : FutureRules (copiesOf fits) (FlowHas k flow) (EffectHas effect) Future
   future-rules = record {
@@ -138,36 +144,23 @@ module _ (t : Table) (k : Layout) (acc : Accepted t) (fits : Fits t k) (flow : L
         let u : StatementPlaced k c s = placed t k fits c s v in
         subst (λ (z : ℕ). other c z w x) (u .same) (subst (λ (d : ℕ). other d (k .statementAt (k .statementPlace c s)) w x) (u .copy) (a .here (u .there)))
 
-    called : (c s : ℕ) → Place (copiesOf fits) c s → (r : ℕ) (b : Arguments) → statement t s ≡ Call r b → (x : ℕ) → other c s w x
-        → Ahead (callers k (k .leads c s)) x
+    called : (c s q : ℕ) → Place (copiesOf fits) c s → calls (view (statement t s)) ≡ To q → (x : ℕ) → other c s w x → Ahead (callers k (k .leads c s)) x
     unfolding callers
-    called c s v r b q x o = record {
+    called c s q v e x o = record {
       here = λ l. absurd (omega arith);
       every = λ d z i u.
           let j : k .leads c s ≡ d = omega arith in
           subst (λ (d : ℕ). other d z w x) j
-          (rules .callers c s z w x r b v q (subst (λ (d : ℕ). Place (copiesOf fits) d z) (sym j) u) o);
+          (rules .callers c s z w x q v e (subst (λ (d : ℕ). Place (copiesOf fits) d z) (sym j) u) o);
     }
 
-    up : (p c s : ℕ) → Place (copiesOf fits) c s → (σ : Statement) → statement t s ≡ σ → (e : Edge)
-        → List·Memᴰ e (byNaming (record { from = p; to = callers k (k .leads c s) } ∷ []) [] [] σ) → (x : ℕ)
+    up : (p c s : ℕ) → Place (copiesOf fits) c s → (e : Edge) → List·Memᴰ e (callEdges p c s (statement t s)) → (x : ℕ)
         → (Ahead p x → other c s w x) → Ahead (e .from) x → Ahead (e .to) x
-    unfolding byNaming
-    up p c s v (Read h) q e m x f a = elim m [ ]
-    up p c s v (Write h) q e m x f a = elim m [ ]
-    up p c s v (Set n) q e m x f a = elim m [ ]
-    up p c s v (Add n) q e m x f a = elim m [ ]
-    up p c s v (Take h) q e m x f a = elim m [ ]
-    up p c s v (Give h) q e m x f a = elim m [ ]
-    up p c s v (Point h g) q e m x f a = elim m [ ]
-    up p c s v (Call r b) q e m x f a =
-        let i : e ≡ record { from = p; to = callers k (k .leads c s) } = List·Memᴰ·eq-of-singleton m in
-        subst (λ (d : Edge). Ahead (d .to) x) (sym i)
-        (called c s v r b q x (f (subst (λ (d : Edge). Ahead (d .from) x) i a)))
-    up p c s v (Start r b) q e m x f a = elim m [ ]
-    up p c s v (Jump z) q e m x f a = elim m [ ]
-    up p c s v (JumpZero z) q e m x f a = elim m [ ]
-    up p c s v Return q e m x f a = elim m [ ]
+    up p c s v e m x f a =
+        let o : On (calls (view (statement t s))) (λ q. List·Memᴰ e (plain p (callers k (k .leads c s)) ∷ [])) =
+        list-from (calls (view (statement t s))) (λ q. plain p (callers k (k .leads c s)) ∷ []) e m in
+        let i : e ≡ plain p (callers k (k .leads c s)) = List·Memᴰ·eq-of-singleton (o .2) in
+        subst (λ (d : Edge). Ahead (d .to) x) (sym i) (called c s (o .0) v (o .1) x (f (subst (λ (d : Edge). Ahead (d .from) x) i a)))
 
     goes-along : (p : ℕ) → p < k .statements → (e : Edge)
         → List·Memᴰ e (edgesAt p (k .statementCopy p) (k .statementAt p) (statement t (k .statementAt p))) → (x : ℕ) → Ahead (e .from) x → Ahead (e .to) x
@@ -182,17 +175,17 @@ module _ (t : Table) (k : Layout) (acc : Accepted t) (fits : Fits t k) (flow : L
         v : Place (copiesOf fits) c s
         v = place-at t k fits p l
 
-        rest : List·Memᴰ e (record { from = callers k c; to = p } ∷ callEdges p c s (statement t s)) → Ahead (e .to) x
+        rest : List·Memᴰ e (plain (callers k c) p ∷ callEdges p c s (statement t s)) → Ahead (e .to) x
         rest (List·Memᴰ·head i) =
             subst (λ (d : Edge). Ahead (d .to) x) (sym i)
             (statement-ahead p x l (subst (λ (d : Edge). Ahead (d .from) x) i a .every c s refl v))
-        rest (List·Memᴰ·tail m) = up p c s v (statement t s) refl e m x (λ b. b .here l) a
+        rest (List·Memᴰ·tail m) = up p c s v e m x (λ b. b .here l) a
 
-        go : List·Memᴰ e (nextEdges p c s (statement t s)) ⊎ List·Memᴰ e (record { from = callers k c; to = p } ∷ callEdges p c s (statement t s))
+        go : List·Memᴰ e (nextEdges p c s (statement t s)) ⊎ List·Memᴰ e (plain (callers k c) p ∷ callEdges p c s (statement t s))
             → Ahead (e .to) x
         go (inl m) =
-            let r : (n : ℕ) × List·Memᴰ n (nexts s (statement t s)) × (e ≡ record { from = k .statementPlace c n; to = p }) =
-            map-from (λ (n : ℕ). record { from = k .statementPlace c n; to = p }) (nexts s (statement t s)) e m in
+            let r : (n : ℕ) × List·Memᴰ n (nexts s (statement t s)) × (e ≡ plain (k .statementPlace c n) p) =
+            map-from (λ (n : ℕ). plain (k .statementPlace c n) p) (nexts s (statement t s)) e m in
             let g : Goes s (statement t s) (r .0) = next-goes s (statement t s) (r .0) (r .1) in
             let u : Place (copiesOf fits) c (r .0) = goes-placed t k acc fits c s (r .0) v g in
             subst (λ (d : Edge). Ahead (d .to) x) (sym (r .2))
@@ -200,7 +193,7 @@ module _ (t : Table) (k : Layout) (acc : Accepted t) (fits : Fits t k) (flow : L
         go (inr m) = rest m
 
     starts-ahead : (p x : ℕ) → p < k .statements → has (nextEffects t k flow (effect w) w (k .statementCopy p) (k .statementAt p)) x ≡ true → Ahead p x
-    unfolding nextEffects effectOf
+    unfolding nextEffects
     starts-ahead p x l h =
         let c : ℕ = k .statementCopy p in
         let s : ℕ = k .statementAt p in
@@ -210,7 +203,7 @@ module _ (t : Table) (k : Layout) (acc : Accepted t) (fits : Fits t k) (flow : L
         let g : Goes s (statement t s) (r .0) = next-goes s (statement t s) (r .0) (r .1) in
         statement-ahead p x l
         (rules .next c s (r .0) w x v (goes-placed t k acc fits c s (r .0) v g) g
-        (accessed-does t k fits flow below (EffectHas effect) c (r .0) w (getD (effect w) (k .leads c (r .0)) 0) x (λ a. a) (statement t (r .0)) (r .2)))
+        (effect-does t k fits flow below effect c (r .0) w x (r .2)))
 
     from-start : (p x : ℕ) → has (startAt w p) x ≡ true → Ahead p x
     from-start p x h = go (ltb p (k .statements)) refl h
@@ -224,7 +217,7 @@ module _ (t : Table) (k : Layout) (acc : Accepted t) (fits : Fits t k) (flow : L
     unfolding futures futureEdges futureInitials
     everywhere =
         least-induction (k .statements + k .copies) (futureEdges t k) (futureInitials t k flow (effect w) w) (starts-sets w) Ahead
-        (λ e m l x a.
+        (λ e m l x a b.
         let r : (p : ℕ) × (p < k .statements) × List·Memᴰ e (edgesAt p (k .statementCopy p) (k .statementAt p) (statement t (k .statementAt p))) =
         of-some t k fits edgesAt e m in
         goes-along (r .0) (r .1) e (r .2) x a)

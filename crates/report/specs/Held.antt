@@ -5,12 +5,12 @@ use mathlib.Core.List.{List, [], _∷_, _++_, map}
 use lib.ListN.{getD}
 use Rattle.sets.specs.Set.{union, minus, firsts, isSingle}
 use Rattle.table.specs.Table.{Table, routine, statement}
+use Rattle.table.specs.View.{view, setOn, listOn, calls, starts}
 use Rattle.table.specs.declared.Statement.{Statement}
-use Rattle.table.specs.declared.Statement.the-variants.{Read, Write, Set, Add, Take, Give, Point, Call, Start, Jump, JumpZero, Return}
 use Rattle.report.specs.Over.{joinedFrom, interFrom}
 use Rattle.report.specs.Greatest.{Way, greatest}
 use Rattle.report.specs.Layout.{Layout}
-use Rattle.report.specs.Operations.{nexts, byNaming, isReturn}
+use Rattle.report.specs.Operations.{nexts}
 use Rattle.report.specs.Flow.{flowAt}
 
 -- "all locks" are the table's
@@ -29,35 +29,29 @@ onlyLock s = cond (isSingle s) s 0
 unfoldable pub atReturns : Table → Layout → (ℕ → ℕ) → ℕ → ℕ
 atReturns t k held c =
     interFrom (allLocks t) (routine t (k .routineOf c) .first) (routine t (k .routineOf c) .count)
-    (λ s. cond (isReturn (statement t s)) (held (k .statementPlace c s)) (allLocks t))
+    (λ s. cond (view (statement t s) .ends) (held (k .statementPlace c s)) (allLocks t))
 
--- the set behind statement s of copy c, with `held` the sets before each place. "GIVE removes its whole flow set. After CALL r: the intersection
--- of the sets before r's RETURNs, joined with the locks held before the call that no GIVE in r, or in what r reaches by CALLs, has in its
--- flow set. Other operations keep the set."
+-- what statement s of copy c adds, with `held` the sets before each place: the lock of a TAKE, and "After CALL r: the intersection of the sets before
+-- r's RETURNs"
+unfoldable pub gained : Table → Layout → List ℕ → (ℕ → ℕ) → ℕ → ℕ → Statement → ℕ
+gained t k flow held c s σ =
+    union (setOn (view σ .takes) (λ h. onlyLock (flowAt k flow c h))) (setOn (calls (view σ)) (λ q. atReturns t k held (k .leads c s)))
+
+-- what it removes: "GIVE removes its whole flow set", and CALL r what a "GIVE in r, or in what r reaches by CALLs, has in its flow set"
+unfoldable pub lost : Layout → List ℕ → List ℕ → ℕ → ℕ → Statement → ℕ
+lost k flow given c s σ = union (setOn (view σ .gives) (flowAt k flow c)) (setOn (calls (view σ)) (λ q. getD given (k .leads c s) 0))
+
+-- the set behind it: what it adds, joined with the locks held before that it does not remove. "Other operations keep the set."
 unfoldable pub heldAfter : Table → Layout → List ℕ → List ℕ → (ℕ → ℕ) → ℕ → ℕ → Statement → ℕ
-heldAfter t k flow given held c s (Read h) = held (k .statementPlace c s)
-heldAfter t k flow given held c s (Write h) = held (k .statementPlace c s)
-heldAfter t k flow given held c s (Set n) = held (k .statementPlace c s)
-heldAfter t k flow given held c s (Add n) = held (k .statementPlace c s)
-heldAfter t k flow given held c s (Take h) = union (held (k .statementPlace c s)) (onlyLock (flowAt k flow c (h .number)))
-heldAfter t k flow given held c s (Give h) = minus (held (k .statementPlace c s)) (flowAt k flow c (h .number))
-heldAfter t k flow given held c s (Point h g) = held (k .statementPlace c s)
-heldAfter t k flow given held c s (Call q a) =
-    union (atReturns t k held (k .leads c s)) (minus (held (k .statementPlace c s)) (getD given (k .leads c s) 0))
-heldAfter t k flow given held c s (Start q a) = held (k .statementPlace c s)
-heldAfter t k flow given held c s (Jump q) = held (k .statementPlace c s)
-heldAfter t k flow given held c s (JumpZero q) = held (k .statementPlace c s)
-heldAfter t k flow given held c s Return = held (k .statementPlace c s)
+heldAfter t k flow given held c s σ = union (gained t k flow held c s σ) (minus (held (k .statementPlace c s)) (lost k flow given c s σ))
 
 -- the ways that statement s of copy c makes: to what may come next; by CALL, to the first statement of the routine with the set held here;
 -- by START with the empty set
 unfoldable pub waysFrom : Table → Layout → List ℕ → List ℕ → ℕ → ℕ → List Way
 waysFrom t k flow given c s =
     map (λ (n : ℕ). record { to = k .statementPlace c n; brings = λ held. heldAfter t k flow given held c s (statement t s) }) (nexts s (statement t s))
-    ++ byNaming
-    (record { to = entry t k (k .leads c s); brings = λ held. held (k .statementPlace c s) } ∷ [])
-    (record { to = entry t k (k .leads c s); brings = λ held. 0 } ∷ [])
-    [] (statement t s)
+    ++ (listOn (calls (view (statement t s))) (λ q. record { to = entry t k (k .leads c s); brings = λ held. held (k .statementPlace c s) } ∷ [])
+    ++ listOn (starts (view (statement t s))) (λ q. record { to = entry t k (k .leads c s); brings = λ held. 0 } ∷ []))
 
 -- "The entry set is the intersection over its CALLs, and empty for routine 0 and for a routine named by a START. At the first statement of a
 -- routine every way in counts, the entry included. Where ways meet, intersect."

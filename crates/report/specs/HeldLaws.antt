@@ -2,33 +2,34 @@
 use Prim.Native.Nat.{ℕ, _^_, _≤_, _<_}
 use mathlib.Core.Path.{_≡_, refl, sym, ap, _∙_, subst}
 use mathlib.Core.Bool.{Bool, true, false, cond}
-use mathlib.Core.Logic.{_⊎_, inl, inr}
+use mathlib.Core.Logic.{_⊎_, inl, inr, ⊎-elim}
 use mathlib.Core.List.{List, [], _∷_, _++_, map, List·Memᴰ, List·Memᴰ·head, List·Memᴰ·tail, List·Memᴰ·eq-of-singleton, List·Memᴰ·append-cases, Memᴰ·append-left, Memᴰ·append-right}
 use native.Mathlib.Omega.{arith}
 use native.Mathlib.Nat.{le-refl}
 use lib.Dec.{ltb}
 use lib.ListN.{getD}
 use borrow.Author.Tests.{eqb-true, eq-eqb, ltb-true, ltb-false, lt-ltb}
-use Rattle.sets.specs.Set.{has, one, count, isSingle}
+use Rattle.sets.specs.Set.{has, one, minus, count, isSingle}
 use Rattle.sets.specs.SetLaws.{has-union-left, has-union-right, union-cases, has-firsts, firsts-below, has-one, has-beyond, single-is-one, count-one, inside-both}
 use Rattle.table.specs.Table.{Table, routine, statement}
+use Rattle.table.specs.View.{view, On, setOn, listOn, calls, starts}
+use Rattle.table.specs.ViewLaws.{set-has, set-from, list-has, list-from, calls-names, starts-names}
 use Rattle.table.specs.Accepted.{Accepted, Names}
-use Rattle.table.specs.declared.Arguments.{Arguments}
 use Rattle.table.specs.declared.Statement.{Statement}
-use Rattle.table.specs.declared.Statement.the-variants.{Read, Write, Set, Add, Take, Give, Point, Call, Start, Jump, JumpZero, Return}
+use Rattle.table.specs.declared.Reference.the-variants.{To}
 use Rattle.report.specs.OverLaws.{never, none-in, inter-at, inter-inside, inter-has}
 use Rattle.report.specs.Greatest.{Way, leaving, leftOut}
 use Rattle.report.specs.GreatestLaws.{Monotone, minus-has, minus-from, greatest-is, greatest-inside, greatest-kept, greatest-contains, greatest-meets}
 use Rattle.report.specs.Layout.{Layout}
 use Rattle.report.specs.Fits.{Fits, StatementPlaced, copiesOf}
-use Rattle.report.specs.Operations.{nexts, byNaming, isReturn}
+use Rattle.report.specs.Operations.{nexts}
 use Rattle.report.specs.Flow.{flowAt}
 use Rattle.report.specs.FlowLaws.{FlowHas}
 use Rattle.report.specs.EffectLaws.{GivesHas}
-use Rattle.report.specs.Held.{allLocks, entry, onlyLock, atReturns, heldAfter, waysFrom, allWays, heldSets}
+use Rattle.report.specs.Held.{allLocks, entry, onlyLock, atReturns, gained, lost, heldAfter, waysFrom, allWays, heldSets}
 use Rattle.report.specs.NextLaws.{goes-next, next-goes, goes-placed, map-has, map-from}
 use Rattle.report.specs.PlaceLaws.{placed, place-at, among-all, of-some}
-use Rattle.report.specs.Rules.{Place, Goes, Only, After, AtReturns, HeldRules}
+use Rattle.report.specs.Rules.{Place, Goes, Only, Gains, Loses, After, AtReturns, HeldRules}
 
 -- lock x is held before statement s of copy c
 abbrev pub HeldHas : Layout → List ℕ → ℕ → ℕ → ℕ → Type 0
@@ -81,67 +82,79 @@ pub only-has : (s : ℕ) → s < 2 ^ 64 → (x : ℕ) → Only (λ y. has s y �
 unfolding onlyLock
 only-has s l x o = rw (only-single s x l o) (o .member)
 
-pub return-is : (σ : Statement) → isReturn σ ≡ true → σ ≡ Return
-unfolding isReturn
-return-is (Read h) e = never (sym e)
-return-is (Write h) e = never (sym e)
-return-is (Set n) e = never (sym e)
-return-is (Add n) e = never (sym e)
-return-is (Take h) e = never (sym e)
-return-is (Give h) e = never (sym e)
-return-is (Point h g) e = never (sym e)
-return-is (Call q a) e = never (sym e)
-return-is (Start q a) e = never (sym e)
-return-is (Jump z) e = never (sym e)
-return-is (JumpZero z) e = never (sym e)
-return-is Return e = refl
-
-is-return : (σ : Statement) → σ ≡ Return → isReturn σ ≡ true
-unfolding isReturn
-is-return σ e = ap isReturn e
-
 module _ (t : Table) (k : Layout) (acc : Accepted t) (fits : Fits t k) (flow : List ℕ) (below : (i : ℕ) → getD flow i 0 < 2 ^ 64) (given : List ℕ) where
   -- ---- the ways, by the statement that makes them
 
   abbrev onward : ℕ → ℕ → Statement → ℕ → Way
   onward c s σ n = record { to = k .statementPlace c n; brings = λ held. heldAfter t k flow given held c s σ }
 
-  abbrev inward : ℕ → ℕ → Statement → List Way
-  inward c s σ =
-      byNaming (record { to = entry t k (k .leads c s); brings = λ held. held (k .statementPlace c s) } ∷ [])
-      (record { to = entry t k (k .leads c s); brings = λ held. 0 } ∷ []) [] σ
+  abbrev callWay : ℕ → ℕ → Way
+  callWay c s = record { to = entry t k (k .leads c s); brings = λ held. held (k .statementPlace c s) }
+
+  abbrev startWay : ℕ → ℕ → Way
+  startWay c s = record { to = entry t k (k .leads c s); brings = λ held. 0 }
+
+  abbrev callWays : ℕ → ℕ → Statement → List Way
+  callWays c s σ = listOn (calls (view σ)) (λ q. callWay c s ∷ [])
+
+  abbrev startWays : ℕ → ℕ → Statement → List Way
+  startWays c s σ = listOn (starts (view σ)) (λ q. startWay c s ∷ [])
 
   abbrev waysAt : ℕ → ℕ → ℕ → Statement → List Way
-  waysAt p c s σ = map (onward c s σ) (nexts s σ) ++ inward c s σ
+  waysAt p c s σ = map (onward c s σ) (nexts s σ) ++ (callWays c s σ ++ startWays c s σ)
 
   abbrev firstWay : Way
   firstWay = record { to = entry t k (k .first); brings = λ held. 0 }
 
-  way-among : (w : Way) (c s : ℕ) → Place (copiesOf fits) c s → (σ : Statement) → statement t s ≡ σ → List·Memᴰ w (waysAt (k .statementPlace c s) c s σ)
-      → List·Memᴰ w (allWays t k flow given)
-  unfolding allWays waysFrom
-  way-among w c s v σ e m = List·Memᴰ·tail (among-all t k fits waysAt w c s v σ e m)
+  module _ (c s : ℕ) (v : Place (copiesOf fits) c s) where
+    way-among : (w : Way) → List·Memᴰ w (waysAt (k .statementPlace c s) c s (statement t s)) → List·Memᴰ w (allWays t k flow given)
+    unfolding allWays waysFrom
+    way-among w m = List·Memᴰ·tail (among-all t k fits waysAt w c s v (statement t s) refl m)
 
-  -- a way is the first one, or goes on from a statement, or goes into the copy that a statement names
-  ways-cases {ℓ} : (C : Way → Type ℓ) → C firstWay
-      → ((c s n : ℕ) → Place (copiesOf fits) c s → Goes s (statement t s) n → C (onward c s (statement t s) n))
-      → ((c s : ℕ) → Place (copiesOf fits) c s → (w : Way) → List·Memᴰ w (inward c s (statement t s)) → C w)
-      → (w : Way) → List·Memᴰ w (allWays t k flow given) → C w
-  unfolding allWays waysFrom
-  ways-cases C f g h w (List·Memᴰ·head e) = subst C (sym e) f
-  ways-cases C f g h w (List·Memᴰ·tail m) =
-      let r : (p : ℕ) × (p < k .statements) × List·Memᴰ w (waysAt p (k .statementCopy p) (k .statementAt p) (statement t (k .statementAt p))) =
-      of-some t k fits waysAt w m in
-      let c : ℕ = k .statementCopy (r .0) in
-      let s : ℕ = k .statementAt (r .0) in
-      go c s (place-at t k fits (r .0) (r .1)) (List·Memᴰ·append-cases (map (onward c s (statement t s)) (nexts s (statement t s))) (r .2))
-    where
-      go : (c s : ℕ) → Place (copiesOf fits) c s → List·Memᴰ w (map (onward c s (statement t s)) (nexts s (statement t s))) ⊎ List·Memᴰ w (inward c s (statement t s)) → C w
-      go c s v (inl a) =
-          let q : (n : ℕ) × List·Memᴰ n (nexts s (statement t s)) × (w ≡ onward c s (statement t s) n) =
-          map-from (onward c s (statement t s)) (nexts s (statement t s)) w a in
-          subst C (sym (q .2)) (g c s (q .0) v (next-goes s (statement t s) (q .0) (q .1)))
-      go c s v (inr b) = h c s v w b
+    onward-among : (n : ℕ) → Goes s (statement t s) n → List·Memᴰ (onward c s (statement t s) n) (allWays t k flow given)
+    onward-among n g =
+        way-among _ (Memᴰ·append-left (callWays c s (statement t s) ++ startWays c s (statement t s))
+        (map-has (onward c s (statement t s)) (nexts s (statement t s)) n (goes-next s (statement t s) n g)))
+
+    call-among : (q : ℕ) → calls (view (statement t s)) ≡ To q → List·Memᴰ (callWay c s) (allWays t k flow given)
+    call-among q e =
+        way-among _ (Memᴰ·append-right (map (onward c s (statement t s)) (nexts s (statement t s)))
+        (Memᴰ·append-left (startWays c s (statement t s)) (list-has (calls (view (statement t s))) (λ r. callWay c s ∷ []) _ e (List·Memᴰ·head refl))))
+
+    start-among : (q : ℕ) → starts (view (statement t s)) ≡ To q → List·Memᴰ (startWay c s) (allWays t k flow given)
+    start-among q e =
+        way-among _ (Memᴰ·append-right (map (onward c s (statement t s)) (nexts s (statement t s)))
+        (Memᴰ·append-right (callWays c s (statement t s)) (list-has (starts (view (statement t s))) (λ r. startWay c s ∷ []) _ e (List·Memᴰ·head refl))))
+
+  -- a way is the first one, or goes on from a statement, or goes into the copy that a CALL or a START leads to
+  module _ {ℓ} (C : Way → Type ℓ) (first : C firstWay)
+      (on : (c s n : ℕ) → Place (copiesOf fits) c s → Goes s (statement t s) n → C (onward c s (statement t s) n))
+      (by-call : (c s q : ℕ) → Place (copiesOf fits) c s → calls (view (statement t s)) ≡ To q → C (callWay c s))
+      (by-start : (c s q : ℕ) → Place (copiesOf fits) c s → starts (view (statement t s)) ≡ To q → C (startWay c s)) where
+    way-from : (c s : ℕ) → Place (copiesOf fits) c s → (w : Way) → (p : ℕ) → List·Memᴰ w (waysAt p c s (statement t s)) → C w
+    way-from c s v w p m =
+        ⊎-elim
+        (λ i.
+        let q : (n : ℕ) × List·Memᴰ n (nexts s (statement t s)) × (w ≡ onward c s (statement t s) n) =
+        map-from (onward c s (statement t s)) (nexts s (statement t s)) w i in
+        subst C (sym (q .2)) (on c s (q .0) v (next-goes s (statement t s) (q .0) (q .1))))
+        (λ i. ⊎-elim
+        (λ j.
+        let o : On (calls (view (statement t s))) (λ q. List·Memᴰ w (callWay c s ∷ [])) = list-from (calls (view (statement t s))) (λ q. callWay c s ∷ []) w j in
+        subst C (sym (List·Memᴰ·eq-of-singleton (o .2))) (by-call c s (o .0) v (o .1)))
+        (λ j.
+        let o : On (starts (view (statement t s))) (λ q. List·Memᴰ w (startWay c s ∷ [])) = list-from (starts (view (statement t s))) (λ q. startWay c s ∷ []) w j in
+        subst C (sym (List·Memᴰ·eq-of-singleton (o .2))) (by-start c s (o .0) v (o .1)))
+        (List·Memᴰ·append-cases (callWays c s (statement t s)) i))
+        (List·Memᴰ·append-cases (map (onward c s (statement t s)) (nexts s (statement t s))) m)
+
+    ways-cases : (w : Way) → List·Memᴰ w (allWays t k flow given) → C w
+    unfolding allWays waysFrom
+    ways-cases w (List·Memᴰ·head e) = subst C (sym e) first
+    ways-cases w (List·Memᴰ·tail m) =
+        let r : (p : ℕ) × (p < k .statements) × List·Memᴰ w (waysAt p (k .statementCopy p) (k .statementAt p) (statement t (k .statementAt p))) =
+        of-some t k fits waysAt w m in
+        way-from (k .statementCopy (r .0)) (k .statementAt (r .0)) (place-at t k fits (r .0) (r .1)) w (r .0) (r .2)
 
   -- ---- they bring no less out of more
 
@@ -150,56 +163,36 @@ module _ (t : Table) (k : Layout) (acc : Accepted t) (fits : Fits t k) (flow : L
     unfolding atReturns
     returns-more c x h =
         inter-has (allLocks t) _ _ _ x (inter-inside (allLocks t) _ _ _ x h)
-        (λ z w. go z (isReturn (statement t z)) (inter-at (allLocks t) _ _ _ z x w h))
+        (λ z w. go z (view (statement t z) .ends) (inter-at (allLocks t) _ _ _ z x w h))
       where
         go : (z : ℕ) (b : Bool) → has (cond b (G (k .statementPlace c z)) (allLocks t)) x ≡ true → has (cond b (H (k .statementPlace c z)) (allLocks t)) x ≡ true
         go z true a = sub (k .statementPlace c z) x a
         go z false a = a
 
+    gained-more : (c s : ℕ) (σ : Statement) (x : ℕ) → has (gained t k flow G c s σ) x ≡ true → has (gained t k flow H c s σ) x ≡ true
+    unfolding gained
+    gained-more c s σ x a =
+        let taken : ℕ = setOn (view σ .takes) (λ h. onlyLock (flowAt k flow c h)) in
+        union-cases taken (setOn (calls (view σ)) (λ q. atReturns t k G (k .leads c s))) x (has-union-left taken _ x)
+        (λ b.
+        let o : On (calls (view σ)) (λ q. has (atReturns t k G (k .leads c s)) x ≡ true) = set-from (calls (view σ)) (λ q. atReturns t k G (k .leads c s)) x b in
+        has-union-right taken _ x (set-has (calls (view σ)) (λ q. atReturns t k H (k .leads c s)) x (o .1) (returns-more (k .leads c s) x (o .2)))) a
+
     after-more : (c s : ℕ) (σ : Statement) (x : ℕ) → has (heldAfter t k flow given G c s σ) x ≡ true → has (heldAfter t k flow given H c s σ) x ≡ true
     unfolding heldAfter
-    after-more c s (Read h) x a = sub _ x a
-    after-more c s (Write h) x a = sub _ x a
-    after-more c s (Set n) x a = sub _ x a
-    after-more c s (Add n) x a = sub _ x a
-    after-more c s (Take h) x a =
-        union-cases (G (k .statementPlace c s)) _ x (λ b. has-union-left (H (k .statementPlace c s)) _ x (sub _ x b)) (λ b. has-union-right (H (k .statementPlace c s)) _ x b) a
-    after-more c s (Give h) x a =
-        let m = minus-from (G (k .statementPlace c s)) (flowAt k flow c (h .number)) x a in
-        minus-has (H (k .statementPlace c s)) (flowAt k flow c (h .number)) x (sub _ x (m .0)) (m .1)
-    after-more c s (Point h g) x a = sub _ x a
-    after-more c s (Call q b) x a =
-        union-cases (atReturns t k G (k .leads c s)) _ x (λ d. has-union-left (atReturns t k H (k .leads c s)) _ x (returns-more (k .leads c s) x d))
-        (λ d.
-        let m = minus-from (G (k .statementPlace c s)) (getD given (k .leads c s) 0) x d in
-        has-union-right (atReturns t k H (k .leads c s)) _ x (minus-has (H (k .statementPlace c s)) (getD given (k .leads c s) 0) x (sub _ x (m .0)) (m .1)))
-        a
-    after-more c s (Start q b) x a = sub _ x a
-    after-more c s (Jump z) x a = sub _ x a
-    after-more c s (JumpZero z) x a = sub _ x a
-    after-more c s Return x a = sub _ x a
-
-  inward-monotone : (c s : ℕ) (σ : Statement) (w : Way) → List·Memᴰ w (inward c s σ) → Monotone w
-  unfolding byNaming
-  inward-monotone c s (Read h) w m = elim m [ ]
-  inward-monotone c s (Write h) w m = elim m [ ]
-  inward-monotone c s (Set n) w m = elim m [ ]
-  inward-monotone c s (Add n) w m = elim m [ ]
-  inward-monotone c s (Take h) w m = elim m [ ]
-  inward-monotone c s (Give h) w m = elim m [ ]
-  inward-monotone c s (Point h g) w m = elim m [ ]
-  inward-monotone c s (Call q a) w m =
-      subst Monotone (sym (List·Memᴰ·eq-of-singleton m)) (record { more = λ G H sub x h. sub (k .statementPlace c s) x h })
-  inward-monotone c s (Start q a) w m = subst Monotone (sym (List·Memᴰ·eq-of-singleton m)) (record { more = λ G H sub x h. h })
-  inward-monotone c s (Jump z) w m = elim m [ ]
-  inward-monotone c s (JumpZero z) w m = elim m [ ]
-  inward-monotone c s Return w m = elim m [ ]
+    after-more c s σ x a =
+        union-cases (gained t k flow G c s σ) (minus (G (k .statementPlace c s)) (lost k flow given c s σ)) x
+        (λ b. has-union-left (gained t k flow H c s σ) _ x (gained-more c s σ x b))
+        (λ b.
+        let m = minus-from (G (k .statementPlace c s)) (lost k flow given c s σ) x b in
+        has-union-right (gained t k flow H c s σ) _ x (minus-has (H (k .statementPlace c s)) (lost k flow given c s σ) x (sub _ x (m .0)) (m .1))) a
 
   monotone : (w : Way) → List·Memᴰ w (allWays t k flow given) → Monotone w
   monotone =
       ways-cases Monotone (record { more = λ G H sub x h. h })
       (λ c s n v g. record { more = λ G H sub x h. after-more G H sub c s (statement t s) x h })
-      (λ c s v w m. inward-monotone c s (statement t s) w m)
+      (λ c s q v e. record { more = λ G H sub x h. sub (k .statementPlace c s) x h })
+      (λ c s q v e. record { more = λ G H sub x h. h })
 
   -- ---- the rules
 
@@ -233,29 +226,43 @@ module _ (t : Table) (k : Layout) (acc : Accepted t) (fits : Fits t k) (flow : L
   unfolding atReturns
   returns-rule c x h z v e =
       left-held c z x v
-      (ap (λ (b : Bool). has (cond b (left (k .statementPlace c z)) (allLocks t)) x) (sym (is-return (statement t z) e))
+      (ap (λ (b : Bool). has (cond b (left (k .statementPlace c z)) (allLocks t)) x) (sym e)
       ∙ inter-at (allLocks t) _ _ _ z x (record { low = v .inside .low; high = v .inside .high }) h)
+
+  -- what is lost, as a set and by the rule, whatever is held
+  module _ (held : ℕ → ℕ → ℕ → Type 0) (c s : ℕ) (σ : Statement) (x : ℕ) where
+    loses-lost : Loses (copiesOf fits) (FlowHas k flow) (GivesHas given) held c s x σ → has (lost k flow given c s σ) x ≡ true
+    unfolding lost
+    loses-lost (inl (h, e, a)) = has-union-left (setOn (view σ .gives) (flowAt k flow c)) _ x (set-has (view σ .gives) (flowAt k flow c) x e a)
+    loses-lost (inr (q, e, a)) =
+        has-union-right (setOn (view σ .gives) (flowAt k flow c)) _ x (set-has (calls (view σ)) (λ q. getD given (k .leads c s) 0) x e a)
+
+    lost-loses : has (lost k flow given c s σ) x ≡ true → Loses (copiesOf fits) (FlowHas k flow) (GivesHas given) held c s x σ
+    unfolding lost
+    lost-loses =
+        union-cases (setOn (view σ .gives) (flowAt k flow c)) (setOn (calls (view σ)) (λ q. getD given (k .leads c s) 0)) x
+        (λ a. inl (set-from (view σ .gives) (flowAt k flow c) x a)) (λ a. inr (set-from (calls (view σ)) (λ q. getD given (k .leads c s) 0) x a))
+
+  gains-rule : (c s : ℕ) (σ : Statement) (x : ℕ) → has (gained t k flow left c s σ) x ≡ true
+      → Gains (copiesOf fits) (FlowHas k flow) (GivesHas given) Held c s x σ
+  unfolding gained
+  gains-rule c s σ x =
+      union-cases (setOn (view σ .takes) (λ h. onlyLock (flowAt k flow c h))) (setOn (calls (view σ)) (λ q. atReturns t k left (k .leads c s))) x
+      (λ a.
+      let o : On (view σ .takes) (λ h. has (onlyLock (flowAt k flow c h)) x ≡ true) = set-from (view σ .takes) (λ h. onlyLock (flowAt k flow c h)) x a in
+      inl (o .0, o .1, only-from _ (below (k .handlePlace c (o .0))) x (o .2)))
+      (λ a.
+      let o : On (calls (view σ)) (λ q. has (atReturns t k left (k .leads c s)) x ≡ true) = set-from (calls (view σ)) (λ q. atReturns t k left (k .leads c s)) x a in
+      inr (o .0, o .1, returns-rule (k .leads c s) x (o .2)))
 
   after-rule : (c s : ℕ) → Place (copiesOf fits) c s → (σ : Statement) → (x : ℕ) → has (heldAfter t k flow given left c s σ) x ≡ true
       → After (copiesOf fits) (FlowHas k flow) (GivesHas given) Held c s x σ
   unfolding heldAfter
-  after-rule c s v (Read h) x a = left-held c s x v a
-  after-rule c s v (Write h) x a = left-held c s x v a
-  after-rule c s v (Set n) x a = left-held c s x v a
-  after-rule c s v (Add n) x a = left-held c s x v a
-  after-rule c s v (Take h) x a =
-      union-cases (left (k .statementPlace c s)) _ x (λ b. inl (left-held c s x v b)) (λ b. inr (only-from _ (below (k .handlePlace c (h .number))) x b)) a
-  after-rule c s v (Give h) x a =
-      let m = minus-from (left (k .statementPlace c s)) (flowAt k flow c (h .number)) x a in (left-held c s x v (m .0), m .1)
-  after-rule c s v (Point h g) x a = left-held c s x v a
-  after-rule c s v (Call q b) x a =
-      union-cases (atReturns t k left (k .leads c s)) _ x (λ d. inl (returns-rule (k .leads c s) x d))
-      (λ d. let m = minus-from (left (k .statementPlace c s)) (getD given (k .leads c s) 0) x d in inr (left-held c s x v (m .0), m .1))
-      a
-  after-rule c s v (Start q b) x a = left-held c s x v a
-  after-rule c s v (Jump z) x a = left-held c s x v a
-  after-rule c s v (JumpZero z) x a = left-held c s x v a
-  after-rule c s v Return x a = left-held c s x v a
+  after-rule c s v σ x =
+      union-cases (gained t k flow left c s σ) (minus (left (k .statementPlace c s)) (lost k flow given c s σ)) x (λ a. inl (gains-rule c s σ x a))
+      (λ a.
+      let m = minus-from (left (k .statementPlace c s)) (lost k flow given c s σ) x a in
+      inr (left-held c s x v (m .0), λ l. m .1 (loses-lost Held c s σ x l)))
 
   -- the way into the copy that a statement names leads to the first statement of the routine named
   entry-is : (c s q x : ℕ) → Place (copiesOf fits) c s → Names (statement t s) q → Held (k .leads c s) (routine t q .first) x
@@ -269,23 +276,12 @@ module _ (t : Table) (k : Layout) (acc : Accepted t) (fits : Fits t k) (flow : L
   first-among = List·Memᴰ·head refl
 
   pub held-rules : HeldRules (copiesOf fits) (FlowHas k flow) (GivesHas given) Held
-  unfolding byNaming entry
+  unfolding entry
   held-rules = record {
     locks = λ c s x v h. ltb-true x (t .locks) (sym (has-firsts (t .locks) x locks-64) ∙ inside (k .statementPlace c s) x h .1);
-    way = λ c s n x v σ e g h.
-        after-rule c s v σ x
-        (kept (onward c s σ n)
-        (way-among (onward c s σ n) c s v σ e (Memᴰ·append-left (inward c s σ) (map-has (onward c s σ) (nexts s σ) n (goes-next s σ n g)))) x h);
-    by-call = λ c s x q a v e h.
-        left-held c s x v
-        (kept (record { to = entry t k (k .leads c s); brings = λ held. held (k .statementPlace c s) })
-        (way-among _ c s v (Call q a) e (Memᴰ·append-right (map (onward c s (Call q a)) (nexts s (Call q a))) (List·Memᴰ·head refl))) x
-        (entry-is c s q x v (subst (λ (τ : Statement). Names τ q) (sym e) refl) h));
-    by-start = λ c s x q a v e h.
-        none-in x
-        (kept (record { to = entry t k (k .leads c s); brings = λ held. 0 })
-        (way-among _ c s v (Start q a) e (Memᴰ·append-right (map (onward c s (Start q a)) (nexts s (Start q a))) (List·Memᴰ·head refl))) x
-        (entry-is c s q x v (subst (λ (τ : Statement). Names τ q) (sym e) refl) h));
+    way = λ c s n x v g h. after-rule c s v (statement t s) x (kept (onward c s (statement t s) n) (onward-among c s v n g) x h);
+    by-call = λ c s x q v e h. left-held c s x v (kept (callWay c s) (call-among c s v q e) x (entry-is c s q x v (calls-names (view (statement t s)) e) h));
+    by-start = λ c s x q v e h. none-in x (kept (startWay c s) (start-among c s v q e) x (entry-is c s q x v (starts-names (view (statement t s)) e) h));
     by-main = λ x h.
         none-in x (kept firstWay first-among x (subst (λ (r : ℕ). Held (k .first) (routine t r .first) x) (sym (fits .first-of)) h));
   }
@@ -328,63 +324,36 @@ module _ (t : Table) (k : Layout) (acc : Accepted t) (fits : Fits t k) (flow : L
       unfolding atReturns
       at-returns c x l a f =
           inter-has (allLocks t) _ _ _ x a
-          (λ z w. go z (record { there = l; inside = record { low = w .low; high = w .high } }) (isReturn (statement t z)) refl)
+          (λ z w. go z (record { there = l; inside = record { low = w .low; high = w .high } }) (view (statement t z) .ends) refl)
         where
-          go : (z : ℕ) → Place (copiesOf fits) c z → (b : Bool) → isReturn (statement t z) ≡ b → has (cond b (H (k .statementPlace c z)) (allLocks t)) x ≡ true
-          go z v true e = here c z x v (f z v (return-is (statement t z) e))
+          go : (z : ℕ) → Place (copiesOf fits) c z → (b : Bool) → view (statement t z) .ends ≡ b → has (cond b (H (k .statementPlace c z)) (allLocks t)) x ≡ true
+          go z v true e = here c z x v (f z v e)
           go z v false e = a
 
-      after-has : (c s : ℕ) → Place (copiesOf fits) c s → (σ : Statement) → statement t s ≡ σ → (x : ℕ) → has (allLocks t) x ≡ true
-          → After (copiesOf fits) (FlowHas k flow) (GivesHas given) other c s x σ → has (heldAfter t k flow given H c s σ) x ≡ true
+      gains-has : (c s : ℕ) → Place (copiesOf fits) c s → (x : ℕ) → has (allLocks t) x ≡ true
+          → Gains (copiesOf fits) (FlowHas k flow) (GivesHas given) other c s x (statement t s) → has (gained t k flow H c s (statement t s)) x ≡ true
+      unfolding gained
+      gains-has c s v x l (inl (h, e, a)) =
+          has-union-left (setOn (view (statement t s) .takes) (λ h. onlyLock (flowAt k flow c h))) _ x
+          (set-has (view (statement t s) .takes) (λ h. onlyLock (flowAt k flow c h)) x e (only-has (flowAt k flow c h) (below (k .handlePlace c h)) x a))
+      gains-has c s v x l (inr (q, e, a)) =
+          has-union-right (setOn (view (statement t s) .takes) (λ h. onlyLock (flowAt k flow c h))) _ x
+          (set-has (calls (view (statement t s))) (λ q. atReturns t k H (k .leads c s)) x e
+          (at-returns (k .leads c s) x (fits .leads-there c s q (v .there) (v .inside) (calls-names (view (statement t s)) e)) l a))
+
+      after-has : (c s : ℕ) → Place (copiesOf fits) c s → (x : ℕ) → has (allLocks t) x ≡ true
+          → After (copiesOf fits) (FlowHas k flow) (GivesHas given) other c s x (statement t s) → has (heldAfter t k flow given H c s (statement t s)) x ≡ true
       unfolding heldAfter
-      after-has c s v (Read h) e x l a = here c s x v a
-      after-has c s v (Write h) e x l a = here c s x v a
-      after-has c s v (Set n) e x l a = here c s x v a
-      after-has c s v (Add n) e x l a = here c s x v a
-      after-has c s v (Take h) e x l (inl a) = has-union-left (H (k .statementPlace c s)) _ x (here c s x v a)
-      after-has c s v (Take h) e x l (inr a) =
-          has-union-right (H (k .statementPlace c s)) _ x (only-has (flowAt k flow c (h .number)) (below (k .handlePlace c (h .number))) x a)
-      after-has c s v (Give h) e x l a = minus-has (H (k .statementPlace c s)) (flowAt k flow c (h .number)) x (here c s x v (a .0)) (a .1)
-      after-has c s v (Point h g) e x l a = here c s x v a
-      after-has c s v (Call q b) e x l (inl a) =
-          has-union-left (atReturns t k H (k .leads c s)) _ x
-          (at-returns (k .leads c s) x (fits .leads-there c s q (v .there) (v .inside) (subst (λ (τ : Statement). Names τ q) (sym e) refl)) l a)
-      after-has c s v (Call q b) e x l (inr a) =
-          has-union-right (atReturns t k H (k .leads c s)) _ x
-          (minus-has (H (k .statementPlace c s)) (getD given (k .leads c s) 0) x (here c s x v (a .0)) (a .1))
-      after-has c s v (Start q b) e x l a = here c s x v a
-      after-has c s v (Jump z) e x l a = here c s x v a
-      after-has c s v (JumpZero z) e x l a = here c s x v a
-      after-has c s v Return e x l a = here c s x v a
+      after-has c s v x l (inl g) = has-union-left (gained t k flow H c s (statement t s)) _ x (gains-has c s v x l g)
+      after-has c s v x l (inr (a, keeps)) =
+          has-union-right (gained t k flow H c s (statement t s)) _ x
+          (minus-has (H (k .statementPlace c s)) (lost k flow given c s (statement t s)) x (here c s x v a) (λ m. keeps (lost-loses other c s (statement t s) x m)))
 
       at-entry : (c s q x : ℕ) → Place (copiesOf fits) c s → Names (statement t s) q → At (entry t k (k .leads c s)) x → other (k .leads c s) (routine t q .first) x
       unfolding entry
       at-entry c s q x v n a =
           subst (λ (r : ℕ). other (k .leads c s) (routine t r .first) x) (fits .leads-of c s q (v .there) (v .inside) n)
           (to-pair (k .leads c s) _ x (first-place (k .leads c s) (fits .leads-there c s q (v .there) (v .inside) n)) a)
-
-      inward-has : (c s : ℕ) → Place (copiesOf fits) c s → (σ : Statement) → statement t s ≡ σ → (w : Way) → List·Memᴰ w (inward c s σ) → (x : ℕ)
-          → At (w .to) x → has (w .brings H) x ≡ true
-      unfolding byNaming
-      inward-has c s v (Read h) e w m x a = elim m [ ]
-      inward-has c s v (Write h) e w m x a = elim m [ ]
-      inward-has c s v (Set n) e w m x a = elim m [ ]
-      inward-has c s v (Add n) e w m x a = elim m [ ]
-      inward-has c s v (Take h) e w m x a = elim m [ ]
-      inward-has c s v (Give h) e w m x a = elim m [ ]
-      inward-has c s v (Point h g) e w m x a = elim m [ ]
-      inward-has c s v (Call q b) e w m x a =
-          let i = List·Memᴰ·eq-of-singleton m in
-          let n : Names (statement t s) q = subst (λ (τ : Statement). Names τ q) (sym e) refl in
-          subst (λ (u : Way). has (u .brings H) x ≡ true) (sym i)
-          (here c s x v (rules .by-call c s x q b v e (at-entry c s q x v n (subst (λ (u : Way). At (u .to) x) i a))))
-      inward-has c s v (Start q b) e w m x a =
-          let i = List·Memᴰ·eq-of-singleton m in
-          let n : Names (statement t s) q = subst (λ (τ : Statement). Names τ q) (sym e) refl in
-          absurd (rules .by-start c s x q b v e (at-entry c s q x v n (subst (λ (u : Way). At (u .to) x) i a)))
-      inward-has c s v (Jump z) e w m x a = elim m [ ]
-      inward-has c s v (JumpZero z) e w m x a = elim m [ ]
-      inward-has c s v Return e w m x a = elim m [ ]
 
       first-has : (x : ℕ) → At (entry t k (k .first)) x → has 0 x ≡ true
       unfolding entry
@@ -397,8 +366,9 @@ module _ (t : Table) (k : Layout) (acc : Accepted t) (fits : Fits t k) (flow : L
           ways-cases (λ w. (x : ℕ) → At (w .to) x → has (w .brings H) x ≡ true) first-has
           (λ c s n v g x a.
           let o : other c n x = to-pair c n x (goes-placed t k acc fits c s n v g) a in
-          after-has c s v (statement t s) refl x (is-lock c n x (goes-placed t k acc fits c s n v g) o) (rules .way c s n x v (statement t s) refl g o))
-          (λ c s v w m x a. inward-has c s v (statement t s) refl w m x a)
+          after-has c s v x (is-lock c n x (goes-placed t k acc fits c s n v g) o) (rules .way c s n x v g o))
+          (λ c s q v e x a. here c s x v (rules .by-call c s x q v e (at-entry c s q x v (calls-names (view (statement t s)) e) a)))
+          (λ c s q v e x a. absurd (rules .by-start c s x q v e (at-entry c s q x v (starts-names (view (statement t s)) e) a)))
 
     -- any sets that satisfy the rules are inside
     pub held-greatest : (c s x : ℕ) → Place (copiesOf fits) c s → other c s x → HeldHas k (heldSets t k flow given) c s x
@@ -415,8 +385,8 @@ module _ (t : Table) (k : Layout) (acc : Accepted t) (fits : Fits t k) (flow : L
   pub record EveryWay (c s x : ℕ) : Type 0 where
     pub before : (z : ℕ) → Place (copiesOf fits) c z → Goes z (statement t z) s → After (copiesOf fits) (FlowHas k flow) (GivesHas given) Held c z x (statement t z)
     pub by-main : s ≡ routine t (k .routineOf c) .first → c ≡ k .first → ⊥
-    pub by-call : s ≡ routine t (k .routineOf c) .first → (d z q : ℕ) (a : Arguments) → Place (copiesOf fits) d z → statement t z ≡ Call q a → k .leads d z ≡ c → Held d z x
-    pub by-start : s ≡ routine t (k .routineOf c) .first → (d z q : ℕ) (a : Arguments) → Place (copiesOf fits) d z → statement t z ≡ Start q a → k .leads d z ≡ c → ⊥
+    pub by-call : s ≡ routine t (k .routineOf c) .first → (d z q : ℕ) → Place (copiesOf fits) d z → calls (view (statement t z)) ≡ To q → k .leads d z ≡ c → Held d z x
+    pub by-start : s ≡ routine t (k .routineOf c) .first → (d z q : ℕ) → Place (copiesOf fits) d z → starts (view (statement t z)) ≡ To q → k .leads d z ≡ c → ⊥
 
   -- two places are the same only where copy and statement are
   same-place : (c s d z : ℕ) → Place (copiesOf fits) c s → Place (copiesOf fits) d z → k .statementPlace d z ≡ k .statementPlace c s → (d ≡ c) × (z ≡ s)
@@ -439,30 +409,10 @@ module _ (t : Table) (k : Layout) (acc : Accepted t) (fits : Fits t k) (flow : L
         let r = same-place c s d (routine t (k .routineOf d) .first) v (first-place Held held-rules d l) e in
         (r .0, sym (r .1) ∙ ap (λ (b : ℕ). routine t (k .routineOf b) .first) (r .0))
 
-    inward-brings : (d z : ℕ) → Place (copiesOf fits) d z → (σ : Statement) → statement t z ≡ σ → (w : Way) → List·Memᴰ w (inward d z σ)
-        → w .to ≡ k .statementPlace c s → has (w .brings left) x ≡ true
-    unfolding byNaming
-    inward-brings d z u (Read h) e w m i = elim m [ ]
-    inward-brings d z u (Write h) e w m i = elim m [ ]
-    inward-brings d z u (Set n) e w m i = elim m [ ]
-    inward-brings d z u (Add n) e w m i = elim m [ ]
-    inward-brings d z u (Take h) e w m i = elim m [ ]
-    inward-brings d z u (Give h) e w m i = elim m [ ]
-    inward-brings d z u (Point h g) e w m i = elim m [ ]
-    inward-brings d z u (Call q a) e w m i =
-        let j = List·Memᴰ·eq-of-singleton m in
-        let n : Names (statement t z) q = subst (λ (τ : Statement). Names τ q) (sym e) refl in
-        let r = entered (k .leads d z) (fits .leads-there d z q (u .there) (u .inside) n) (ap (λ (y : Way). y .to) (sym j) ∙ i) in
-        subst (λ (y : Way). has (y .brings left) x ≡ true) (sym j)
-        (at-left (k .statementPlace d z) x (of-pair Held held-rules d z x u (ways .by-call (r .1) d z q a u e (r .0))))
-    inward-brings d z u (Start q a) e w m i =
-        let j = List·Memᴰ·eq-of-singleton m in
-        let n : Names (statement t z) q = subst (λ (τ : Statement). Names τ q) (sym e) refl in
-        let r = entered (k .leads d z) (fits .leads-there d z q (u .there) (u .inside) n) (ap (λ (y : Way). y .to) (sym j) ∙ i) in
-        absurd (ways .by-start (r .1) d z q a u e (r .0))
-    inward-brings d z u (Jump y) e w m i = elim m [ ]
-    inward-brings d z u (JumpZero y) e w m i = elim m [ ]
-    inward-brings d z u Return e w m i = elim m [ ]
+    -- the copy that a CALL or START leads to, if the way into it comes here
+    entered-from : (d z q : ℕ) → Place (copiesOf fits) d z → Names (statement t z) q → entry t k (k .leads d z) ≡ k .statementPlace c s
+        → (k .leads d z ≡ c) × (s ≡ routine t (k .routineOf c) .first)
+    entered-from d z q u n i = entered (k .leads d z) (fits .leads-there d z q (u .there) (u .inside) n) i
 
     brings : (w : Way) → List·Memᴰ w (allWays t k flow given) → w .to ≡ k .statementPlace c s → has (w .brings left) x ≡ true
     brings =
@@ -470,10 +420,15 @@ module _ (t : Table) (k : Layout) (acc : Accepted t) (fits : Fits t k) (flow : L
         (λ e. let r = entered (k .first) (fits .first-there) e in absurd (ways .by-main (r .1) (sym (r .0))))
         (λ d z n u g e.
         let r : (d ≡ c) × (n ≡ s) = same-place c s d n v (goes-placed t k acc fits d z n u g) e in
-        after-has Held held-rules left at-left d z u (statement t z) refl x lock
+        after-has Held held-rules left at-left d z u x lock
         (subst (λ (b : ℕ). After (copiesOf fits) (FlowHas k flow) (GivesHas given) Held b z x (statement t z)) (sym (r .0))
         (ways .before z (subst (λ (b : ℕ). Place (copiesOf fits) b z) (r .0) u) (subst (Goes z (statement t z)) (r .1) g))))
-        (λ d z u w m e. inward-brings d z u (statement t z) refl w m e)
+        (λ d z q u e i.
+        let r = entered-from d z q u (calls-names (view (statement t z)) e) i in
+        at-left (k .statementPlace d z) x (of-pair Held held-rules d z x u (ways .by-call (r .1) d z q u e (r .0))))
+        (λ d z q u e i.
+        let r = entered-from d z q u (starts-names (view (statement t z)) e) i in
+        absurd (ways .by-start (r .1) d z q u e (r .0)))
 
   -- so held sets are exactly the intersections
   pub held-meets : (c s x : ℕ) → Place (copiesOf fits) c s → x < t .locks → EveryWay c s x → HeldHas k (heldSets t k flow given) c s x

@@ -8,8 +8,8 @@ use lib.Dec.{leb, ltb}
 use Rattle.table.specs.Table.{Table, declaration, routine, statement}
 use Rattle.table.specs.Tabulate.{tabulate}
 use Rattle.table.specs.Until.{until}
+use Rattle.table.specs.View.{view, setOn}
 use Rattle.table.specs.declared.Statement.{Statement}
-use Rattle.table.specs.declared.Statement.the-variants.{Read, Write, Set, Add, Take, Give, Point, Call, Start, Jump, JumpZero, Return}
 
 -- copies of routines, and the places of their handles and statements in lists of sets
 pub record Layout : Type 0 where
@@ -32,20 +32,9 @@ pub record Layout : Type 0 where
   -- the places of one statement of the table, one for each copy of its routine
   pub placesOf : ℕ → List ℕ
 
--- the routine that a CALL or START names
+-- the routine that a CALL or START names; 0 for any other statement
 unfoldable pub named : Statement → ℕ
-named (Read h) = 0
-named (Write h) = 0
-named (Set n) = 0
-named (Add n) = 0
-named (Take h) = 0
-named (Give h) = 0
-named (Point h g) = 0
-named (Call q a) = q
-named (Start q a) = q
-named (Jump s) = 0
-named (JumpZero s) = 0
-named Return = 0
+named σ = setOn (view σ .names) (λ q. q)
 
 -- statement s is one of routine r, as a test
 unfoldable pub isIn : Table → ℕ → ℕ → Bool

@@ -1,12 +1,14 @@
 -- What may come next, as a list and by the rule. Assumes nothing.
-use Prim.Native.Nat.{ℕ}
-use mathlib.Core.Path.{_≡_, refl, ap}
+use Prim.Native.Nat.{ℕ, _+_}
+use mathlib.Core.Path.{_≡_, refl, sym, ap, _∙_}
 use mathlib.Core.Logic.{_⊎_, inl, inr}
-use mathlib.Core.List.{List, [], _∷_, map, List·Memᴰ, List·Memᴰ·head, List·Memᴰ·tail, List·Memᴰ·eq-of-singleton}
+use mathlib.Core.List.{List, [], _∷_, map, List·Memᴰ, List·Memᴰ·head, List·Memᴰ·tail, List·Memᴰ·eq-of-singleton, List·Memᴰ·append-cases, Memᴰ·append-left, Memᴰ·append-right}
 use Rattle.table.specs.Table.{Table, statement, InRoutine}
+use Rattle.table.specs.View.{view, On, listOn, when}
+use Rattle.table.specs.ViewLaws.{list-has, list-from, when-has, when-from}
+use Rattle.table.specs.declared.Reference.the-variants.{To}
 use Rattle.table.specs.Accepted.{Accepted, Operands, GoesOn}
 use Rattle.table.specs.declared.Statement.{Statement}
-use Rattle.table.specs.declared.Statement.the-variants.{Read, Write, Set, Add, Take, Give, Point, Call, Start, Jump, JumpZero, Return}
 use Rattle.report.specs.Layout.{Layout}
 use Rattle.report.specs.Fits.{Fits, copiesOf}
 use Rattle.report.specs.Operations.{nexts}
@@ -14,54 +16,24 @@ use Rattle.report.specs.Rules.{Place, Goes}
 
 pub goes-next : (s : ℕ) (σ : Statement) (n : ℕ) → Goes s σ n → List·Memᴰ n (nexts s σ)
 unfolding nexts
-goes-next s (Read h) n e = List·Memᴰ·head e
-goes-next s (Write h) n e = List·Memᴰ·head e
-goes-next s (Set z) n e = List·Memᴰ·head e
-goes-next s (Add z) n e = List·Memᴰ·head e
-goes-next s (Take h) n e = List·Memᴰ·head e
-goes-next s (Give h) n e = List·Memᴰ·head e
-goes-next s (Point h g) n e = List·Memᴰ·head e
-goes-next s (Call q a) n e = List·Memᴰ·head e
-goes-next s (Start q a) n e = List·Memᴰ·head e
-goes-next s (Jump z) n e = List·Memᴰ·head e
-goes-next s (JumpZero z) n (inl e) = List·Memᴰ·head e
-goes-next s (JumpZero z) n (inr e) = List·Memᴰ·tail (List·Memᴰ·head e)
-goes-next s Return n e = absurd e
-
-two : {a b n : ℕ} → List·Memᴰ n (a ∷ b ∷ []) → (n ≡ a) ⊎ (n ≡ b)
-two (List·Memᴰ·head e) = inl e
-two (List·Memᴰ·tail m) = inr (List·Memᴰ·eq-of-singleton m)
+goes-next s σ n (inl e) = Memᴰ·append-left (when (view σ .onward) ((s + 1) ∷ [])) (list-has (view σ .target) (λ m. m ∷ []) n e (List·Memᴰ·head refl))
+goes-next s σ n (inr (on, e)) =
+    Memᴰ·append-right (listOn (view σ .target) (λ m. m ∷ [])) (when-has (view σ .onward) ((s + 1) ∷ []) n on (List·Memᴰ·head e))
 
 pub next-goes : (s : ℕ) (σ : Statement) (n : ℕ) → List·Memᴰ n (nexts s σ) → Goes s σ n
 unfolding nexts
-next-goes s (Read h) n m = List·Memᴰ·eq-of-singleton m
-next-goes s (Write h) n m = List·Memᴰ·eq-of-singleton m
-next-goes s (Set z) n m = List·Memᴰ·eq-of-singleton m
-next-goes s (Add z) n m = List·Memᴰ·eq-of-singleton m
-next-goes s (Take h) n m = List·Memᴰ·eq-of-singleton m
-next-goes s (Give h) n m = List·Memᴰ·eq-of-singleton m
-next-goes s (Point h g) n m = List·Memᴰ·eq-of-singleton m
-next-goes s (Call q a) n m = List·Memᴰ·eq-of-singleton m
-next-goes s (Start q a) n m = List·Memᴰ·eq-of-singleton m
-next-goes s (Jump z) n m = List·Memᴰ·eq-of-singleton m
-next-goes s (JumpZero z) n m = two m
-next-goes s Return n m = elim m [ ]
+next-goes s σ n m = go (List·Memᴰ·append-cases (listOn (view σ .target) (λ m. m ∷ [])) m)
+  where
+    go : List·Memᴰ n (listOn (view σ .target) (λ m. m ∷ [])) ⊎ List·Memᴰ n (when (view σ .onward) ((s + 1) ∷ [])) → Goes s σ n
+    go (inl a) =
+        let o : On (view σ .target) (λ m. List·Memᴰ n (m ∷ [])) = list-from (view σ .target) (λ m. m ∷ []) n a in
+        inl (o .1 ∙ ap To (sym (List·Memᴰ·eq-of-singleton (o .2))))
+    go (inr a) = let o = when-from (view σ .onward) ((s + 1) ∷ []) n a in inr (o .0, List·Memᴰ·eq-of-singleton (o .1))
 
 -- what may come next is of the same routine
 pub goes-inside : (t : Table) (r s : ℕ) (σ : Statement) → Operands t r σ → GoesOn t r s σ → (n : ℕ) → Goes s σ n → InRoutine t r n
-goes-inside t r s (Read h) o g n e = rw e g
-goes-inside t r s (Write h) o g n e = rw e g
-goes-inside t r s (Set z) o g n e = rw e g
-goes-inside t r s (Add z) o g n e = rw e g
-goes-inside t r s (Take h) o g n e = rw e g
-goes-inside t r s (Give h) o g n e = rw e g
-goes-inside t r s (Point h j) o g n e = rw e g
-goes-inside t r s (Call q a) o g n e = rw e g
-goes-inside t r s (Start q a) o g n e = rw e g
-goes-inside t r s (Jump z) o g n e = rw e o
-goes-inside t r s (JumpZero z) o g n (inl e) = rw e o
-goes-inside t r s (JumpZero z) o g n (inr e) = rw e g
-goes-inside t r s Return o g n e = absurd e
+goes-inside t r s σ o g n (inl e) = o .target n e
+goes-inside t r s σ o g n (inr (on, e)) = rw e (g on)
 
 pub map-has : {A : Type 0} (f : ℕ → A) (l : List ℕ) (n : ℕ) → List·Memᴰ n l → List·Memᴰ (f n) (map f l)
 map-has f [] n m = elim m [ ]

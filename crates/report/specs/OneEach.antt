@@ -8,45 +8,24 @@ use lib.Dec.{leb, ltb}
 use lib.ListN.{length}
 use borrow.Author.Tests.{leb-true, ltb-true, le-leb, lt-ltb, not-false}
 use Rattle.table.specs.Table.{Table, routine, statement, InRoutine}
+use Rattle.table.specs.View.{view}
+use Rattle.table.specs.ViewLaws.{set-is}
 use Rattle.table.specs.Accepted.{Accepted, Names, Operands}
 use Rattle.table.specs.TabulateLaws.{getD-tabulate}
 use Rattle.table.specs.Until.{until}
 use Rattle.table.specs.UntilLaws.{until-step}
 use Rattle.table.specs.declared.Statement.{Statement}
-use Rattle.table.specs.declared.Statement.the-variants.{Read, Write, Set, Add, Take, Give, Point, Call, Start, Jump, JumpZero, Return}
 use Rattle.report.specs.OverLaws.{never, both-true, true-both}
 use Rattle.report.specs.Layout.{named, isIn, ownerOf, oneEach}
 use Rattle.report.specs.Fits.{Fits}
 
 names-named : (σ : Statement) (q : ℕ) → Names σ q → named σ ≡ q
 unfolding named
-names-named (Read h) q n = absurd n
-names-named (Write h) q n = absurd n
-names-named (Set z) q n = absurd n
-names-named (Add z) q n = absurd n
-names-named (Take h) q n = absurd n
-names-named (Give h) q n = absurd n
-names-named (Point h g) q n = absurd n
-names-named (Call p a) q n = n
-names-named (Start p a) q n = n
-names-named (Jump s) q n = absurd n
-names-named (JumpZero s) q n = absurd n
-names-named Return q n = absurd n
+names-named σ q n = set-is (view σ .names) (λ q. q) n
 
 -- a routine that is named is there
 pub names-there : (t : Table) (r : ℕ) (σ : Statement) (q : ℕ) → Operands t r σ → Names σ q → q < length (t .routines)
-names-there t r (Read h) q o n = absurd n
-names-there t r (Write h) q o n = absurd n
-names-there t r (Set z) q o n = absurd n
-names-there t r (Add z) q o n = absurd n
-names-there t r (Take h) q o n = absurd n
-names-there t r (Give h) q o n = absurd n
-names-there t r (Point h g) q o n = absurd n
-names-there t r (Call p a) q o n = subst (λ (x : ℕ). x < length (t .routines)) n (o .there)
-names-there t r (Start p a) q o n = subst (λ (x : ℕ). x < length (t .routines)) n (o .there)
-names-there t r (Jump s) q o n = absurd n
-names-there t r (JumpZero s) q o n = absurd n
-names-there t r Return q o n = absurd n
+names-there t r σ q o n = o .passes q n .there
 
 -- where the test fails somewhere, `until` finds a place at which it fails
 until-finds : (good : ℕ → Bool) (from n i : ℕ) → from ≤ i → i < from + n → good i ≡ false

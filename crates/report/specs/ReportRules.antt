@@ -9,14 +9,13 @@ use lib.ListN.{getD}
 use Rattle.sets.specs.Set.{has, union, inter}
 use Rattle.sets.specs.SetLaws.{has-union-left, has-union-right, union-cases, has-inter}
 use Rattle.table.specs.Table.{Table, statement}
+use Rattle.table.specs.View.{view, On, setOn, starts}
+use Rattle.table.specs.ViewLaws.{set-has, set-from}
 use Rattle.table.specs.Accepted.{Accepted}
-use Rattle.table.specs.declared.Arguments.{Arguments}
-use Rattle.table.specs.declared.Statement.{Statement}
-use Rattle.table.specs.declared.Statement.the-variants.{Read, Write, Set, Add, Take, Give, Point, Call, Start, Jump, JumpZero, Return}
-use Rattle.report.specs.OverLaws.{none-in, both-true, true-both, union-has, union-from, below-within, within-below}
+use Rattle.table.specs.declared.Reference.the-variants.{To}
+use Rattle.report.specs.OverLaws.{both-true, true-both, union-has, union-from, below-within, within-below}
 use Rattle.report.specs.Layout.{Layout}
 use Rattle.report.specs.Fits.{Fits, copiesOf}
-use Rattle.report.specs.Operations.{byNaming}
 use Rattle.report.specs.Flow.{flowSets}
 use Rattle.report.specs.FlowLaws.{FlowHas, flow-sets, flow-rules}
 use Rattle.report.specs.Effect.{effects, gives}
@@ -121,16 +120,19 @@ module _ (t : Table) (k : Layout) (acc : Accepted t) (fits : Fits t k) where
   abbrev theSets : Sets
   theSets = setsOf t k
 
+  -- the cells over which the effect of the copy that statement s of copy c leads to, and the future at place p, clash
+  abbrev clashAt : ℕ → ℕ → ℕ → ℕ
+  clashAt p c s =
+      clash (getD (theSets .reads) (k .leads c s) 0) (getD (theSets .writes) (k .leads c s) 0) (getD (theSets .futureReads) p 0) (getD (theSets .futureWrites) p 0)
+
   the-shared-rules : SharedRules (copiesOf fits) (EffectHas (effectList theSets)) (FutureHas k (futureList theSets)) (λ x. has (sharedCells t k theSets) x ≡ true)
-  unfolding sharedCells sharedAt byNaming
+  unfolding sharedCells sharedAt
   the-shared-rules = record {
-    at-start = λ c s x q a v e h.
+    at-start = λ c s x q v e h.
         union-has 0 (k .statements) (sharedAt t k theSets) (k .statementPlace c s) x (below-within (placed t k fits c s v .there))
-        (at-placed t k fits
-        (λ p d z τ. has (byNaming 0 (clash (getD (theSets .reads) (k .leads d z) 0) (getD (theSets .writes) (k .leads d z) 0)
-        (getD (theSets .futureReads) p 0) (getD (theSets .futureWrites) p 0)) 0 τ) x ≡ true)
-        c s v (Start q a) e
-        (clash-has (λ w. getD (effectList theSets w) (k .leads c s) 0) (λ w. getD (futureList theSets w) (k .statementPlace c s) 0) x h));
+        (at-placed t k fits (λ p d z τ. has (setOn (starts (view τ)) (λ r. clashAt p d z)) x ≡ true) c s v (statement t s) refl
+        (set-has (starts (view (statement t s))) (λ r. clashAt (k .statementPlace c s) c s) x e
+        (clash-has (λ w. getD (effectList theSets w) (k .leads c s) 0) (λ w. getD (futureList theSets w) (k .statementPlace c s) 0) x h)));
   }
 
   -- a START at which the effect of the started routine and the future clash over cell x
@@ -138,46 +140,33 @@ module _ (t : Table) (k : Layout) (acc : Accepted t) (fits : Fits t k) where
     pub copy : ℕ
     pub number : ℕ
     pub routine-named : ℕ
-    pub arguments : Arguments
     pub place : Place (copiesOf fits) copy number
-    pub start : statement t number ≡ Start routine-named arguments
+    pub start : starts (view (statement t number)) ≡ To routine-named
     pub clashes : Clash (EffectHas (effectList theSets) (k .leads copy number)) (FutureHas k (futureList theSets) copy number) x
 
-  start-from : (p : ℕ) → p < k .statements → (σ : Statement) → statement t (k .statementAt p) ≡ σ → (x : ℕ)
-      → has (byNaming 0 (clash (getD (theSets .reads) (k .leads (k .statementCopy p) (k .statementAt p)) 0)
-      (getD (theSets .writes) (k .leads (k .statementCopy p) (k .statementAt p)) 0) (getD (theSets .futureReads) p 0) (getD (theSets .futureWrites) p 0)) 0 σ) x ≡ true
-      → AtStart x
-  unfolding byNaming
-  start-from p l (Read h) e x a = none-in x a
-  start-from p l (Write h) e x a = none-in x a
-  start-from p l (Set n) e x a = none-in x a
-  start-from p l (Add n) e x a = none-in x a
-  start-from p l (Take h) e x a = none-in x a
-  start-from p l (Give h) e x a = none-in x a
-  start-from p l (Point h g) e x a = none-in x a
-  start-from p l (Call q b) e x a = none-in x a
-  start-from p l (Start q b) e x a =
+  start-from : (p : ℕ) → p < k .statements → (x : ℕ) → has (sharedAt t k theSets p) x ≡ true → AtStart x
+  unfolding sharedAt
+  start-from p l x a =
+      let c : ℕ = k .statementCopy p in
+      let s : ℕ = k .statementAt p in
+      let o : On (starts (view (statement t s))) (λ q. has (clashAt p c s) x ≡ true) = set-from (starts (view (statement t s))) (λ q. clashAt p c s) x a in
       record {
-        copy = k .statementCopy p;
-        number = k .statementAt p;
-        routine-named = q;
-        arguments = b;
+        copy = c;
+        number = s;
+        routine-named = o .0;
         place = place-at t k fits p l;
-        start = e;
+        start = o .1;
         clashes =
-            subst (λ (z : ℕ). Clash (EffectHas (effectList theSets) (k .leads (k .statementCopy p) (k .statementAt p))) (λ w y. has (getD (futureList theSets w) z 0) y ≡ true) x)
+            subst (λ (z : ℕ). Clash (EffectHas (effectList theSets) (k .leads c s)) (λ w y. has (getD (futureList theSets w) z 0) y ≡ true) x)
             (sym (fits .statement-there p l .back))
-            (clash-from (λ w. getD (effectList theSets w) (k .leads (k .statementCopy p) (k .statementAt p)) 0) (λ w. getD (futureList theSets w) p 0) x a);
+            (clash-from (λ w. getD (effectList theSets w) (k .leads c s) 0) (λ w. getD (futureList theSets w) p 0) x (o .2));
       }
-  start-from p l (Jump z) e x a = none-in x a
-  start-from p l (JumpZero z) e x a = none-in x a
-  start-from p l Return e x a = none-in x a
 
   pub shared-at-start : (x : ℕ) → families t k .shared x → AtStart x
-  unfolding sharedCells sharedAt
+  unfolding sharedCells
   shared-at-start x h =
       let r = union-from 0 (k .statements) (sharedAt t k theSets) x h in
-      start-from (r .0) (within-below (r .1)) (statement t (k .statementAt (r .0))) refl x (r .2)
+      start-from (r .0) (within-below (r .1)) x (r .2)
 
   -- ---- all rules
 

@@ -2,15 +2,15 @@
 -- that are predicates. Each record says that sets satisfy their rules; "least" and "greatest" are said elsewhere, of the sets that satisfy them. Assumes nothing.
 use Prim.Native.Nat.{ℕ, _+_, _<_}
 use mathlib.Core.Path.{_≡_}
-use mathlib.Core.Bool.{Bool, true, false}
+use mathlib.Core.Bool.{Bool, true}
 use mathlib.Core.Logic.{_⊎_}
 use lib.ListN.{getD, length}
 use Rattle.table.specs.Table.{Table, declaration, routine, statement, passed, InRoutine, OwnHandle}
+use Rattle.table.specs.View.{view, On, accesses, calls, starts}
 use Rattle.table.specs.Accepted.{Names}
 use Rattle.table.specs.declared.Arguments.{Arguments}
-use Rattle.table.specs.declared.Handle.{Handle}
+use Rattle.table.specs.declared.Reference.the-variants.{To}
 use Rattle.table.specs.declared.Statement.{Statement}
-use Rattle.table.specs.declared.Statement.the-variants.{Read, Write, Set, Add, Take, Give, Point, Call, Start, Jump, JumpZero, Return}
 
 -- ---- copies
 
@@ -37,18 +37,7 @@ pub record Place {t : Table} (copies : Copies t) (c s : ℕ) : Type 0 where
 
 -- statement s′ may follow statement s in its routine: "JUMPZ may go both ways and CALL goes on to the next statement, whatever the values"
 abbrev pub Goes : ℕ → Statement → ℕ → Type 0
-Goes s (Read h) s′ = s′ ≡ s + 1
-Goes s (Write h) s′ = s′ ≡ s + 1
-Goes s (Set n) s′ = s′ ≡ s + 1
-Goes s (Add n) s′ = s′ ≡ s + 1
-Goes s (Take h) s′ = s′ ≡ s + 1
-Goes s (Give h) s′ = s′ ≡ s + 1
-Goes s (Point h g) s′ = s′ ≡ s + 1
-Goes s (Call q a) s′ = s′ ≡ s + 1
-Goes s (Start q a) s′ = s′ ≡ s + 1
-Goes s (Jump z) s′ = s′ ≡ z .statement
-Goes s (JumpZero z) s′ = (s′ ≡ z .statement) ⊎ (s′ ≡ s + 1)
-Goes s Return s′ = ⊥
+Goes s σ s′ = (view σ .target ≡ To s′) ⊎ ((view σ .onward ≡ true) × (s′ ≡ s + 1))
 
 -- ---- flow: sets of things for each copy and handle
 
@@ -58,25 +47,12 @@ module _ {t : Table} (copies : Copies t) (flow : ℕ → ℕ → ℕ → Type 0)
   Passing c s q a =
       (k x : ℕ) → k < routine t q .parameters → flow c (getD (passed a) k 0) x → flow (copies .leads c s) (routine t q .handle + k) x
 
-  -- "POINT h g puts g's set into h's, and CALL or START puts each argument's set into its parameter's", by the statement
-  abbrev pub FlowStep : ℕ → ℕ → Statement → Type 0
-  FlowStep c s (Read h) = Unit {0}
-  FlowStep c s (Write h) = Unit {0}
-  FlowStep c s (Set n) = Unit {0}
-  FlowStep c s (Add n) = Unit {0}
-  FlowStep c s (Take h) = Unit {0}
-  FlowStep c s (Give h) = Unit {0}
-  FlowStep c s (Point h g) = (x : ℕ) → flow c (g .number) x → flow c (h .number) x
-  FlowStep c s (Call q a) = Passing c s q a
-  FlowStep c s (Start q a) = Passing c s q a
-  FlowStep c s (Jump z) = Unit {0}
-  FlowStep c s (JumpZero z) = Unit {0}
-  FlowStep c s Return = Unit {0}
-
-  -- flow sets: "a local's set holds its start", and the rules of POINT, CALL and START. Document 01's are the least
+  -- flow sets: "a local's set holds its start, POINT h g puts g's set into h's, and CALL or START puts each argument's set into its parameter's".
+  -- Document 01's are the least
   pub record FlowRules : Type 0 where
     pub local : (c h : ℕ) → c < copies .count → OwnHandle t (copies .of c) h → declaration t h .origin ≡ 1 → flow c h (declaration t h .start)
-    pub statement-rule : (c s : ℕ) → Place copies c s → (σ : Statement) → statement t s ≡ σ → FlowStep c s σ
+    pub point : (c s h : ℕ) → Place copies c s → view (statement t s) .points ≡ To h → (x : ℕ) → flow c (view (statement t s) .source) x → flow c h x
+    pub passing : (c s q : ℕ) → Place copies c s → Names (statement t s) q → Passing c s q (view (statement t s) .arguments)
 
 -- k is the one member of a set
 pub record Only (set : ℕ → Type 0) (k : ℕ) : Type 0 where
@@ -87,40 +63,38 @@ pub record Only (set : ℕ → Type 0) (k : ℕ) : Type 0 where
 
 -- the locks that "a GIVE in r, or in what r reaches by CALLs, has in its flow set". The least such sets
 pub record GivesRules {t : Table} (copies : Copies t) (flow : ℕ → ℕ → ℕ → Type 0) (gives : ℕ → ℕ → Type 0) : Type 0 where
-  pub by-give : (c s k : ℕ) (h : Handle) → Place copies c s → statement t s ≡ Give h → flow c (h .number) k → gives c k
-  pub by-call : (c s k q : ℕ) (a : Arguments) → Place copies c s → statement t s ≡ Call q a → gives (copies .leads c s) k → gives c k
+  pub by-give : (c s k h : ℕ) → Place copies c s → view (statement t s) .gives ≡ To h → flow c h k → gives c k
+  pub by-call : (c s k q : ℕ) → Place copies c s → calls (view (statement t s)) ≡ To q → gives (copies .leads c s) k → gives c k
 
 -- ---- held: sets of locks before each statement of each copy
 
 module _ {t : Table} (copies : Copies t) (flow : ℕ → ℕ → ℕ → Type 0) (gives : ℕ → ℕ → Type 0) (held : ℕ → ℕ → ℕ → Type 0) where
   -- "the intersection of the sets before r's RETURNs (all locks if there is none)", of copy c
   abbrev pub AtReturns : ℕ → ℕ → Type 0
-  AtReturns c k = (z : ℕ) → Place copies c z → statement t z ≡ Return → held c z k
+  AtReturns c k = (z : ℕ) → Place copies c z → view (statement t z) .ends ≡ true → held c z k
 
-  -- lock k is held after statement s of copy c: "TAKE adds the lock if its flow set has exactly one. GIVE removes its whole flow set. After CALL r:
-  -- the intersection of the sets before r's RETURNs, joined with the locks held before the call that" r does not give. "Other operations keep the set"
+  -- lock k is added by statement s of copy c: "TAKE adds the lock if its flow set has exactly one. After CALL r: the intersection of the sets before r's
+  -- RETURNs"
+  abbrev pub Gains : ℕ → ℕ → ℕ → Statement → Type 0
+  Gains c s k σ = On (view σ .takes) (λ h. Only (flow c h) k) ⊎ On (calls (view σ)) (λ q. AtReturns (copies .leads c s) k)
+
+  -- or may be given up by it: "GIVE removes its whole flow set", and over a CALL go the locks that a "GIVE in r, or in what r reaches by CALLs, has in its
+  -- flow set"
+  abbrev pub Loses : ℕ → ℕ → ℕ → Statement → Type 0
+  Loses c s k σ = On (view σ .gives) (λ h. flow c h k) ⊎ On (calls (view σ)) (λ q. gives (copies .leads c s) k)
+
+  -- it is held after it: added, or held before and not given up. "Other operations keep the set"
   abbrev pub After : ℕ → ℕ → ℕ → Statement → Type 0
-  After c s k (Read h) = held c s k
-  After c s k (Write h) = held c s k
-  After c s k (Set n) = held c s k
-  After c s k (Add n) = held c s k
-  After c s k (Take h) = held c s k ⊎ Only (flow c (h .number)) k
-  After c s k (Give h) = held c s k × (flow c (h .number) k → ⊥)
-  After c s k (Point h g) = held c s k
-  After c s k (Call q a) = AtReturns (copies .leads c s) k ⊎ (held c s k × (gives (copies .leads c s) k → ⊥))
-  After c s k (Start q a) = held c s k
-  After c s k (Jump z) = held c s k
-  After c s k (JumpZero z) = held c s k
-  After c s k Return = held c s k
+  After c s k σ = Gains c s k σ ⊎ (held c s k × (Loses c s k σ → ⊥))
 
   -- held sets: "Where ways meet, intersect", so what is held before a statement is held after every statement that it may follow. "At the first statement
   -- of a routine every way in counts, the entry included. The entry set is the intersection over its CALLs, and empty for routine 0 and for a routine named
   -- by a START". Document 01's are the greatest sets of the table's locks with these rules
   pub record HeldRules : Type 0 where
     pub locks : (c s k : ℕ) → Place copies c s → held c s k → k < t .locks
-    pub way : (c s s′ k : ℕ) → Place copies c s → (σ : Statement) → statement t s ≡ σ → Goes s σ s′ → held c s′ k → After c s k σ
-    pub by-call : (c s k q : ℕ) (a : Arguments) → Place copies c s → statement t s ≡ Call q a → held (copies .leads c s) (routine t q .first) k → held c s k
-    pub by-start : (c s k q : ℕ) (a : Arguments) → Place copies c s → statement t s ≡ Start q a → held (copies .leads c s) (routine t q .first) k → ⊥
+    pub way : (c s s′ k : ℕ) → Place copies c s → Goes s (statement t s) s′ → held c s′ k → After c s k (statement t s)
+    pub by-call : (c s k q : ℕ) → Place copies c s → calls (view (statement t s)) ≡ To q → held (copies .leads c s) (routine t q .first) k → held c s k
+    pub by-start : (c s k q : ℕ) → Place copies c s → starts (view (statement t s)) ≡ To q → held (copies .leads c s) (routine t q .first) k → ⊥
     pub by-main : (k : ℕ) → held (copies .main) (routine t 0 .first) k → ⊥
 
 -- ---- effect and future: sets of reads (false) and writes (true) of cells
@@ -128,38 +102,16 @@ module _ {t : Table} (copies : Copies t) (flow : ℕ → ℕ → ℕ → Type 0)
 module _ {t : Table} (copies : Copies t) (flow : ℕ → ℕ → ℕ → Type 0) where
   -- statement s of copy c is an access of cell x by its flow set
   abbrev pub Accesses : ℕ → Statement → Bool → ℕ → Type 0
-  Accesses c (Read h) w x = (w ≡ false) × flow c (h .number) x
-  Accesses c (Write h) w x = (w ≡ true) × flow c (h .number) x
-  Accesses c (Set n) w x = ⊥
-  Accesses c (Add n) w x = ⊥
-  Accesses c (Take h) w x = ⊥
-  Accesses c (Give h) w x = ⊥
-  Accesses c (Point h g) w x = ⊥
-  Accesses c (Call q a) w x = ⊥
-  Accesses c (Start q a) w x = ⊥
-  Accesses c (Jump z) w x = ⊥
-  Accesses c (JumpZero z) w x = ⊥
-  Accesses c Return w x = ⊥
+  Accesses c σ w x = On (accesses w (view σ)) (λ h. flow c h x)
 
   module _ (effect : ℕ → Bool → ℕ → Type 0) where
     -- the effect of statement s of copy c: reads and writes by flow sets; "the effect of a CALL or START statement is that of the routine it names"
     abbrev pub Does : ℕ → ℕ → Statement → Bool → ℕ → Type 0
-    Does c s (Read h) w x = (w ≡ false) × flow c (h .number) x
-    Does c s (Write h) w x = (w ≡ true) × flow c (h .number) x
-    Does c s (Set n) w x = ⊥
-    Does c s (Add n) w x = ⊥
-    Does c s (Take h) w x = ⊥
-    Does c s (Give h) w x = ⊥
-    Does c s (Point h g) w x = ⊥
-    Does c s (Call q a) w x = effect (copies .leads c s) w x
-    Does c s (Start q a) w x = effect (copies .leads c s) w x
-    Does c s (Jump z) w x = ⊥
-    Does c s (JumpZero z) w x = ⊥
-    Does c s Return w x = ⊥
+    Does c s σ w x = Accesses c σ w x ⊎ On (view σ .names) (λ q. effect (copies .leads c s) w x)
 
     -- "Effect of a routine: its reads and writes of cells by flow sets, with those of all it CALLs or STARTs". The least such sets
     pub record EffectRules : Type 0 where
-      pub of-statement : (c s : ℕ) (w : Bool) (x : ℕ) → Place copies c s → (σ : Statement) → statement t s ≡ σ → Does c s σ w x → effect c w x
+      pub of-statement : (c s : ℕ) (w : Bool) (x : ℕ) → Place copies c s → Does c s (statement t s) w x → effect c w x
 
     -- "Future of a statement: the effects of all statements that may follow it in its routine, round loops too, with the futures of all CALLs of that
     -- routine" (of the CALLs that lead to its copy). The least such sets
@@ -168,7 +120,7 @@ module _ {t : Table} (copies : Copies t) (flow : ℕ → ℕ → ℕ → Type 0)
           → future c s w x
       pub later : (c s s′ : ℕ) (w : Bool) (x : ℕ) → Place copies c s → Place copies c s′ → Goes s (statement t s) s′ → future c s′ w x
           → future c s w x
-      pub callers : (c s z : ℕ) (w : Bool) (x q : ℕ) (a : Arguments) → Place copies c s → statement t s ≡ Call q a → Place copies (copies .leads c s) z
+      pub callers : (c s z : ℕ) (w : Bool) (x q : ℕ) → Place copies c s → calls (view (statement t s)) ≡ To q → Place copies (copies .leads c s) z
           → future c s w x → future (copies .leads c s) z w x
 
 -- ---- shared, common locks, stray
@@ -184,7 +136,7 @@ pub record Clash (one other : Bool → ℕ → Type 0) (x : ℕ) : Type 0 where
 -- "A cell is shared if at some START the effect of the started routine and the future of that START both touch it and one of them writes it"
 pub record SharedRules {t : Table} (copies : Copies t) (effect : ℕ → Bool → ℕ → Type 0) (future : ℕ → ℕ → Bool → ℕ → Type 0) (shared : ℕ → Type 0)
     : Type 0 where
-  pub at-start : (c s x q : ℕ) (a : Arguments) → Place copies c s → statement t s ≡ Start q a → Clash (effect (copies .leads c s)) (future c s) x → shared x
+  pub at-start : (c s x q : ℕ) → Place copies c s → starts (view (statement t s)) ≡ To q → Clash (effect (copies .leads c s)) (future c s) x → shared x
 
 -- "Common locks of a cell: the intersection of the held sets of all its access statements; all locks if there are none": lock k is one of cell x
 abbrev pub Common : {t : Table} (copies : Copies t) (flow held : ℕ → ℕ → ℕ → Type 0) → ℕ → ℕ → Type 0
@@ -219,4 +171,4 @@ pub record Rules {t : Table} (copies : Copies t) (f : Families) : Type 0 where
 -- the report is clean: no cell is unguarded (each is not shared or has a common lock), and no GIVE is stray
 pub record Clean {t : Table} (copies : Copies t) (f : Families) : Type 0 where
   pub guarded : (x : ℕ) → x < t .cells → (f .shared x → ⊥) ⊎ ((k : ℕ) × Common copies (f .flow) (f .held) x k)
-  pub not-stray : (c s : ℕ) (h : Handle) → Place copies c s → statement t s ≡ Give h → Sound (f .flow) (f .held) c s (h .number)
+  pub not-stray : (c s h : ℕ) → Place copies c s → view (statement t s) .gives ≡ To h → Sound (f .flow) (f .held) c s h

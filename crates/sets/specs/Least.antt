@@ -5,7 +5,7 @@ use mathlib.Core.List.{List, [], _∷_, List·Memᴰ}
 use Prim.Native.Nat.{ℕ, zero, suc, _+_, _-_, _/_, _%_, _^_, _<_}
 use lib.Dec.{eqb}
 use lib.ListN.{length, getD, set}
-use Rattle.sets.specs.Set.{has, union}
+use Rattle.sets.specs.Set.{has, union, inter}
 
 -- ---- lists of sets
 
@@ -53,18 +53,29 @@ settled pass s = settle pass (room s) s
 unfoldable pub putInto : ℕ → ℕ → List ℕ → List ℕ
 putInto t x s = set s t (union (getD s t 0) x)
 
--- an edge puts the set at one place into the set at another
+-- an edge puts what is in the sets at two places into the set at a third
 pub record Edge : Type 0 where
   pub from : ℕ
+  pub also : ℕ
   pub to : ℕ
 
--- an edge in one number: 65,536 times where it comes from, and where it leads to
-unfoldable pub edgeOf : ℕ → Edge
-edgeOf n = record { from = n / 65536; to = n % 65536 }
+-- a plain edge puts the set at one place into the set at another
+abbrev pub plain : ℕ → ℕ → Edge
+plain f t = record { from = f; also = f; to = t }
 
--- the edge puts the set at its one end into the set at its other; past the end of the list it does nothing
+-- a plain edge in one number: 65,536 times where it comes from, and where it leads to
+unfoldable pub edgeOf : ℕ → Edge
+edgeOf n = plain (n / 65536) (n % 65536)
+
+-- edges in two lists of numbers: the ends of each, and the place whose set is met; past the end of the second list edges are plain
+unfoldable pub edgesOf : List ℕ → List ℕ → List Edge
+edgesOf [] also = []
+edgesOf (n ∷ ends) [] = edgeOf n ∷ edgesOf ends []
+edgesOf (n ∷ ends) (a ∷ also) = record { from = edgeOf n .from; also = a; to = edgeOf n .to } ∷ edgesOf ends also
+
+-- the edge puts what is in both sets that it comes from into the set that it leads to; past the end of the list it does nothing
 unfoldable pub along : Edge → List ℕ → List ℕ
-along e s = putInto (e .to) (getD s (e .from) 0) s
+along e s = putInto (e .to) (inter (getD s (e .from) 0) (getD s (e .also) 0)) s
 
 -- every edge once, from the first to the last
 unfoldable pub passEdges : List Edge → List ℕ → List ℕ
@@ -77,7 +88,7 @@ least es s = settled (passEdges es) s
 
 -- the edge has nothing to put
 pub record Held (s : List ℕ) (e : Edge) : Type 0 where
-  pub carried : e .to < length s → (x : ℕ) → has (getD s (e .from) 0) x ≡ true → has (getD s (e .to) 0) x ≡ true
+  pub carried : e .to < length s → (x : ℕ) → has (getD s (e .from) 0) x ≡ true → has (getD s (e .also) 0) x ≡ true → has (getD s (e .to) 0) x ≡ true
 
 -- s is closed under every edge
 pub record Closed (es : List Edge) (s : List ℕ) : Type 0 where

@@ -6,23 +6,36 @@ use Prim.Native.Nat.{ℕ, zero, suc, _+_, _*_, _/_, _%_, _<_, suc-le-suc}
 use native.Mathlib.Nat.{le-of-suc-le-suc, zero-lt-suc}
 use native.Mathlib.Omega.{arith}
 use lib.ListN.{length, getD}
-use Rattle.sets.specs.Set.{has}
-use Rattle.sets.specs.Least.{SetList, Inside, Steady, Edge, edgeOf, along, passEdges, least, Held, Closed}
+use Rattle.sets.specs.Set.{has, inter}
+use Rattle.sets.specs.SetLaws.{inter-left, inter-right, in-both, inter-below, inter-same}
+use Rattle.sets.specs.Least.{SetList, Inside, Steady, Edge, plain, edgeOf, edgesOf, putInto, along, passEdges, least, Held, Closed}
 use Rattle.sets.specs.InsideLaws.{inside-refl, inside-trans, inside-equal}
 use Rattle.sets.specs.Rules.{put-length, put-grows, put-cases, put-sets, put-still, still-put, put-inside, put-monotone}
 use Rattle.sets.specs.Settled.{settled-sets, settled-closed, settled-holds-start, settled-inside, settled-induction}
 
--- ---- an edge in one number
+-- ---- edges in numbers
 
-pub edge-packed : (f t : ℕ) → t < 65536 → edgeOf (f * 65536 + t) ≡ record { from = f; to = t }
+pub edge-packed : (f t : ℕ) → t < 65536 → edgeOf (f * 65536 + t) ≡ plain f t
 unfolding edgeOf
 edge-packed f t h = let p : (f * 65536 + t) / 65536 ≡ f = omega arith in let q : (f * 65536 + t) % 65536 ≡ t = omega arith in rw (p, q)
 
--- edge k of a list of numbers
-pub number-edge : (l : List ℕ) (k : ℕ) → k < length l → List·Memᴰ (edgeOf (getD l k 0)) (map edgeOf l)
-number-edge [] k h = absurd (omega arith)
-number-edge (x ∷ l) zero h = List·Memᴰ·head refl
-number-edge (x ∷ l) (suc k) h = List·Memᴰ·tail (number-edge l k (le-of-suc-le-suc h))
+-- where the second list is empty, all edges are plain
+pub edges-plain : (ends : List ℕ) → edgesOf ends [] ≡ map edgeOf ends
+unfolding edgesOf
+edges-plain [] = refl
+edges-plain (n ∷ ends) = ap {B = List Edge} (λ (es : List Edge). edgeOf n ∷ es) (edges-plain ends)
+
+-- edge k of two lists of numbers
+unfoldable pub edgeAt : List ℕ → List ℕ → ℕ → Edge
+edgeAt ends also k = record { from = edgeOf (getD ends k 0) .from; also = getD also k (edgeOf (getD ends k 0) .from); to = edgeOf (getD ends k 0) .to }
+
+pub number-edge : (ends also : List ℕ) (k : ℕ) → k < length ends → List·Memᴰ (edgeAt ends also k) (edgesOf ends also)
+unfolding edgesOf edgeAt edgeOf
+number-edge [] also k h = absurd (omega arith)
+number-edge (n ∷ ends) [] zero h = List·Memᴰ·head refl
+number-edge (n ∷ ends) (a ∷ also) zero h = List·Memᴰ·head refl
+number-edge (n ∷ ends) [] (suc k) h = List·Memᴰ·tail (number-edge ends [] k (le-of-suc-le-suc h))
+number-edge (n ∷ ends) (a ∷ also) (suc k) h = List·Memᴰ·tail (number-edge ends also k (le-of-suc-le-suc h))
 
 tail-closed : {e : Edge} {es : List Edge} {s : List ℕ} → Closed (e ∷ es) s → Closed es s
 tail-closed c = record { edge = λ d m. c .edge d (List·Memᴰ·tail m) }
@@ -35,48 +48,62 @@ both-closed {e} {es} {s} h c = record { edge = go }
     go d (List·Memᴰ·tail m) = c .edge d m
 
 -- closed, edge by edge
-pub numbers-closed : (l s : List ℕ) → ((k : ℕ) → k < length l → Held s (edgeOf (getD l k 0))) → Closed (map edgeOf l) s
-numbers-closed [] s h = record { edge = λ d m. elim m [ ] }
-numbers-closed (x ∷ l) s h = both-closed (h 0 (zero-lt-suc (length l))) (numbers-closed l s (λ k b. h (suc k) (suc-le-suc b)))
+pub numbers-closed : (ends also s : List ℕ) → ((k : ℕ) → k < length ends → Held s (edgeAt ends also k)) → Closed (edgesOf ends also) s
+unfolding edgesOf edgeAt edgeOf
+numbers-closed [] also s h = record { edge = λ d m. elim m [ ] }
+numbers-closed (n ∷ ends) [] s h = both-closed (h 0 (zero-lt-suc (length ends))) (numbers-closed ends [] s (λ k b. h (suc k) (suc-le-suc b)))
+numbers-closed (n ∷ ends) (a ∷ also) s h = both-closed (h 0 (zero-lt-suc (length ends))) (numbers-closed ends also s (λ k b. h (suc k) (suc-le-suc b)))
 
 -- ---- one edge
 
 module _ (e : Edge) (s : List ℕ) where
+  abbrev both : ℕ
+  both = inter (getD s (e .from) 0) (getD s (e .also) 0)
+
   pub along-length : length (along e s) ≡ length s
   unfolding along
-  along-length = put-length (e .to) (getD s (e .from) 0) s
+  along-length = put-length (e .to) both s
 
   pub along-grows : Inside s (along e s)
   unfolding along
-  along-grows = put-grows (e .to) (getD s (e .from) 0) s
+  along-grows = put-grows (e .to) both s
 
   -- an element that is there afterwards was there, or came along the edge
-  along-cases {ℓ} : {C : Type ℓ} (i x : ℕ) → (has (getD s i 0) x ≡ true → C) → (i ≡ e .to → e .to < length s → has (getD s (e .from) 0) x ≡ true → C)
+  along-cases {ℓ} : {C : Type ℓ} (i x : ℕ) → (has (getD s i 0) x ≡ true → C)
+      → (i ≡ e .to → e .to < length s → has (getD s (e .from) 0) x ≡ true → has (getD s (e .also) 0) x ≡ true → C)
       → has (getD (along e s) i 0) x ≡ true → C
   unfolding along
-  along-cases = put-cases (e .to) (getD s (e .from) 0) s
+  along-cases i x a b = put-cases (e .to) both s i x a (λ p l h. b p l (inter-left _ _ x h) (inter-right _ _ x h))
 
   pub along-sets : (n : ℕ) → SetList n s → SetList n (along e s)
   unfolding along
-  along-sets n h = put-sets (e .to) (getD s (e .from) 0) s n (h .below (e .from)) h
+  along-sets n h = put-sets (e .to) both s n (inter-below 64 _ (h .below (e .from))) h
 
   -- an edge that has nothing to put changes nothing, and the other way round
   held-still : Held s e → along e s ≡ s
   unfolding along
-  held-still h = put-still (e .to) (getD s (e .from) 0) s (h .carried)
+  held-still h = put-still (e .to) both s (λ l x b. h .carried l x (inter-left _ _ x b) (inter-right _ _ x b))
 
   pub still-held : along e s ≡ s → Held s e
   unfolding along
-  still-held q = record { carried = still-put (e .to) (getD s (e .from) 0) s q }
+  still-held q = record { carried = λ l x a b. still-put (e .to) both s q l x (in-both _ _ x a b) }
 
   -- what is inside a list with nothing to put stays inside it
   pub along-inside : (r : List ℕ) → length s ≡ length r → Held r e → Inside s r → Inside (along e s) r
   unfolding along
-  along-inside r l h a = put-inside (e .to) (getD s (e .from) 0) s r l (λ m x b. h .carried m x (a .at (e .from) x b)) a
+  along-inside r l h a =
+      put-inside (e .to) both s r l (λ m x b. h .carried m x (a .at (e .from) x (inter-left _ _ x b)) (a .at (e .also) x (inter-right _ _ x b))) a
 
 along-monotone : (e : Edge) (s r : List ℕ) → length s ≡ length r → Inside s r → Inside (along e s) (along e r)
 unfolding along
-along-monotone e s r l a = put-monotone (e .to) (getD s (e .from) 0) (getD r (e .from) 0) s r l (a .at (e .from)) a
+along-monotone e s r l a =
+    put-monotone (e .to) (both e s) (both e r) s r l
+    (λ x b. in-both _ _ x (a .at (e .from) x (inter-left _ _ x b)) (a .at (e .also) x (inter-right _ _ x b))) a
+
+-- a plain edge puts the one set into the other
+pub along-plain : (f t : ℕ) (s : List ℕ) → along (plain f t) s ≡ putInto t (getD s f 0) s
+unfolding along
+along-plain f t s = ap (λ (x : ℕ). putInto t x s) (inter-same (getD s f 0))
 
 -- ---- a pass over the edges
 
@@ -121,7 +148,7 @@ still-closed (e ∷ es) s q =
 -- ---- what goes along the edges
 
 pass-carries : (n : ℕ) (P : ℕ → ℕ → Type 0) (es : List Edge) (r : List ℕ) → SetList n r
-    → ((e : Edge) → List·Memᴰ e es → e .to < n → (x : ℕ) → P (e .from) x → P (e .to) x)
+    → ((e : Edge) → List·Memᴰ e es → e .to < n → (x : ℕ) → P (e .from) x → P (e .also) x → P (e .to) x)
     → ((i x : ℕ) → has (getD r i 0) x ≡ true → P i x)
     → (i x : ℕ) → has (getD (passEdges es r) i 0) x ≡ true → P i x
 unfolding passEdges
@@ -129,7 +156,7 @@ pass-carries n P [] r k f q = q
 pass-carries n P (e ∷ es) r k f q =
     pass-carries n P es (along e r) (along-sets e r n k) (λ d m. f d (List·Memᴰ·tail m))
     (λ i x. along-cases e r i x (q i x)
-    (λ p l g. subst (λ (j : ℕ). P j x) (sym p) (f e (List·Memᴰ·head refl) (subst (λ (y : ℕ). e .to < y) (k .places) l) x (q (e .from) x g))))
+    (λ p l g h. subst (λ (j : ℕ). P j x) (sym p) (f e (List·Memᴰ·head refl) (subst (λ (y : ℕ). e .to < y) (k .places) l) x (q (e .from) x g) (q (e .also) x h))))
 
 -- ---- the least list
 
@@ -146,9 +173,9 @@ module _ (n : ℕ) (es : List Edge) (s : List ℕ) (h : SetList n s) where
   unfolding least
   least-closed = still-closed es (least es s) (settled-closed n (passEdges es) (edges-steady n es) s h)
 
-  -- an edge puts what is at its one end into the other
+  -- an edge puts what is in both sets that it comes from into the one that it leads to
   pub least-edge : (e : Edge) → List·Memᴰ e es → e .to < n → (x : ℕ) → has (getD (least es s) (e .from) 0) x ≡ true
-      → has (getD (least es s) (e .to) 0) x ≡ true
+      → has (getD (least es s) (e .also) 0) x ≡ true → has (getD (least es s) (e .to) 0) x ≡ true
   least-edge e m l = least-closed .edge e m .carried (subst (λ (k : ℕ). e .to < k) (sym (least-sets .places)) l)
 
   -- inside every closed list that holds the start
@@ -164,7 +191,7 @@ module _ (n : ℕ) (es : List Edge) (s : List ℕ) (h : SetList n s) where
 
   -- what holds of every element at the start, and goes along every edge, holds of every element of the least list
   pub least-induction : (P : ℕ → ℕ → Type 0)
-      → ((e : Edge) → List·Memᴰ e es → e .to < n → (x : ℕ) → P (e .from) x → P (e .to) x)
+      → ((e : Edge) → List·Memᴰ e es → e .to < n → (x : ℕ) → P (e .from) x → P (e .also) x → P (e .to) x)
       → ((i x : ℕ) → has (getD s i 0) x ≡ true → P i x)
       → (i x : ℕ) → has (getD (least es s) i 0) x ≡ true → P i x
   unfolding least

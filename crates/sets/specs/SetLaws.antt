@@ -3,12 +3,12 @@
 use mathlib.Core.Path.{_≡_, refl, sym, ap, _∙_, subst}
 use mathlib.Core.Bool.{Bool, true, false, not, _&&_, _||_, or-true, or-false}
 use Prim.Native.Nat.{ℕ, zero, suc, _+_, _-_, _*_, _/_, _%_, _^_, _≤_, _<_, zero-le, suc-le-suc, min}
-use native.Mathlib.Nat.{le-trans, le-of-eq, le-of-suc-le-suc, suc-inj, add-le-add, zero-add, mod-lt, pow-suc, zero-lt-suc, lt-of-lt-of-le, zero-div, div-eq-of-lt}
+use native.Mathlib.Nat.{le-trans, le-of-eq, le-of-suc-le-suc, suc-inj, add-le-add, zero-add, mod-lt, pow-suc, zero-lt-suc, lt-of-lt-of-le, lt-of-le-of-lt, zero-div, div-eq-of-lt}
 use native.Mathlib.Omega.{arith}
 use lib.Dec.{eqb, ltb, eqb·suc-suc, eqb·suc-zero, eqb·zero-suc, leb·suc-suc}
 use lib.Arith.{bin-ind}
 use lib.Pow.{pow-pos, pow-mono, pow-lt, shr-shr}
-use lib.Bits.{bitOr, bitAnd, bitXor, or-shr, or-mod, and-shr, and-mod, xor-shr, xor-mod, or-lt, or-comm, or-zero-l, and-le-r, or-add-and}
+use lib.Bits.{bitOr, bitAnd, bitXor, or-shr, or-mod, and-shr, and-mod, xor-shr, xor-mod, or-lt, or-comm, or-zero-l, and-le-l, and-le-r, and-self, or-add-and}
 use lib.Count.{ones, onesIn, ones-step, under, trailingZeros}
 use borrow.Author.Tests.{eqb-true, eqb-false, eq-eqb, ne-eqb, ltb-true, ltb-false, lt-ltb, le-ltb}
 use Rattle.sets.specs.Set.{has, firsts, one, with, union, inter, minus, subset, isEmpty, count, isSingle, only, lowest}
@@ -239,6 +239,33 @@ union-cases {C = C} a b i f g e = go (has a i) refl (sym (has-union a b i) ∙ e
     go : (x : Bool) → has a i ≡ x → (x || has b i) ≡ true → C
     go true p q = f p
     go false p q = g q
+
+-- ---- what is in both
+
+both-left : (a b : Bool) → (a && b) ≡ true → a ≡ true
+both-left true b h = refl
+both-left false b h = h
+
+both-right : (a b : Bool) → (a && b) ≡ true → b ≡ true
+both-right true b h = h
+both-right false b h = cc
+
+pub inter-left : (a b i : ℕ) → has (inter a b) i ≡ true → has a i ≡ true
+inter-left a b i h = both-left (has a i) (has b i) (sym (has-inter a b i) ∙ h)
+
+pub inter-right : (a b i : ℕ) → has (inter a b) i ≡ true → has b i ≡ true
+inter-right a b i h = both-right (has a i) (has b i) (sym (has-inter a b i) ∙ h)
+
+pub in-both : (a b i : ℕ) → has a i ≡ true → has b i ≡ true → has (inter a b) i ≡ true
+in-both a b i p q = has-inter a b i ∙ rw (p, q)
+
+pub inter-below : (n : ℕ) {a : ℕ} (b : ℕ) → a < 2 ^ n → inter a b < 2 ^ n
+unfolding inter
+inter-below n {a} b h = lt-of-le-of-lt (and-le-l a b) h
+
+pub inter-same : (a : ℕ) → inter a a ≡ a
+unfolding inter
+inter-same a = and-self a
 
 -- what is left out of u turns inclusion round, and what is left out of that is the set again: greatest sets are least ones so seen
 pub minus-turns : (u a b : ℕ) → ((i : ℕ) → has a i ≡ true → has b i ≡ true) → (i : ℕ) → has (minus u b) i ≡ true → has (minus u a) i ≡ true

@@ -1,12 +1,14 @@
 -- What "accepted" gives of a table, as named facts of one record: all that the crates above use of document 01's rules for a text. Assumes nothing.
 use Prim.Native.Nat.{ℕ, _+_, _-_, _≤_, _<_}
 use mathlib.Core.Path.{_≡_}
+use mathlib.Core.Bool.{true}
 use mathlib.Core.Logic.{_⊎_}
 use lib.ListN.{getD, length}
 use Rattle.table.specs.Table.{Table, declaration, routine, statement, passed, InRoutine, OwnHandle}
 use Rattle.table.specs.declared.Arguments.{Arguments}
 use Rattle.table.specs.declared.Statement.{Statement}
-use Rattle.table.specs.declared.Statement.the-variants.{Read, Write, Set, Add, Take, Give, Point, Call, Start, Jump, JumpZero, Return}
+use Rattle.table.specs.declared.Reference.the-variants.{To}
+use Rattle.table.specs.View.{view, Each}
 
 -- a handle of routine r and of a kind
 pub record OwnOfKind (t : Table) (r k h : ℕ) : Type 0 where
@@ -19,50 +21,23 @@ pub record Passes (t : Table) (r q : ℕ) (a : Arguments) : Type 0 where
   pub not-first : q ≡ 0 → ⊥
   pub argument : (k : ℕ) → k < routine t q .parameters → OwnOfKind t r (declaration t (routine t q .handle + k) .kind) (getD (passed a) k 0)
 
--- "Handles and targets belong to the statement's own routine", by the statement
-abbrev pub Operands : Table → ℕ → Statement → Type 0
-Operands t r (Read h) = OwnOfKind t r 1 (h .number)
-Operands t r (Write h) = OwnOfKind t r 1 (h .number)
-Operands t r (Set n) = Unit {0}
-Operands t r (Add n) = Unit {0}
-Operands t r (Take h) = OwnOfKind t r 2 (h .number)
-Operands t r (Give h) = OwnOfKind t r 2 (h .number)
-Operands t r (Point h g) = OwnHandle t r (h .number) × OwnHandle t r (g .number) × (declaration t (h .number) .kind ≡ declaration t (g .number) .kind)
-Operands t r (Call q a) = Passes t r q a
-Operands t r (Start q a) = Passes t r q a
-Operands t r (Jump s) = InRoutine t r (s .statement)
-Operands t r (JumpZero s) = InRoutine t r (s .statement)
-Operands t r Return = Unit {0}
+-- "Handles and targets belong to the statement's own routine", by what the statement does with them
+pub record Operands (t : Table) (r : ℕ) (σ : Statement) : Type 0 where
+  pub reads : Each (view σ .reads) (OwnOfKind t r 1)
+  pub writes : Each (view σ .writes) (OwnOfKind t r 1)
+  pub takes : Each (view σ .takes) (OwnOfKind t r 2)
+  pub gives : Each (view σ .gives) (OwnOfKind t r 2)
+  pub points : Each (view σ .points) (λ h. OwnHandle t r h × OwnHandle t r (view σ .source) × (declaration t h .kind ≡ declaration t (view σ .source) .kind))
+  pub passes : Each (view σ .names) (λ q. Passes t r q (view σ .arguments))
+  pub target : Each (view σ .target) (InRoutine t r)
 
 -- the statement after any but JUMP and RETURN is one of the same routine
 abbrev pub GoesOn : Table → ℕ → ℕ → Statement → Type 0
-GoesOn t r s (Read h) = InRoutine t r (s + 1)
-GoesOn t r s (Write h) = InRoutine t r (s + 1)
-GoesOn t r s (Set n) = InRoutine t r (s + 1)
-GoesOn t r s (Add n) = InRoutine t r (s + 1)
-GoesOn t r s (Take h) = InRoutine t r (s + 1)
-GoesOn t r s (Give h) = InRoutine t r (s + 1)
-GoesOn t r s (Point h g) = InRoutine t r (s + 1)
-GoesOn t r s (Call q a) = InRoutine t r (s + 1)
-GoesOn t r s (Start q a) = InRoutine t r (s + 1)
-GoesOn t r s (Jump q) = Unit {0}
-GoesOn t r s (JumpZero q) = InRoutine t r (s + 1)
-GoesOn t r s Return = Unit {0}
+GoesOn t r s σ = view σ .onward ≡ true → InRoutine t r (s + 1)
 
 -- the statement names routine q by CALL or START
 abbrev pub Names : Statement → ℕ → Type 0
-Names (Read h) q = ⊥
-Names (Write h) q = ⊥
-Names (Set n) q = ⊥
-Names (Add n) q = ⊥
-Names (Take h) q = ⊥
-Names (Give h) q = ⊥
-Names (Point h g) q = ⊥
-Names (Call p a) q = p ≡ q
-Names (Start p a) q = p ≡ q
-Names (Jump s) q = ⊥
-Names (JumpZero s) q = ⊥
-Names Return q = ⊥
+Names σ q = view σ .names ≡ To q
 
 -- the facts of one handle: its routine, kind and start in range, and its place among its routine's handles, parameters first
 pub record HandleFacts (t : Table) (h : ℕ) : Type 0 where

@@ -10,6 +10,7 @@ pub mod Handles
 pub mod Routines
 pub mod Extents
 pub mod ExtentLaws
+pub mod View
 pub mod Statements
 pub mod Naming
 pub mod Verdict
@@ -24,6 +25,7 @@ pub mod RoutineLaws
 pub mod Lists
 pub mod LookupLaws
 pub mod OperationLaws
+pub mod ViewLaws
 pub mod StatementLaws
 pub mod NamingLaws
 pub mod AcceptedLaws

@@ -1,73 +1,35 @@
 -- A statement that keeps its rule, by its operation: its operands, what it names, and where it goes on. Assumes nothing.
-use mathlib.Core.Path.{_≡_, refl, sym, _∙_, subst}
+use mathlib.Core.Path.{_≡_, refl, sym, ap, _∙_, subst}
 use mathlib.Core.List.{List}
-use mathlib.Core.Bool.{true, false, cond, _&&_, _||_}
+use mathlib.Core.Bool.{Bool, true, false, cond, not, _&&_, _||_}
+use mathlib.Core.Logic.{_⊎_, inl, inr, ⊎-elim}
 use Prim.Native.Nat.{ℕ, zero, suc, _+_, _≤_, _<_}
 use native.Mathlib.Omega.{arith}
 use native.Mathlib.Decide.{decLt}
 use lib.Dec.{eqb, leb, ltb}
 use lib.ListN.{getD}
 use lib.IntN.{ℤ}
-use borrow.Author.Tests.{ltb-true, lt-ltb, leb-true, eqb-true, eq-eqb, ne-eqb}
-use Rattle.sets.specs.Set.{one}
+use borrow.Author.Tests.{ltb-true, lt-ltb, leb-true, eqb-true, eqb-false, eq-eqb, ne-eqb, not-true}
+use Rattle.sets.specs.Set.{has, one}
 use Rattle.sets.specs.SetLaws.{has-one}
-use Rattle.table.specs.Fields.{number, unused}
+use Rattle.table.specs.Fields.{unused}
 use Rattle.table.specs.Header.{handles, routines, statementLine}
 use Rattle.table.specs.HeaderLaws.{both}
 use Rattle.table.specs.Handles.{routineOf, kindOf, handlesFrom, parameters}
 use Rattle.table.specs.Routines.{firstOf}
 use Rattle.table.specs.Statements.{operation, operand, ownHandle, ownOfKind, ownStatement, argumentOk, argumentsOk, namingOk, pointOk, operationOk, statementOk}
 use Rattle.table.specs.Naming.{namedBy}
-use Rattle.table.specs.ReachLaws.{In, in-empty}
+use Rattle.table.specs.ReachLaws.{In}
 use Rattle.table.specs.LookupLaws.{handles-length, routines-length, declaration-says, routine-says, in-routine}
-use Rattle.table.specs.Table.{tableOf, declaration, routine, passed, argumentsIn, statementIn, statementOf, InRoutine, OwnHandle}
+use Rattle.table.specs.Table.{tableOf, declaration, routine, passed, argumentsIn, statementOf, InRoutine, OwnHandle}
+use Rattle.table.specs.View.{noArguments, view, setOn}
+use Rattle.table.specs.ViewLaws.{to-if, set-has, set-from, isEarly, firstIf, viewIn, view-in}
 use Rattle.table.specs.Accepted.{OwnOfKind, Passes, Operands, GoesOn, Names}
-use Rattle.table.specs.declared.Arguments.{Arguments}
-use Rattle.table.specs.declared.Statement.{Statement}
-use Rattle.table.specs.declared.Statement.the-variants.{Read, Write, Set, Add, Take, Give, Point, Call, Start, Jump, JumpZero, Return}
+use Rattle.table.specs.declared.Reference.{Reference}
+use Rattle.table.specs.declared.Reference.the-variants.{To}
+use Rattle.table.specs.declared.View.{View}
 
 -- ---- by the operation
-
--- the arguments of a CALL or START
-abbrev argumentsOf : List ℤ → ℕ → Arguments
-argumentsOf f s = record { first = operand f s 1; second = operand f s 2; third = operand f s 3; fourth = operand f s 4 }
-
--- what statement s says if op is its operation
-abbrev said : List ℤ → ℕ → ℕ → Statement
-said f s op =
-    cond (eqb op 1) (Read (record { number = operand f s 0 }))
-    (cond (eqb op 2) (Write (record { number = operand f s 0 }))
-    (cond (eqb op 3) (Set (number f (statementLine f s) 2))
-    (cond (eqb op 4) (Add (number f (statementLine f s) 2))
-    (cond (eqb op 5) (Take (record { number = operand f s 0 }))
-    (cond (eqb op 6) (Give (record { number = operand f s 0 }))
-    (cond (eqb op 7) (Point (record { number = operand f s 0 }) (record { number = operand f s 1 }))
-    (cond (eqb op 8) (Call (operand f s 0) (argumentsOf f s))
-    (cond (eqb op 9) (Start (operand f s 0) (argumentsOf f s))
-    (cond (eqb op 10) (Jump (record { statement = operand f s 0 }))
-    (cond (eqb op 11) (JumpZero (record { statement = operand f s 0 }))
-    Return))))))))))
-
-statement-said : (f : List ℤ) (s : ℕ) → statementOf f s ≡ said f s (operation f s)
-unfolding statementOf statementIn argumentsIn
-statement-said f s = refl
-
--- what holds of the twelve operations holds of every number that is one
-by-number : (P : ℕ → Type 0) → P 1 → P 2 → P 3 → P 4 → P 5 → P 6 → P 7 → P 8 → P 9 → P 10 → P 11 → P 12 → (op : ℕ) → 1 ≤ op → op ≤ 12 → P op
-by-number P a b c d e f g h i j k l zero low high = absurd (omega arith)
-by-number P a b c d e f g h i j k l (suc zero) low high = a
-by-number P a b c d e f g h i j k l (suc (suc zero)) low high = b
-by-number P a b c d e f g h i j k l (suc (suc (suc zero))) low high = c
-by-number P a b c d e f g h i j k l (suc (suc (suc (suc zero)))) low high = d
-by-number P a b c d e f g h i j k l (suc (suc (suc (suc (suc zero))))) low high = e
-by-number P a b c d e f g h i j k l (suc (suc (suc (suc (suc (suc zero)))))) low high = f
-by-number P a b c d e f g h i j k l (suc (suc (suc (suc (suc (suc (suc zero))))))) low high = g
-by-number P a b c d e f g h i j k l (suc (suc (suc (suc (suc (suc (suc (suc zero)))))))) low high = h
-by-number P a b c d e f g h i j k l (suc (suc (suc (suc (suc (suc (suc (suc (suc zero))))))))) low high = i
-by-number P a b c d e f g h i j k l (suc (suc (suc (suc (suc (suc (suc (suc (suc (suc zero)))))))))) low high = j
-by-number P a b c d e f g h i j k l (suc (suc (suc (suc (suc (suc (suc (suc (suc (suc (suc zero))))))))))) low high = k
-by-number P a b c d e f g h i j k l (suc (suc (suc (suc (suc (suc (suc (suc (suc (suc (suc (suc zero)))))))))))) low high = l
-by-number P a b c d e f g h i j k l (suc (suc (suc (suc (suc (suc (suc (suc (suc (suc (suc (suc (suc n))))))))))))) low high = absurd (omega arith)
 
 unknown : (f : List ℤ) (r line op : ℕ) → ((k : ℕ) → 1 ≤ k → k ≤ 12 → op ≡ k → ⊥) → operationOk f r line op ≡ false
 unfolding operationOk
@@ -101,20 +63,33 @@ known f r line op e = go (decLt 0 op) (decLt op 13)
     go (no p) q = absurd (none (λ k a b c. omega arith))
     go (yes p) (no q) = absurd (none (λ k a b c. omega arith))
 
--- so what holds for each of the twelve operations whose rule holds, holds of each statement that keeps its rule
-by-operation : (f : List ℤ) (r s : ℕ) (P : ℕ → Type 0) → statementOk f r s ≡ true
-    → (let R : ℕ → Type 0 = λ op. operation f s ≡ op → operationOk f r (statementLine f s) op ≡ true → P op in
-    R 1 → R 2 → R 3 → R 4 → R 5 → R 6 → R 7 → R 8 → R 9 → R 10 → R 11 → R 12 → P (operation f s))
+-- the rule of a statement whose operation is op
+rule-of : (f : List ℤ) (r s : ℕ) → statementOk f r s ≡ true → (op : ℕ) → eqb (operation f s) op ≡ true → operationOk f r (statementLine f s) op ≡ true
 unfolding statementOk
-by-operation f r s P ok a b c d e g h i j k l m =
-    let range = known f r (statementLine f s) (operation f s) ok in
-    by-number (λ op. operation f s ≡ op → operationOk f r (statementLine f s) op ≡ true → P op) a b c d e g h i j k l m (operation f s) (range .0) (range .1) refl ok
+rule-of f r s ok op e = subst (λ (k : ℕ). operationOk f r (statementLine f s) k ≡ true) (eqb-true (operation f s) op e) ok
+
+-- the attributes of a statement are those of its operation
+said : (f : List ℤ) (s : ℕ) → view (statementOf f s) ≡ viewIn f (statementLine f s) (operation f s)
+unfolding statementOf
+said f s = view-in f (statementLine f s) (operation f s)
+
+-- an attribute that refers to something refers to the first operand, and the operation is one that has it
+refers : (f : List ℤ) (s : ℕ) (attribute : View → Reference) (b : Bool) → attribute (viewIn f (statementLine f s) (operation f s)) ≡ firstIf f (statementLine f s) b
+    → {n : ℕ} → attribute (view (statementOf f s)) ≡ To n → (b ≡ true) × (operand f s 0 ≡ n)
+refers f s attribute b is e = to-if b (operand f s 0) (sym is ∙ sym (ap attribute (said f s)) ∙ e)
+
+either-of : (a b : Bool) → (a || b) ≡ true → (a ≡ true) ⊎ (b ≡ true)
+either-of true b e = inl refl
+either-of false b e = inr e
 
 -- ---- what a statement names
 
--- what a statement names if op is its operation
-abbrev namedIf : List ℤ → ℕ → ℕ → ℕ
-namedIf f s op = cond (eqb op 8 || eqb op 9) (one (operand f s 0)) 0
+-- a CALL or START keeps its rule, and names its first operand
+naming : (f : List ℤ) (r s q : ℕ) → statementOk f r s ≡ true → Names (statementOf f s) q → (namingOk f r (statementLine f s) ≡ true) × (operand f s 0 ≡ q)
+unfolding operationOk
+naming f r s q ok n =
+    let p = refers f s (λ v. v .names) (eqb (operation f s) 8 || eqb (operation f s) 9) refl n in
+    (⊎-elim (rule-of f r s ok 8) (rule-of f r s ok 9) (either-of (eqb (operation f s) 8) (eqb (operation f s) 9) (p .0)), p .1)
 
 -- the routine that a CALL or START names is there
 named-there : (f : List ℤ) (r s : ℕ) → namingOk f r (statementLine f s) ≡ true → operand f s 0 < routines f
@@ -123,61 +98,39 @@ named-there f r s e =
     ltb-true (operand f s 0) (routines f) (both (ltb (operand f s 0) (routines f)) (argumentsOk f r (operand f s 0) (statementLine f s)) e .0)
 
 pub names-there : (f : List ℤ) (r s q : ℕ) → statementOk f r s ≡ true → Names (statementOf f s) q → q < routines f
-unfolding operationOk
-names-there f r s q ok n = named (subst (λ (x : Statement). Names x q) (statement-said f s) n)
-  where
-    call : namingOk f r (statementLine f s) ≡ true → operand f s 0 ≡ q → q < routines f
-    call k n = let l = named-there f r s k in omega arith
+names-there f r s q ok n = let p = naming f r s q ok n in let l = named-there f r s (p .0) in omega arith
 
-    named : Names (said f s (operation f s)) q → q < routines f
-    named =
-        by-operation f r s (λ op. Names (said f s op) q → q < routines f) ok
-        (λ e k n. absurd n) (λ e k n. absurd n) (λ e k n. absurd n) (λ e k n. absurd n) (λ e k n. absurd n) (λ e k n. absurd n) (λ e k n. absurd n)
-        (λ e k n. call k n) (λ e k n. call k n) (λ e k n. absurd n) (λ e k n. absurd n) (λ e k n. absurd n)
+-- the set of what a statement names, by its view
+named-set : (f : List ℤ) (s : ℕ) → namedBy f s ≡ setOn (view (statementOf f s) .names) one
+unfolding namedBy
+named-set f s = rw (said f s) (go (eqb (operation f s) 8 || eqb (operation f s) 9))
+  where
+    go : (b : Bool) → cond b (one (operand f s 0)) 0 ≡ setOn (firstIf f (statementLine f s) b) one
+    go true = refl
+    go false = refl
 
 -- a statement names a routine just if its set has it
 pub names-has : (f : List ℤ) (r s q : ℕ) → routines f ≤ 32 → statementOk f r s ≡ true → Names (statementOf f s) q → In (namedBy f s) q
-unfolding operationOk namedBy
-names-has f r s q few ok n = named (subst (λ (x : Statement). Names x q) (statement-said f s) n)
-  where
-    call : namingOk f r (statementLine f s) ≡ true → operand f s 0 ≡ q → In (one (operand f s 0)) q
-    call k n = let l = named-there f r s k in has-one (operand f s 0) q (omega arith) ∙ eq-eqb q (operand f s 0) (sym n)
-
-    named : Names (said f s (operation f s)) q → In (namedIf f s (operation f s)) q
-    named =
-        by-operation f r s (λ op. Names (said f s op) q → In (namedIf f s op) q) ok
-        (λ e k n. absurd n) (λ e k n. absurd n) (λ e k n. absurd n) (λ e k n. absurd n) (λ e k n. absurd n) (λ e k n. absurd n) (λ e k n. absurd n)
-        (λ e k n. call k n) (λ e k n. call k n) (λ e k n. absurd n) (λ e k n. absurd n) (λ e k n. absurd n)
+names-has f r s q few ok n =
+    let l = names-there f r s q ok n in
+    rw (named-set f s) (set-has (view (statementOf f s) .names) one q n (has-one q q (omega arith) ∙ eq-eqb q q refl))
 
 pub has-names : (f : List ℤ) (r s q : ℕ) → routines f ≤ 32 → statementOk f r s ≡ true → In (namedBy f s) q → Names (statementOf f s) q
-unfolding operationOk namedBy
-has-names f r s q few ok h = subst (λ (x : Statement). Names x q) (sym (statement-said f s)) (named h)
-  where
-    call : namingOk f r (statementLine f s) ≡ true → In (one (operand f s 0)) q → operand f s 0 ≡ q
-    call k n = let l = named-there f r s k in sym (eqb-true q (operand f s 0) (sym (has-one (operand f s 0) q (omega arith)) ∙ n))
-
-    named : In (namedIf f s (operation f s)) q → Names (said f s (operation f s)) q
-    named =
-        by-operation f r s (λ op. In (namedIf f s op) q → Names (said f s op) q) ok
-        (λ e k n. in-empty q n) (λ e k n. in-empty q n) (λ e k n. in-empty q n) (λ e k n. in-empty q n) (λ e k n. in-empty q n) (λ e k n. in-empty q n) (λ e k n. in-empty q n)
-        (λ e k n. call k n) (λ e k n. call k n) (λ e k n. in-empty q n) (λ e k n. in-empty q n) (λ e k n. in-empty q n)
+has-names f r s q few ok h =
+    let o = set-from (view (statementOf f s) .names) one q (ap (λ (x : ℕ). has x q) (sym (named-set f s)) ∙ h) in
+    let l = names-there f r s (o .0) ok (o .1) in
+    subst (Names (statementOf f s)) (sym (eqb-true q (o .0) (sym (has-one (o .0) q (omega arith)) ∙ o .2))) (o .1)
 
 -- ---- where a statement goes on
 
 pub goes-on : (f : List ℤ) (r s : ℕ) → statementOk f r s ≡ true
     → ((operation f s ≡ 10 → ⊥) → (operation f s ≡ 12 → ⊥) → InRoutine (tableOf f) r (s + 1)) → GoesOn (tableOf f) r s (statementOf f s)
-goes-on f r s ok next = subst (GoesOn (tableOf f) r s) (sym (statement-said f s)) on
-  where
-    step : (op : ℕ) → (op ≡ 10 → ⊥) → (op ≡ 12 → ⊥) → operation f s ≡ op → InRoutine (tableOf f) r (s + 1)
-    step op a b e = next (λ k. a (sym e ∙ k)) (λ k. b (sym e ∙ k))
-
-    on : GoesOn (tableOf f) r s (said f s (operation f s))
-    on =
-        by-operation f r s (λ op. GoesOn (tableOf f) r s (said f s op)) ok
-        (λ e k. step 1 (omega arith) (omega arith) e) (λ e k. step 2 (omega arith) (omega arith) e) (λ e k. step 3 (omega arith) (omega arith) e)
-        (λ e k. step 4 (omega arith) (omega arith) e) (λ e k. step 5 (omega arith) (omega arith) e) (λ e k. step 6 (omega arith) (omega arith) e)
-        (λ e k. step 7 (omega arith) (omega arith) e) (λ e k. step 8 (omega arith) (omega arith) e) (λ e k. step 9 (omega arith) (omega arith) e)
-        (λ e k. tt) (λ e k. step 11 (omega arith) (omega arith) e) (λ e k. tt)
+goes-on f r s ok next on =
+    let e : (isEarly (operation f s) && not (eqb (operation f s) 10)) ≡ true = sym (ap (λ v. v .onward) (said f s)) ∙ on in
+    let p = both (isEarly (operation f s)) (not (eqb (operation f s) 10)) e in
+    let q = both (ltb 0 (operation f s)) (ltb (operation f s) 12) (p .0) in
+    let l = ltb-true (operation f s) 12 (q .1) in
+    next (eqb-false (operation f s) 10 (not-true (eqb (operation f s) 10) (p .1))) (omega arith)
 
 -- ---- operands
 
@@ -235,7 +188,8 @@ module _ (f : List ℤ)
     (few : (q : ℕ) → q < routines f → parameters f q ≤ 4)
     (room : (q : ℕ) → q < routines f → handlesFrom f q + parameters f q ≤ handles f) where
   -- what a CALL or START passes, if it does not name routine 0
-  passes : (r s : ℕ) → namingOk f r (statementLine f s) ≡ true → (operand f s 0 ≡ 0 → ⊥) → Passes (tableOf f) r (operand f s 0) (argumentsOf f s)
+  passes : (r s : ℕ) → namingOk f r (statementLine f s) ≡ true → (operand f s 0 ≡ 0 → ⊥) → Passes (tableOf f) r (operand f s 0) (argumentsIn f (statementLine f s))
+  unfolding argumentsIn
   passes r s e not-first = record { there = omega (arith, there, routines-length f); not-first = not-first; argument = go }
     where
       rule : ArgumentsRule f r s
@@ -251,7 +205,7 @@ module _ (f : List ℤ)
           argument f r (operand f s 0) k x there (room (operand f s 0) there) ok (omega arith)
 
       go : (k : ℕ) → k < routine (tableOf f) (operand f s 0) .parameters
-          → OwnOfKind (tableOf f) r (declaration (tableOf f) (routine (tableOf f) (operand f s 0) .handle + k) .kind) (getD (passed (argumentsOf f s)) k 0)
+          → OwnOfKind (tableOf f) r (declaration (tableOf f) (routine (tableOf f) (operand f s 0) .handle + k) .kind) (getD (passed (argumentsIn f (statementLine f s))) k 0)
       go zero b = one-of 0 (operand f s 1) (rule .zeroth) b
       go (suc zero) b = one-of 1 (operand f s 2) (rule .first) b
       go (suc (suc zero)) b = one-of 2 (operand f s 3) (rule .second) b
@@ -264,35 +218,59 @@ module _ (f : List ℤ)
   -- the operands of a statement that keeps its rule and does not name routine 0
   pub operands : (r s : ℕ) → r < routines f → statementOk f r s ≡ true → (Names (statementOf f s) 0 → ⊥) → Operands (tableOf f) r (statementOf f s)
   unfolding operationOk pointOk ownStatement
-  operands r s b ok not-first = subst (Operands (tableOf f) r) (sym (statement-said f s)) (each (λ n. not-first (subst (λ (x : Statement). Names x 0) (sym (statement-said f s)) n)))
+  operands r s b ok not-first = record {
+    reads = λ h e. of-kind 1 1 h (refers f s (λ v. v .reads) (eqb op 1) refl e) (λ k. k);
+    writes = λ h e. of-kind 2 1 h (refers f s (λ v. v .writes) (eqb op 2) refl e) (λ k. k);
+    takes = λ h e. of-kind 5 2 h (refers f s (λ v. v .takes) (eqb op 5) refl e) (λ k. k);
+    gives = λ h e. of-kind 6 2 h (refers f s (λ v. v .gives) (eqb op 6) refl e) (λ k. k);
+    points = λ h e. point h (refers f s (λ v. v .points) (eqb op 7) refl e);
+    passes = λ q n. passing q n;
+    target = λ z e. jump z (refers f s (λ v. v .target) (eqb op 10 || eqb op 11) refl e);
+  }
     where
       line : ℕ
       line = statementLine f s
 
+      op : ℕ
+      op = operation f s
+
       x : ℕ
       x = operand f s 0
 
-      of-kind : (kind : ℕ) → (ownOfKind f r kind x && unused f line 3) ≡ true → OwnOfKind (tableOf f) r kind x
-      of-kind kind k = own-of-kind f r kind x (both (ownOfKind f r kind x) (unused f line 3) k .0)
+      of-kind : (o kind h : ℕ) → (eqb op o ≡ true) × (x ≡ h)
+          → (operationOk f r line o ≡ true → (ownOfKind f r kind x && unused f line 3) ≡ true) → OwnOfKind (tableOf f) r kind h
+      of-kind o kind h (e, is) k =
+          subst (OwnOfKind (tableOf f) r kind) is (own-of-kind f r kind x (both (ownOfKind f r kind x) (unused f line 3) (k (rule-of f r s ok o e)) .0))
 
-      target : (ownStatement f r x && unused f line 3) ≡ true → InRoutine (tableOf f) r x
-      target k =
+      inside : (ownStatement f r x && unused f line 3) ≡ true → InRoutine (tableOf f) r x
+      inside k =
           let p = both (ownStatement f r x) (unused f line 3) k .0 in
           let q = both (leb (firstOf f r) x) (ltb x (firstOf f (r + 1))) p in
           in-routine f r x b (leb-true (firstOf f r) x (q .0)) (ltb-true x (firstOf f (r + 1)) (q .1))
 
-      point : pointOk f r line ≡ true → Operands (tableOf f) r (Point (record { number = x }) (record { number = operand f s 1 }))
-      point k =
+      jump : (z : ℕ) → ((eqb op 10 || eqb op 11) ≡ true) × (x ≡ z) → InRoutine (tableOf f) r z
+      jump z (e, is) =
+          subst (InRoutine (tableOf f) r) is
+          (⊎-elim (λ a. inside (rule-of f r s ok 10 a)) (λ a. inside (rule-of f r s ok 11 a)) (either-of (eqb op 10) (eqb op 11) e))
+
+      point : (h : ℕ) → (eqb op 7 ≡ true) × (x ≡ h)
+          → OwnHandle (tableOf f) r h × OwnHandle (tableOf f) r (view (statementOf f s) .source)
+          × (declaration (tableOf f) h .kind ≡ declaration (tableOf f) (view (statementOf f s) .source) .kind)
+      point h (e, is) =
+          let k : pointOk f r line ≡ true = rule-of f r s ok 7 e in
           let p = both (ownHandle f r x && ownOfKind f r (kindOf f x) (operand f s 1)) (unused f line 4) k .0 in
           let q = both (ownHandle f r x) (ownOfKind f r (kindOf f x) (operand f s 1)) p in
-          let h = own-handle f r x (q .0) in
+          let own = own-handle f r x (q .0) in
           let g = own-of-kind f r (kindOf f x) (operand f s 1) (q .1) in
-          let there = h .there in
+          let there = own .there in
           let l = handles-length f in
-          (h, g .own, declaration-says f x (omega arith) .kind ∙ sym (g .kind))
+          let source : view (statementOf f s) .source ≡ operand f s 1 = ap (λ v. v .source) (said f s) ∙ ap (λ (c : Bool). cond c (operand f s 1) 0) e in
+          rw (← is, source) (own, g .own, declaration-says f x (omega arith) .kind ∙ sym (g .kind))
 
-      each : (Names (said f s (operation f s)) 0 → ⊥) → Operands (tableOf f) r (said f s (operation f s))
-      each =
-          by-operation f r s (λ op. (Names (said f s op) 0 → ⊥) → Operands (tableOf f) r (said f s op)) ok
-          (λ e k n. of-kind 1 k) (λ e k n. of-kind 1 k) (λ e k n. tt) (λ e k n. tt) (λ e k n. of-kind 2 k) (λ e k n. of-kind 2 k) (λ e k n. point k)
-          (λ e k n. passes r s k n) (λ e k n. passes r s k n) (λ e k n. target k) (λ e k n. target k) (λ e k n. tt)
+      passing : (q : ℕ) → Names (statementOf f s) q → Passes (tableOf f) r q (view (statementOf f s) .arguments)
+      passing q n =
+          let p = naming f r s q ok n in
+          let is : (eqb op 8 || eqb op 9) ≡ true = refers f s (λ v. v .names) (eqb op 8 || eqb op 9) refl n .0 in
+          let arguments : view (statementOf f s) .arguments ≡ argumentsIn f line =
+          ap (λ v. v .arguments) (said f s) ∙ ap (λ (c : Bool). cond c (argumentsIn f line) noArguments) is in
+          rw (← p .1, arguments) (passes r s (p .0) (λ z. not-first (subst (Names (statementOf f s)) (sym (p .1) ∙ z) n)))

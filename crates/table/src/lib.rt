@@ -5,6 +5,7 @@ ghost use lib.ListN.{length};
 ghost use Rattle.table.specs.Fields.{field, number, unused, plain};
 ghost use Rattle.table.specs.Header.{statementLine};
 ghost use Rattle.table.specs.Table.{countsOf, argumentsIn, statementIn};
+ghost use Rattle.table.specs.View.{noArguments, through, pointing, naming, going, view};
 
 // What is said of a text: a table, or the number of the first refusal that applies and the line that goes with it.
 pub enum Verdict {
@@ -68,6 +69,34 @@ pub enum Statement {
     Jump(Target),
     JumpZero(Target),
     Return,
+}
+
+// A handle, statement or routine that a statement names in one way, by its number, or none.
+pub enum Reference {
+    To(usize),
+    Nothing,
+}
+
+// What a statement is to the rules, by attributes.
+pub struct View {
+    // It may go on to the next statement; it closes its frame; the statement that it may jump to.
+    pub onward: bool,
+    pub ends: bool,
+    pub target: Reference,
+    // The handle whose cell it reads, and writes.
+    pub reads: Reference,
+    pub writes: Reference,
+    // The handle whose lock it takes, whether for writing (false where it takes none), and the handle whose lock it gives up.
+    pub takes: Reference,
+    pub writing: bool,
+    pub gives: Reference,
+    // The handle that it makes refer elsewhere, and the handle whose reference that becomes; 0 where it points none.
+    pub points: Reference,
+    pub source: usize,
+    // The routine that it names, whether by START (false where by CALL or none), and what it passes; zeros where it names none.
+    pub names: Reference,
+    pub starting: bool,
+    pub arguments: Arguments,
 }
 
 // What a handle line says: its routine, its kind (1 cell, 2 lock), its origin (0 parameter, 1 local), and where a local starts.
@@ -213,4 +242,127 @@ pub fn statement_at(numbers: &[i32], line: usize) -> Statement
     ensures { λ r. ⌜ r ≡ statementIn (now (numbers .entry)) line (field (now (numbers .entry)) line 1) ⌝ }
 {
     statement_in(numbers, line, field_in(numbers, line, 1))
+}
+
+// What a statement passes that names no routine.
+fn no_arguments() -> Arguments
+    ensures { λ r. ⌜ r ≡ noArguments ⌝ }
+{
+    Arguments {
+        first: 0,
+        second: 0,
+        third: 0,
+        fourth: 0,
+    }
+}
+
+// The view of a statement that goes on, and does something to the cell or lock that a handle refers to.
+fn through(
+    reads: Reference,
+    writes: Reference,
+    takes: Reference,
+    writing: bool,
+    gives: Reference,
+) -> View
+    ensures { λ r. ⌜ r ≡ through reads writes takes writing gives ⌝ }
+{
+    View {
+        onward: true,
+        ends: false,
+        target: Reference::Nothing,
+        reads,
+        writes,
+        takes,
+        writing,
+        gives,
+        points: Reference::Nothing,
+        source: 0,
+        names: Reference::Nothing,
+        starting: false,
+        arguments: no_arguments(),
+    }
+}
+
+// The view of a statement that goes on, and makes a handle refer to what another refers to.
+fn pointing(points: Reference, source: usize) -> View
+    ensures { λ r. ⌜ r ≡ pointing points source ⌝ }
+{
+    View {
+        onward: true,
+        ends: false,
+        target: Reference::Nothing,
+        reads: Reference::Nothing,
+        writes: Reference::Nothing,
+        takes: Reference::Nothing,
+        writing: false,
+        gives: Reference::Nothing,
+        points,
+        source,
+        names: Reference::Nothing,
+        starting: false,
+        arguments: no_arguments(),
+    }
+}
+
+// The view of a statement that goes on, and names a routine: by START, or by CALL.
+fn naming(names: Reference, starting: bool, arguments: Arguments) -> View
+    ensures { λ r. ⌜ r ≡ naming names starting arguments ⌝ }
+{
+    View {
+        onward: true,
+        ends: false,
+        target: Reference::Nothing,
+        reads: Reference::Nothing,
+        writes: Reference::Nothing,
+        takes: Reference::Nothing,
+        writing: false,
+        gives: Reference::Nothing,
+        points: Reference::Nothing,
+        source: 0,
+        names,
+        starting,
+        arguments,
+    }
+}
+
+// The view of a statement that only goes: on, out of its frame, to a target.
+fn going(onward: bool, ends: bool, target: Reference) -> View
+    ensures { λ r. ⌜ r ≡ going onward ends target ⌝ }
+{
+    View {
+        onward,
+        ends,
+        target,
+        reads: Reference::Nothing,
+        writes: Reference::Nothing,
+        takes: Reference::Nothing,
+        writing: false,
+        gives: Reference::Nothing,
+        points: Reference::Nothing,
+        source: 0,
+        names: Reference::Nothing,
+        starting: false,
+        arguments: no_arguments(),
+    }
+}
+
+// The view of a statement.
+pub fn view_of(statement: Statement) -> View
+    ensures { λ r. ⌜ r ≡ view statement ⌝ }
+{
+    let none = Reference::Nothing;
+    match statement {
+        Statement::Read(h) => through(Reference::To(h.number), none, none, false, none),
+        Statement::Write(h) => through(none, Reference::To(h.number), none, false, none),
+        Statement::Set(_) => going(true, false, none),
+        Statement::Add(_) => going(true, false, none),
+        Statement::Take(h) => through(none, none, Reference::To(h.number), true, none),
+        Statement::Give(h) => through(none, none, none, false, Reference::To(h.number)),
+        Statement::Point { handle, from } => pointing(Reference::To(handle.number), from.number),
+        Statement::Call { routine, arguments } => naming(Reference::To(routine), false, arguments),
+        Statement::Start { routine, arguments } => naming(Reference::To(routine), true, arguments),
+        Statement::Jump(s) => going(false, false, Reference::To(s.statement)),
+        Statement::JumpZero(s) => going(true, false, Reference::To(s.statement)),
+        Statement::Return => going(false, true, none),
+    }
 }
