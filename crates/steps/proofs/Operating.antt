@@ -161,8 +161,8 @@ module _ (numbers : List ℤ) (first handle : List ℕ) (sizes : Sizes) (words v
   target-low s i = omega (arith, i .high, accepted .routine-facts (stands .f .routine) (stands .shown .there) .statements-there, accepted .statements-most)
 
   pub routine-there : (q : ℕ) (arguments : Arguments) → (σ ≡ Call q arguments) ⊎ (σ ≡ Start q arguments) → q < length (tableOf numbers .routines)
-  routine-there q arguments (inl e) = operands (here .standing .state) shown-here (Call q arguments) e .there
-  routine-there q arguments (inr e) = operands (here .standing .state) shown-here (Start q arguments) e .there
+  routine-there q arguments (inl e) = operands (here .standing .state) shown-here (Call q arguments) e .passes q refl .there
+  routine-there q arguments (inr e) = operands (here .standing .state) shown-here (Start q arguments) e .passes q refl .there
 
   looked : (q : ℕ) → q < length (tableOf numbers .routines) → LookedUp (tableOf numbers) first handle q
   looked q l = looked-up numbers first handle q accepted (fixed .first-is) (fixed .handle-is) l
@@ -347,7 +347,7 @@ module _ (numbers : List ℤ) (first handle : List ℕ) (sizes : Sizes) (words v
   pub did-jump : (target : Target) (r : Move) → σ ≡ Jump target → r ≡ To (target .statement) → Operated (tableOf numbers) words values registers words values registers at σ r
   did-jump target r e q =
       went-to words values registers r (target .statement) a (Jump target) e q
-      (omega (arith, target-low (target .statement) (operands (here .standing .state) shown-here (Jump target) e))) refl
+      (omega (arith, target-low (target .statement) (operands (here .standing .state) shown-here (Jump target) e .target (target .statement) refl))) refl
       (λ state s. jump-step t accepted a state (at .thread) (at .slot) s (here .low) (p state s) (at .next) (stands-at state s) target (is state s (Jump target) e))
 
   pub did-jump-zero : (target : Target) (r : Move) → σ ≡ JumpZero target
@@ -359,7 +359,7 @@ module _ (numbers : List ℤ) (first handle : List ℕ) (sizes : Sizes) (words v
       (λ state s. jump-zero-step t accepted a state (at .thread) (at .slot) s (here .low) (p state s) (at .next) (stands-at state s) target (is state s (JumpZero target) e))
     where
       small : (b : Bool) → cond b (target .statement) (at .next + 1) < 4294967296
-      small true = omega (arith, target-low (target .statement) (operands (here .standing .state) shown-here (JumpZero target) e))
+      small true = omega (arith, target-low (target .statement) (operands (here .standing .state) shown-here (JumpZero target) e .target (target .statement) refl))
       small false = next-small
 
   pub did-return : (words′ : List ℕ) (r : Move) → σ ≡ Return → r ≡ Closed

@@ -232,8 +232,8 @@ module _ (t : Table) (accepted : Accepted t) (a : Arrays) (state : State) (n slo
     read-step h e =
         rw on
         (ran _ (Read h) _ e refl refl
-        (goes (p .f .next + 1) _ _ (a .owners) (a .cells) (state .cells) (state .locks) (after-it (Read h) e)
-        (accumulated-set _ _ (ap₂ (λ (l : List ℤ) (i : ℕ). getD l i (pos 0)) (sym (s .cells-are)) (own-value (h .number) (operands-of (Read h) e .own))))
+        (goes (p .f .next + 1) _ _ (a .owners) (a .cells) (state .cells) (state .locks) (after-it (Read h) e refl)
+        (accumulated-set _ _ (ap₂ (λ (l : List ℤ) (i : ℕ). getD l i (pos 0)) (sym (s .cells-are)) (own-value (h .number) (operands-of (Read h) e .reads (h .number) refl .own))))
         refl (s .cells-are) (s .locks-are)))
 
     pub write-step : (h : Handle) → statement t (p .f .next) ≡ Write h
@@ -245,9 +245,9 @@ module _ (t : Table) (accepted : Accepted t) (a : Arrays) (state : State) (n slo
     write-step h e =
         rw on
         (ran _ (Write h) _ e refl refl
-        (goes (p .f .next + 1) _ (a .accumulators) (a .owners) _ _ (state .locks) (after-it (Write h) e) accumulated-same
+        (goes (p .f .next + 1) _ (a .accumulators) (a .owners) _ _ (state .locks) (after-it (Write h) e refl) accumulated-same
         (length-set (a .cells) (getD (a .values) (valuePlace slot (h .number)) 0) (getD (a .accumulators) n (pos 0)))
-        (rw (s .cells-are, own-value (h .number) (operands-of (Write h) e .own), p .accumulator-is))
+        (rw (s .cells-are, own-value (h .number) (operands-of (Write h) e .writes (h .number) refl .own), p .accumulator-is))
         (s .locks-are)))
 
     pub set-step : (number : ℤ) → statement t (p .f .next) ≡ Set number
@@ -256,7 +256,7 @@ module _ (t : Table) (accepted : Accepted t) (a : Arrays) (state : State) (n slo
     set-step number e =
         rw on
         (ran _ (Set number) _ e refl refl
-        (goes (p .f .next + 1) _ _ (a .owners) (a .cells) (state .cells) (state .locks) (after-it (Set number) e) (accumulated-set _ _ refl) refl (s .cells-are) (s .locks-are)))
+        (goes (p .f .next + 1) _ _ (a .owners) (a .cells) (state .cells) (state .locks) (after-it (Set number) e refl) (accumulated-set _ _ refl) refl (s .cells-are) (s .locks-are)))
 
     pub add-step : (number : ℤ) → statement t (p .f .next) ≡ Add number
         → Stepped t
@@ -267,7 +267,7 @@ module _ (t : Table) (accepted : Accepted t) (a : Arrays) (state : State) (n slo
     add-step number e =
         rw on
         (ran _ (Add number) _ e refl refl
-        (goes (p .f .next + 1) _ _ (a .owners) (a .cells) (state .cells) (state .locks) (after-it (Add number) e)
+        (goes (p .f .next + 1) _ _ (a .owners) (a .cells) (state .cells) (state .locks) (after-it (Add number) e refl)
         (accumulated-set _ _ (ap (λ (z : ℤ). wrap (z +ℤ number)) (p .accumulator-is))) refl (s .cells-are) (s .locks-are)))
 
     pub jump-step : (target : Target) → statement t (p .f .next) ≡ Jump target
@@ -275,7 +275,7 @@ module _ (t : Table) (accepted : Accepted t) (a : Arrays) (state : State) (n slo
     unfolding operate
     jump-step target e =
         ran _ (Jump target) _ e refl refl
-        (goes (target .statement) _ (a .accumulators) (a .owners) (a .cells) (state .cells) (state .locks) (operands-of (Jump target) e) accumulated-same refl (s .cells-are) (s .locks-are))
+        (goes (target .statement) _ (a .accumulators) (a .owners) (a .cells) (state .cells) (state .locks) (operands-of (Jump target) e .target (target .statement) refl) accumulated-same refl (s .cells-are) (s .locks-are))
 
     pub jump-zero-step : (target : Target) → statement t (p .f .next) ≡ JumpZero target
         → Stepped t
@@ -292,8 +292,8 @@ module _ (t : Table) (accepted : Accepted t) (a : Arrays) (state : State) (n slo
         where-to b = cond b (target .statement) (p .f .next + 1)
 
         inside : (b : Bool) → InRoutine t (p .f .routine) (cond b (target .statement) (p .f .next + 1))
-        inside true = operands-of (JumpZero target) e
-        inside false = after-it (JumpZero target) e
+        inside true = operands-of (JumpZero target) e .target (target .statement) refl
+        inside false = after-it (JumpZero target) e refl
 
         there : set (a .nexts) slot (cond (isZero (getD (a .accumulators) n (pos 0))) (target .statement) (next + 1))
             ≡ set (a .nexts) slot (cond (isZero (thread state n .accumulator)) (target .statement) (p .f .next + 1))
@@ -350,7 +350,7 @@ module _ (t : Table) (accepted : Accepted t) (a : Arrays) (state : State) (n slo
           blocked : (o : ℕ) → getD (a .owners) (getD (a .values) (valuePlace slot (h .number)) 0) 0 ≡ o
               → operate t state n (thread state n .accumulator) (p .f) (p .older) (Take h) ≡ refused 16
           blocked zero q = absurd (w q)
-          blocked (suc m) q = rw (lock-is (h .number) (suc m) (operands-of (Take h) e .own) q)
+          blocked (suc m) q = rw (lock-is (h .number) (suc m) (operands-of (Take h) e .takes (h .number) refl .own) q)
 
       pub take-step : getD (a .owners) (getD (a .values) (valuePlace slot (h .number)) 0) 0 ≡ 0
           → Stepped t (arrays (a .started) (set (a .nexts) slot (next + 1)) (a .values) (a .counts) (a .accumulators) (set (a .owners) (getD (a .values) (valuePlace slot (h .number)) 0) (n + 1)) (a .cells)) state n (Ran (Take h))
@@ -359,8 +359,8 @@ module _ (t : Table) (accepted : Accepted t) (a : Arrays) (state : State) (n slo
           rw on
           (ran _ (Take h)
           (with-thread state n (thread state n .accumulator) (going (p .f) (p .f .next + 1) ∷ p .older) (state .cells) (set (state .locks) (refers (p .f) (h .number)) (held n)))
-          e refl (rw (lock-is (h .number) 0 (operands-of (Take h) e .own) w))
-          (handed (Take h) (h .number) (n + 1) (held n) (operands-of (Take h) e .own) (after-it (Take h) e) (holder-next n)))
+          e refl (rw (lock-is (h .number) 0 (operands-of (Take h) e .takes (h .number) refl .own) w))
+          (handed (Take h) (h .number) (n + 1) (held n) (operands-of (Take h) e .takes (h .number) refl .own) (after-it (Take h) e refl) (holder-next n)))
 
     module _ (h : Handle) (e : statement t (p .f .next) ≡ Give h) where
       pub give-refused : (getD (a .owners) (getD (a .values) (valuePlace slot (h .number)) 0) 0 ≡ n + 1 → ⊥) → Stepped t a state n (Refused 17 (Give h))
@@ -370,8 +370,8 @@ module _ (t : Table) (accepted : Accepted t) (a : Arrays) (state : State) (n slo
         where
           blocked : (o : ℕ) → getD (a .owners) (getD (a .values) (valuePlace slot (h .number)) 0) 0 ≡ o
               → operate t state n (thread state n .accumulator) (p .f) (p .older) (Give h) ≡ refused 17
-          blocked zero q = rw (lock-is (h .number) zero (operands-of (Give h) e .own) q)
-          blocked (suc m) q = rw (lock-is (h .number) (suc m) (operands-of (Give h) e .own) q, ne-eqb m n (λ z. w (omega (arith, q, z))))
+          blocked zero q = rw (lock-is (h .number) zero (operands-of (Give h) e .gives (h .number) refl .own) q)
+          blocked (suc m) q = rw (lock-is (h .number) (suc m) (operands-of (Give h) e .gives (h .number) refl .own) q, ne-eqb m n (λ z. w (omega (arith, q, z))))
 
       pub give-step : getD (a .owners) (getD (a .values) (valuePlace slot (h .number)) 0) 0 ≡ n + 1
           → Stepped t (arrays (a .started) (set (a .nexts) slot (next + 1)) (a .values) (a .counts) (a .accumulators) (set (a .owners) (getD (a .values) (valuePlace slot (h .number)) 0) 0) (a .cells)) state n (Ran (Give h))
@@ -380,8 +380,8 @@ module _ (t : Table) (accepted : Accepted t) (a : Arrays) (state : State) (n slo
           rw on
           (ran _ (Give h)
           (with-thread state n (thread state n .accumulator) (going (p .f) (p .f .next + 1) ∷ p .older) (state .cells) (set (state .locks) (refers (p .f) (h .number)) free))
-          e refl (rw (lock-is (h .number) (n + 1) (operands-of (Give h) e .own) w ∙ holder-next n, eq-eqb n n refl))
-          (handed (Give h) (h .number) 0 free (operands-of (Give h) e .own) (after-it (Give h) e) refl))
+          e refl (rw (lock-is (h .number) (n + 1) (operands-of (Give h) e .gives (h .number) refl .own) w ∙ holder-next n, eq-eqb n n refl))
+          (handed (Give h) (h .number) 0 free (operands-of (Give h) e .gives (h .number) refl .own) (after-it (Give h) e refl) refl))
 
     -- ---- POINT
 
@@ -428,13 +428,13 @@ module _ (t : Table) (accepted : Accepted t) (a : Arrays) (state : State) (n slo
 
         value : (k : ℕ) → OwnHandle t (p .f .routine) k → Dec (k ≡ h .number) → getD values′ (valuePlace slot k) 0 ≡ refers pointed k
         value k o (yes q) =
-            let own = operands-of (Point h g) e in
+            let own = operands-of (Point h g) e .points (h .number) refl in
             let here : valuePlace slot (h .number) < length (a .values) = omega (arith, s .lengths .values, s .most, p .slot-is, p .few) in
             subst (λ (i : ℕ). getD values′ (valuePlace slot i) 0 ≡ refers pointed i) (sym q)
             (getD-set-same (a .values) (valuePlace slot (h .number)) to 0 here ∙ own-value (g .number) (own .1)
             ∙ sym (getD-set-same (p .f .values) (h .number) (refers (p .f) (g .number)) 0 (omega (arith, own .0 .there, p .shown .long))))
         value k o (no q) =
-            let own = operands-of (Point h g) e in
+            let own = operands-of (Point h g) e .points (h .number) refl in
             getD-set-other (a .values) (valuePlace slot (h .number)) (valuePlace slot k) to 0
             (λ same. q (own-apart t accepted (p .f .routine) k (h .number) (p .shown .there) o (own .0) (omega (arith, same))))
             ∙ own-value k o ∙ sym (getD-set-other (p .f .values) (h .number) k (refers (p .f) (g .number)) 0 q)
@@ -443,8 +443,8 @@ module _ (t : Table) (accepted : Accepted t) (a : Arrays) (state : State) (n slo
         shown =
             record {
               there = p .shown .there;
-              inside = after-it (Point h g) e;
-              next-is = going-shown (p .f .next + 1) (after-it (Point h g) e) .next-is;
+              inside = after-it (Point h g) e refl;
+              next-is = going-shown (p .f .next + 1) (after-it (Point h g) e refl) .next-is;
               long = length-set (p .f .values) (h .number) (refers (p .f) (g .number)) ∙ p .shown .long;
               value-is = λ k o. value k o (ℕ-discrete k (h .number));
             }
@@ -498,12 +498,12 @@ module _ (t : Table) (accepted : Accepted t) (a : Arrays) (state : State) (n slo
             accumulator-is = p .accumulator-is;
             frames = (
               subst (λ (i : ℕ). ShowsFrame t nexts′ values i (opened t q (p .f .values) arguments)) above
-                  (new-frame nexts′ values (slot + 1) (operands-of (Call q arguments) e)
+                  (new-frame nexts′ values (slot + 1) (operands-of (Call q arguments) e .passes q refl)
                   (getD-set-same going-on (slot + 1) first 0 (omega (arith, length-set (a .nexts) slot (p .f .next + 1), s .lengths .nexts, s .most, p .slot-is, p .count-is, w)))
                   (entered)),
               (
                 subst (λ (i : ℕ). ShowsFrame t nexts′ values i (going (p .f) (p .f .next + 1))) (p .slot-is)
-                    (frame-kept t going-on nexts′ (a .values) values slot (going (p .f) (p .f .next + 1)) (going-shown (p .f .next + 1) (after-it (Call q arguments) e))
+                    (frame-kept t going-on nexts′ (a .values) values slot (going (p .f) (p .f .next + 1)) (going-shown (p .f .next + 1) (after-it (Call q arguments) e refl))
                     (opening slot (slot + 1) (λ i v u z. omega arith))),
                 rest-kept nexts′ values (kept (n * 32) slot (λ i v u z. omega arith) (λ i v u z. omega arith)),
               ),
@@ -567,7 +567,7 @@ module _ (t : Table) (accepted : Accepted t) (a : Arrays) (state : State) (n slo
           })
           (with-thread state n (thread state n .accumulator) (going (p .f) (p .f .next + 1) ∷ p .older) (state .cells) (state .locks))
           (record { accumulator = pos 0; frames = opened t q (p .f .values) arguments ∷ [] })
-          (goes (p .f .next + 1) _ (a .accumulators) (a .owners) (a .cells) (state .cells) (state .locks) (after-it (Start q arguments) e) accumulated-same refl (s .cells-are) (s .locks-are))
+          (goes (p .f .next + 1) _ (a .accumulators) (a .owners) (a .cells) (state .cells) (state .locks) (after-it (Start q arguments) e refl) accumulated-same refl (s .cells-are) (s .locks-are))
           refl (w) refl
           (record {
             count-is = getD-set-same (a .counts) (a .started) 1 0 (omega (arith, s .lengths .counts, w));
@@ -575,7 +575,7 @@ module _ (t : Table) (accepted : Accepted t) (a : Arrays) (state : State) (n slo
             accumulator-is = getD-set-same (a .accumulators) (a .started) (pos 0) (pos 0) (omega (arith, s .lengths .accumulators, w));
             frames = (
               subst (λ (i : ℕ). ShowsFrame t nexts′ values i (opened t q (p .f .values) arguments)) above
-                  (new-frame nexts′ values (a .started * 32) (operands-of (Start q arguments) e)
+                  (new-frame nexts′ values (a .started * 32) (operands-of (Start q arguments) e .passes q refl)
                   (getD-set-same going-on (a .started * 32) first 0 (omega (arith, length-set (a .nexts) slot (p .f .next + 1), s .lengths .nexts, w)))
                   (entered)),
               tt,
