@@ -10,8 +10,8 @@ use Rattle.table.specs.Extents.{firstStatements, firstHandles}
 use Rattle.table.specs.Accepted.{Accepted}
 use Rattle.table.specs.declared.Arguments.{Arguments}
 use Rattle.machine.specs.State.{Holder, free, thread, start}
-use Rattle.run_state.specs.ListLaws.{part-replicate, view-count, view-started}
-use Rattle.run_state.specs.Shown.{Arrays, arrays, view, holderOf, Shows, ListsShow, Entering, Entered}
+use Rattle.run_state.specs.ListLaws.{part-replicate, parts-count, parts-started}
+use Rattle.run_state.specs.Shown.{Arrays, arrays, partsOf, holderOf, Shows, ListsShow, Entering, Entered}
 use Rattle.run_state.specs.ShownLaws.{ThreadIn, opened-shown}
 use Rattle.run_state.specs.TableLaws.{LookedUp, looked-up, naming}
 
@@ -76,12 +76,12 @@ module _ (numbers : List ℤ) (handle : List ℕ) (accepted : Accepted (tableOf 
     begun = subst (λ (a : Arrays). Shows (tableOf numbers) a (start (tableOf numbers))) (sym (both (replicate 545 0) (replicate 80 (pos 0)) refl refl)) shown
       where
         both : (zeros : List ℕ) (registers : List ℤ) → zeros ≡ replicate 545 0 → registers ≡ replicate 80 (pos 0)
-            → view (tableOf numbers) (set (set zeros 512 1) 528 1) new registers ≡ first-arrays (tableOf numbers) new
+            → partsOf (tableOf numbers) (set (set zeros 512 1) 528 1) new registers ≡ first-arrays (tableOf numbers) new
         both zeros registers z r =
             let long : length zeros ≡ 545 = ap length z ∙ length-replicate {A = ℕ} 545 0 in
             let t = tableOf numbers in
-            view-started t (set zeros 512 1) new registers 1 (omega (arith, length-set zeros 512 1))
-            ∙ ap (λ (a : Arrays). arrays 1 (a .nexts) (a .values) (a .counts) (a .accumulators) (a .owners) (a .cells)) (view-count t zeros new registers 0 512 1 (omega arith) refl)
+            parts-started t (set zeros 512 1) new registers 1 (omega (arith, length-set zeros 512 1))
+            ∙ ap (λ (a : Arrays). arrays 1 (a .nexts) (a .values) (a .counts) (a .accumulators) (a .owners) (a .cells)) (parts-count t zeros new registers 0 512 1 (omega arith) refl)
             ∙ rw (
               z,
               r,

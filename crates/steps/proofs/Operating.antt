@@ -21,8 +21,8 @@ use Rattle.machine.specs.State.{State}
 use Rattle.machine.specs.Step.{wrap, isZero}
 use Rattle.run_state.specs.declared.Sizes.{Sizes}
 use Rattle.run_state.specs.Lists.{nextsIn, countsIn, startedIn, ownersIn, accumulatorsIn, cellsIn, countPlace, startedPlace, putCell}
-use Rattle.run_state.specs.ListLaws.{started-there, view-next, view-count, view-started, view-owner, view-accumulator, view-cell}
-use Rattle.run_state.specs.Shown.{Arrays, arrays, view, valuePlace, Shows, Fixed, Standing, HandlesThere, Naming}
+use Rattle.run_state.specs.ListLaws.{started-there, parts-next, parts-count, parts-started, parts-owner, parts-accumulator, parts-cell}
+use Rattle.run_state.specs.Shown.{Arrays, arrays, partsOf, valuePlace, Shows, Fixed, Standing, HandlesThere, Naming}
 use Rattle.run_state.specs.TableLaws.{statement-read, handles-there, LookedUp, looked-up, naming}
 use Rattle.operations.specs.declared.Place.{Place}
 use Rattle.operations.specs.declared.Move.{Move}
@@ -68,7 +68,7 @@ module _ (numbers : List ℤ) (first handle : List ℕ) (sizes : Sizes) (words v
   pub lined : (next : ℕ) → next ≡ getD (nextsIn words) (n * 32 + count - 1) 0 → Lined numbers (sizes .base + next)
   unfolding tableOf
   lined next q =
-      let p = top (tableOf numbers) (view (tableOf numbers) words values registers) (s .state) n (n * 32 + count - 1) (s .shows) inside some-open newest-is in
+      let p = top (tableOf numbers) (partsOf (tableOf numbers) words values registers) (s .state) n (n * 32 + count - 1) (s .shows) inside some-open newest-is in
       let accepted = s .fixed .accepted in
       let facts = accepted .routine-facts (p .f .routine) (p .shown .there) in
       let within : next < statements numbers = omega (arith, q ∙ p .shown .next-is, p .shown .inside .high, rw length-tabulate at (facts .statements-there)) in
@@ -104,7 +104,7 @@ module _ (numbers : List ℤ) (first handle : List ℕ) (sizes : Sizes) (words v
   t = tableOf numbers
 
   abbrev a : Arrays
-  a = view (tableOf numbers) words values registers
+  a = partsOf (tableOf numbers) words values registers
 
   abbrev fixed : Fixed numbers first handle sizes
   fixed = here .standing .fixed
@@ -112,8 +112,8 @@ module _ (numbers : List ℤ) (first handle : List ℕ) (sizes : Sizes) (words v
   abbrev accepted : Accepted (tableOf numbers)
   accepted = here .standing .fixed .accepted
 
-  module _ (state : State) (s : Shows (tableOf numbers) (view (tableOf numbers) words values registers) state) where
-    abbrev p : Top (tableOf numbers) (view (tableOf numbers) words values registers) state (at .thread) (at .slot)
+  module _ (state : State) (s : Shows (tableOf numbers) (partsOf (tableOf numbers) words values registers) state) where
+    abbrev p : Top (tableOf numbers) (partsOf (tableOf numbers) words values registers) state (at .thread) (at .slot)
     p = top t a state (at .thread) (at .slot) s (here .low) (here .newest .some) (here .newest .slot-is)
 
     stands-at : at .next ≡ p .f .next
@@ -131,10 +131,10 @@ module _ (numbers : List ℤ) (first handle : List ℕ) (sizes : Sizes) (words v
 
   -- ---- what the operations ask
 
-  abbrev shown-here : Shows (tableOf numbers) (view (tableOf numbers) words values registers) (here .standing .state)
+  abbrev shown-here : Shows (tableOf numbers) (partsOf (tableOf numbers) words values registers) (here .standing .state)
   shown-here = here .standing .shows
 
-  abbrev stands : Top (tableOf numbers) (view (tableOf numbers) words values registers) (here .standing .state) (at .thread) (at .slot)
+  abbrev stands : Top (tableOf numbers) (partsOf (tableOf numbers) words values registers) (here .standing .state) (at .thread) (at .slot)
   stands = p (here .standing .state) shown-here
 
   pub placed-here : Placed at
@@ -174,26 +174,26 @@ module _ (numbers : List ℤ) (first handle : List ℕ) (sizes : Sizes) (words v
 
   -- by what the lists hold after the operation and the store
   left : (words′ values′ : List ℕ) (registers′ : List ℤ) (r m : Move) (new : Arrays) (answer : Step) → r ≡ m → Storable m
-      → view (tableOf numbers) (stored (at .slot) m words′) values′ registers′ ≡ new → answerBy m σ ≡ answer
-      → ((state : State) (s : Shows (tableOf numbers) (view (tableOf numbers) words values registers) state) → Stepped (tableOf numbers) new state (at .thread) answer)
+      → partsOf (tableOf numbers) (stored (at .slot) m words′) values′ registers′ ≡ new → answerBy m σ ≡ answer
+      → ((state : State) (s : Shows (tableOf numbers) (partsOf (tableOf numbers) words values registers) state) → Stepped (tableOf numbers) new state (at .thread) answer)
       → Operated (tableOf numbers) words values registers words′ values′ registers′ at σ r
   left words′ values′ registers′ r m new answer e l v k did =
       subst (λ (q : Move). Operated t words values registers words′ values′ registers′ at σ q) (sym e)
       (record {
         storable = l;
         steps = λ state s.
-            subst (λ (x : Step). Stepped t (view t (stored (at .slot) m words′) values′ registers′) state (at .thread) x) (sym k)
+            subst (λ (x : Step). Stepped t (partsOf t (stored (at .slot) m words′) values′ registers′) state (at .thread) x) (sym k)
             (subst (λ (b : Arrays). Stepped t b state (at .thread) answer) (sym v) (did state s));
       })
 
   went-to : (words′ values′ : List ℕ) (registers′ : List ℤ) (r : Move) (x : ℕ) (new : Arrays) (τ : Statement) → σ ≡ τ → r ≡ To x → x < 4294967296
-      → view (tableOf numbers) words′ values′ registers′ ≡ new
-      → ((state : State) (s : Shows (tableOf numbers) (view (tableOf numbers) words values registers) state)
+      → partsOf (tableOf numbers) words′ values′ registers′ ≡ new
+      → ((state : State) (s : Shows (tableOf numbers) (partsOf (tableOf numbers) words values registers) state)
       → Stepped (tableOf numbers) (arrays (new .started) (set (new .nexts) (at .slot) x) (new .values) (new .counts) (new .accumulators) (new .owners) (new .cells)) state (at .thread) (Ran τ))
       → Operated (tableOf numbers) words values registers words′ values′ registers′ at σ r
   went-to words′ values′ registers′ r x new τ e q l v did =
       left words′ values′ registers′ r (To x) _ (Ran τ) q l
-      (view-next t words′ values′ registers′ (at .slot) x (placed-here .slot-low)
+      (parts-next t words′ values′ registers′ (at .slot) x (placed-here .slot-low)
       ∙ ap (λ (b : Arrays). arrays (b .started) (set (b .nexts) (at .slot) x) (b .values) (b .counts) (b .accumulators) (b .owners) (b .cells)) v)
       (ap Ran e) did
 
@@ -201,16 +201,16 @@ module _ (numbers : List ℤ) (first handle : List ℕ) (sizes : Sizes) (words v
   next-small = omega (arith, placed-here .next-low)
 
   went-on : (words′ values′ : List ℕ) (registers′ : List ℤ) (r : Move) (new : Arrays) (τ : Statement) → σ ≡ τ → r ≡ on at
-      → view (tableOf numbers) words′ values′ registers′ ≡ new
-      → ((state : State) (s : Shows (tableOf numbers) (view (tableOf numbers) words values registers) state)
+      → partsOf (tableOf numbers) words′ values′ registers′ ≡ new
+      → ((state : State) (s : Shows (tableOf numbers) (partsOf (tableOf numbers) words values registers) state)
       → Stepped (tableOf numbers) (arrays (new .started) (set (new .nexts) (at .slot) (at .next + 1)) (new .values) (new .counts) (new .accumulators) (new .owners) (new .cells)) state (at .thread) (Ran τ))
       → Operated (tableOf numbers) words values registers words′ values′ registers′ at σ r
   went-on words′ values′ registers′ r new τ e q v did = went-to words′ values′ registers′ r (at .next + 1) new τ e q next-small v did
 
   was-refused : (number : ℕ) (words′ values′ : List ℕ) (registers′ : List ℤ) (r : Move) (τ : Statement) → σ ≡ τ → r ≡ Stopped number
       → words′ ≡ words → values′ ≡ values → registers′ ≡ registers
-      → ((state : State) (s : Shows (tableOf numbers) (view (tableOf numbers) words values registers) state)
-      → Stepped (tableOf numbers) (view (tableOf numbers) words values registers) state (at .thread) (Refused number τ))
+      → ((state : State) (s : Shows (tableOf numbers) (partsOf (tableOf numbers) words values registers) state)
+      → Stepped (tableOf numbers) (partsOf (tableOf numbers) words values registers) state (at .thread) (Refused number τ))
       → Operated (tableOf numbers) words values registers words′ values′ registers′ at σ r
   was-refused number words′ values′ registers′ r τ e q x y z did =
       left words′ values′ registers′ r (Stopped number) a (Refused number τ) q tt (rw (x, y, z)) (ap (Refused number) e) did
@@ -221,8 +221,8 @@ module _ (numbers : List ℤ) (first handle : List ℕ) (sizes : Sizes) (words v
   did-read h registers′ r e q x =
       let value : ℕ → ℤ = λ cells. getD (cellsIn cells registers) (getD values (valuePlace (at .slot) (h .number)) 0) (pos 0) in
       went-on words values registers′ r _ (Read h) e q
-      (ap (λ (l : List ℤ). view t words values l) (x ∙ ap (λ (cells : ℕ). set registers (at .thread) (value cells)) (fixed .sized .cells-are))
-      ∙ view-accumulator t words values registers (at .thread) (value (t .cells)) (placed-here .thread-low))
+      (ap (λ (l : List ℤ). partsOf t words values l) (x ∙ ap (λ (cells : ℕ). set registers (at .thread) (value cells)) (fixed .sized .cells-are))
+      ∙ parts-accumulator t words values registers (at .thread) (value (t .cells)) (placed-here .thread-low))
       (λ state s. read-step t accepted a state (at .thread) (at .slot) s (here .low) (p state s) (at .next) (stands-at state s) h (is state s (Read h) e))
 
   pub did-write : (h : Handle) (registers′ : List ℤ) (r : Move) → σ ≡ Write h → r ≡ on at
@@ -232,14 +232,14 @@ module _ (numbers : List ℤ) (first handle : List ℕ) (sizes : Sizes) (words v
       let k = getD values (valuePlace (at .slot) (h .number)) 0 in
       let value = getD (accumulatorsIn registers) (at .thread) (pos 0) in
       went-on words values registers′ r _ (Write h) e q
-      (ap (λ (l : List ℤ). view t words values l) (x ∙ ap (λ (cells : ℕ). putCell cells registers k value) (fixed .sized .cells-are)) ∙ view-cell t words values registers k value)
+      (ap (λ (l : List ℤ). partsOf t words values l) (x ∙ ap (λ (cells : ℕ). putCell cells registers k value) (fixed .sized .cells-are)) ∙ parts-cell t words values registers k value)
       (λ state s. write-step t accepted a state (at .thread) (at .slot) s (here .low) (p state s) (at .next) (stands-at state s) h (is state s (Write h) e))
 
   pub did-set : (number : ℤ) (registers′ : List ℤ) (r : Move) → σ ≡ Set number → r ≡ on at → registers′ ≡ set registers (at .thread) number
       → Operated (tableOf numbers) words values registers words values registers′ at σ r
   did-set number registers′ r e q x =
       went-on words values registers′ r _ (Set number) e q
-      (ap (λ (l : List ℤ). view t words values l) x ∙ view-accumulator t words values registers (at .thread) number (placed-here .thread-low))
+      (ap (λ (l : List ℤ). partsOf t words values l) x ∙ parts-accumulator t words values registers (at .thread) number (placed-here .thread-low))
       (λ state s. set-step t accepted a state (at .thread) (at .slot) s (here .low) (p state s) (at .next) (stands-at state s) number (is state s (Set number) e))
 
   pub did-add : (number : ℤ) (registers′ : List ℤ) (r : Move) → σ ≡ Add number → r ≡ on at
@@ -247,8 +247,8 @@ module _ (numbers : List ℤ) (first handle : List ℕ) (sizes : Sizes) (words v
       → Operated (tableOf numbers) words values registers words values registers′ at σ r
   did-add number registers′ r e q x =
       went-on words values registers′ r _ (Add number) e q
-      (ap (λ (l : List ℤ). view t words values l) x
-      ∙ view-accumulator t words values registers (at .thread) (wrap (getD (accumulatorsIn registers) (at .thread) (pos 0) +ℤ number)) (placed-here .thread-low))
+      (ap (λ (l : List ℤ). partsOf t words values l) x
+      ∙ parts-accumulator t words values registers (at .thread) (wrap (getD (accumulatorsIn registers) (at .thread) (pos 0) +ℤ number)) (placed-here .thread-low))
       (λ state s. add-step t accepted a state (at .thread) (at .slot) s (here .low) (p state s) (at .next) (stands-at state s) number (is state s (Add number) e))
 
   -- the locks that the header says are the table's
@@ -268,7 +268,7 @@ module _ (numbers : List ℤ) (first handle : List ℕ) (sizes : Sizes) (words v
           (λ state s. take-refused t accepted a state (at .thread) (at .slot) s (here .low) (p state s) (at .next) (stands-at state s) h (is state s (Take h) e) (w .blocked))
       go (inr w) =
           went-on words′ values registers r _ (Take h) e (w .answer-is)
-          (ap (λ (l : List ℕ). view t l values registers) (w .words-are) ∙ view-owner t words values registers (getD values (valuePlace (at .slot) (h .number)) 0) (at .thread + 1))
+          (ap (λ (l : List ℕ). partsOf t l values registers) (w .words-are) ∙ parts-owner t words values registers (getD values (valuePlace (at .slot) (h .number)) 0) (at .thread + 1))
           (λ state s. take-step t accepted a state (at .thread) (at .slot) s (here .low) (p state s) (at .next) (stands-at state s) h (is state s (Take h) e) (w .free))
 
   pub did-give : (h : Handle) (words′ : List ℕ) (r : Move) → σ ≡ Give h
@@ -283,14 +283,14 @@ module _ (numbers : List ℤ) (first handle : List ℕ) (sizes : Sizes) (words v
           (λ state s. give-refused t accepted a state (at .thread) (at .slot) s (here .low) (p state s) (at .next) (stands-at state s) h (is state s (Give h) e) (w .blocked))
       go (inr w) =
           went-on words′ values registers r _ (Give h) e (w .answer-is)
-          (ap (λ (l : List ℕ). view t l values registers) (w .words-are) ∙ view-owner t words values registers (getD values (valuePlace (at .slot) (h .number)) 0) 0)
+          (ap (λ (l : List ℕ). partsOf t l values registers) (w .words-are) ∙ parts-owner t words values registers (getD values (valuePlace (at .slot) (h .number)) 0) 0)
           (λ state s. give-step t accepted a state (at .thread) (at .slot) s (here .low) (p state s) (at .next) (stands-at state s) h (is state s (Give h) e) (w .free))
 
   pub did-point : (h g : Handle) (values′ : List ℕ) (r : Move) → σ ≡ Point h g → r ≡ on at
       → values′ ≡ set values (valuePlace (at .slot) (h .number)) (getD values (valuePlace (at .slot) (g .number)) 0)
       → Operated (tableOf numbers) words values registers words values′ registers at σ r
   did-point h g values′ r e q x =
-      went-on words values′ registers r _ (Point h g) e q (ap (λ (l : List ℕ). view t words l registers) x)
+      went-on words values′ registers r _ (Point h g) e q (ap (λ (l : List ℕ). partsOf t words l registers) x)
       (λ state s. point-step t accepted a state (at .thread) (at .slot) s (here .low) (p state s) (at .next) (stands-at state s) h g (is state s (Point h g) e))
 
   pub did-call : (q : ℕ) (arguments : Arguments) (words′ values′ : List ℕ) (r : Move) → σ ≡ Call q arguments
@@ -306,10 +306,10 @@ module _ (numbers : List ℤ) (first handle : List ℕ) (sizes : Sizes) (words v
       let count = getD (countsIn words) (at .thread) 0 + 1 in
       let opened = set words (at .slot + 1) (getD first q 0) in
       went-on words′ values′ registers r _ (Call q arguments) e (w .answer-is)
-      (ap (λ (l : List ℕ). view t l values′ registers) (w .words-are)
-      ∙ view-count t opened values′ registers (at .thread) (countPlace (at .thread)) count (placed-here .thread-low) refl
+      (ap (λ (l : List ℕ). partsOf t l values′ registers) (w .words-are)
+      ∙ parts-count t opened values′ registers (at .thread) (countPlace (at .thread)) count (placed-here .thread-low) refl
       ∙ ap (λ (b : Arrays). arrays (b .started) (b .nexts) (b .values) (set (b .counts) (at .thread) count) (b .accumulators) (b .owners) (b .cells))
-      (view-next t words values′ registers (at .slot + 1) (getD first q 0) (omega (arith, here .newest .slot-is, w .free, placed-here .thread-low))))
+      (parts-next t words values′ registers (at .slot + 1) (getD first q 0) (omega (arith, here .newest .slot-is, w .free, placed-here .thread-low))))
       (λ state s. call-step t accepted a state (at .thread) (at .slot) s (here .low) (p state s) (at .next) (stands-at state s) q arguments
       (getD first q 0) (getD handle q 0) (getD handle (q + 1) 0) (u .first-is) (u .from-is) (u .end-is) values′ (is state s (Call q arguments) e) (w .free) (w .entered))
 
@@ -328,7 +328,7 @@ module _ (numbers : List ℤ) (first handle : List ℕ) (sizes : Sizes) (words v
       (getD first q 0) (getD handle q 0) (getD handle (q + 1) 0) (u .first-is) (u .from-is) (u .end-is) values′ (is state s (Start q arguments) e) (w .free) (w .entered))
     where
       begun : (n : ℕ) → n ≡ startedIn words → n < 16 → words′ ≡ set (set (set words (n * 32) (getD first q 0)) (countPlace n) 1) startedPlace (n + 1) → registers′ ≡ set registers n (pos 0)
-          → view (tableOf numbers) words′ values′ registers′
+          → partsOf (tableOf numbers) words′ values′ registers′
           ≡ arrays (n + 1) (set (nextsIn words) (n * 32) (getD first q 0)) values′ (set (countsIn words) n 1) (set (accumulatorsIn registers) n (pos 0))
           (ownersIn (tableOf numbers .locks) words) (cellsIn (tableOf numbers .cells) registers)
       begun n is low x y =
@@ -336,13 +336,13 @@ module _ (numbers : List ℤ) (first handle : List ℕ) (sizes : Sizes) (words v
           let counted = set opened (countPlace n) 1 in
           let frame-low : n * 32 < 512 = omega arith in
           let long : startedPlace < length counted = omega (arith, length-set opened (countPlace n) 1, length-set words (n * 32) (getD first q 0), started-there words (omega (arith, here .low))) in
-          ap (λ (l : List ℕ). view t l values′ registers′) x ∙ ap (λ (l : List ℤ). view t (set counted startedPlace (n + 1)) values′ l) y
-          ∙ view-started t counted values′ (set registers n (pos 0)) (n + 1) long
+          ap (λ (l : List ℕ). partsOf t l values′ registers′) x ∙ ap (λ (l : List ℤ). partsOf t (set counted startedPlace (n + 1)) values′ l) y
+          ∙ parts-started t counted values′ (set registers n (pos 0)) (n + 1) long
           ∙ ap (λ (b : Arrays). arrays (n + 1) (b .nexts) (b .values) (b .counts) (b .accumulators) (b .owners) (b .cells))
-          (view-count t opened values′ (set registers n (pos 0)) n (countPlace n) 1 low refl
+          (parts-count t opened values′ (set registers n (pos 0)) n (countPlace n) 1 low refl
           ∙ ap (λ (b : Arrays). arrays (b .started) (b .nexts) (b .values) (set (b .counts) n 1) (b .accumulators) (b .owners) (b .cells))
-          (view-next t words values′ (set registers n (pos 0)) (n * 32) (getD first q 0) frame-low
-          ∙ ap (λ (b : Arrays). arrays (b .started) (set (b .nexts) (n * 32) (getD first q 0)) (b .values) (b .counts) (b .accumulators) (b .owners) (b .cells)) (view-accumulator t words values′ registers n (pos 0) low)))
+          (parts-next t words values′ (set registers n (pos 0)) (n * 32) (getD first q 0) frame-low
+          ∙ ap (λ (b : Arrays). arrays (b .started) (set (b .nexts) (n * 32) (getD first q 0)) (b .values) (b .counts) (b .accumulators) (b .owners) (b .cells)) (parts-accumulator t words values′ registers n (pos 0) low)))
 
   pub did-jump : (target : Target) (r : Move) → σ ≡ Jump target → r ≡ To (target .statement) → Operated (tableOf numbers) words values registers words values registers at σ r
   did-jump target r e q =
@@ -368,7 +368,7 @@ module _ (numbers : List ℤ) (first handle : List ℕ) (sizes : Sizes) (words v
   did-return words′ r e q x =
       let count = getD (countsIn words) (at .thread) 0 - 1 in
       left words′ values registers r Closed _ (Ran Return) q tt
-      (ap (λ (l : List ℕ). view t l values registers) x ∙ view-count t words values registers (at .thread) (countPlace (at .thread)) count (placed-here .thread-low) refl) (ap Ran e)
+      (ap (λ (l : List ℕ). partsOf t l values registers) x ∙ parts-count t words values registers (at .thread) (countPlace (at .thread)) count (placed-here .thread-low) refl) (ap Ran e)
       (λ state s. return-step t accepted a state (at .thread) (at .slot) s (here .low) (p state s) (at .next) (stands-at state s) (is state s Return e))
 
 -- what an operation left, where that is known

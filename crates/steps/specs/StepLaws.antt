@@ -449,18 +449,35 @@ module _ (t : Table) (accepted : Accepted t) (a : Arrays) (state : State) (n slo
               value-is = λ k o. value k o (ℕ-discrete k (h .number));
             }
 
-    -- ---- CALL
+    -- ---- CALL and START: the frame goes on, and a new frame of the named routine stands in another slot
+
+    abbrev going-on : List ℕ
+    going-on = set (a .nexts) slot (p .f .next + 1)
 
     module _ (q : ℕ) (arguments : Arguments) (first from end : ℕ) (first-is : first ≡ routine t q .first) (from-is : from ≡ routine t q .handle)
         (end-is : end ≡ routine t q .handle + routine t q .handles) where
-      -- a new frame of the named routine in another slot
-      new-frame : (nexts values : List ℕ) (there : ℕ) → Passes t (p .f .routine) q arguments → getD nexts there 0 ≡ first
-          → Entered t (a .values) values there slot from end arguments → ShowsFrame t nexts values there (opened t q (p .f .values) arguments)
-      new-frame nexts values there passes x y =
-          opened-shown t accepted nexts (a .values) values (p .f .values) there slot q arguments (passes .there) (x ∙ first-is)
-          (subst (λ (i : ℕ). Entered t (a .values) values there slot (routine t q .handle) i arguments) end-is
-          (subst (λ (i : ℕ). Entered t (a .values) values there slot i end arguments) from-is y))
-          (λ k l. own-value (getD (passed arguments) k 0) (passes .argument k l .own))
+      module _ (values : List ℕ) (there : ℕ) (entered : Entered t (a .values) values there slot from end arguments) where
+        moved-on : (there ≡ slot → ⊥) → set (set (a .nexts) there first) slot (next + 1) ≡ set going-on there first
+        moved-on apart = set-comm (a .nexts) there slot first (next + 1) apart ∙ ap (λ (i : ℕ). set (set (a .nexts) slot (i + 1)) there first) next-is
+
+        nexts-long : length (set going-on there first) ≡ 512
+        nexts-long = length-set going-on there first ∙ length-set (a .nexts) slot (p .f .next + 1) ∙ s .lengths .nexts
+
+        new-frame : there < 512 → Passes t (p .f .routine) q arguments → ShowsFrame t (set going-on there first) values there (opened t q (p .f .values) arguments)
+        new-frame l passes =
+            opened-shown t accepted (set going-on there first) (a .values) values (p .f .values) there slot q arguments (passes .there)
+            (getD-set-same going-on there first 0 (omega (arith, nexts-long, length-set going-on there first)) ∙ first-is)
+            (subst (λ (i : ℕ). Entered t (a .values) values there slot (routine t q .handle) i arguments) end-is
+            (subst (λ (i : ℕ). Entered t (a .values) values there slot i end arguments) from-is entered))
+            (λ k l. own-value (getD (passed arguments) k 0) (passes .argument k l .own))
+
+        opening : (low high : ℕ) → ((i : ℕ) → low ≤ i → i < high → i ≡ there → ⊥) → Kept going-on (set going-on there first) (a .values) values low high
+        opening low high out =
+            kept-both going-on (set going-on there first) (set going-on there first) (a .values) (a .values) values low high
+            (kept-next going-on (a .values) there first low high out)
+            (kept-entered t (set going-on there first) (a .values) values there slot from end low high arguments entered out)
+
+      -- ---- CALL
 
       pub call-refused : statement t (p .f .next) ≡ Call q arguments → 32 ≤ getD (a .counts) n 0 → Stepped t a state n (Refused 19 (Call q arguments))
       call-refused e w =
@@ -472,13 +489,13 @@ module _ (t : Table) (accepted : Accepted t) (a : Arrays) (state : State) (n slo
           state n (Ran (Call q arguments))
       unfolding operate
       call-step values e w entered =
-          rw moved-on
+          rw (moved-on values (slot + 1) entered (λ z. omega arith))
           (ran _ (Call q arguments) _ e (rw (lt-leb 32 (suc (length (p .older))) (omega (arith, w, p .count-is)))) refl
           (one-thread t a (arrays (a .started) nexts′ values counts′ (a .accumulators) (a .owners) (a .cells)) n
           (record {
             lengths =
                 record {
-                  nexts = length-set going-on (slot + 1) first ∙ length-set (a .nexts) slot (p .f .next + 1) ∙ s .lengths .nexts;
+                  nexts = nexts-long values (slot + 1) entered;
                   values = entered .long ∙ s .lengths .values;
                   counts = length-set (a .counts) n (getD (a .counts) n 0 + 1) ∙ s .lengths .counts;
                   accumulators = s .lengths .accumulators;
@@ -498,43 +515,31 @@ module _ (t : Table) (accepted : Accepted t) (a : Arrays) (state : State) (n slo
             accumulator-is = p .accumulator-is;
             frames = (
               subst (λ (i : ℕ). ShowsFrame t nexts′ values i (opened t q (p .f .values) arguments)) above
-                  (new-frame nexts′ values (slot + 1) (operands-of (Call q arguments) e .passes q refl)
-                  (getD-set-same going-on (slot + 1) first 0 (omega (arith, length-set (a .nexts) slot (p .f .next + 1), s .lengths .nexts, s .most, p .slot-is, p .count-is, w)))
-                  (entered)),
+                  (new-frame values (slot + 1) entered (omega (arith, s .most, p .slot-is, p .count-is, w)) (operands-of (Call q arguments) e .passes q refl)),
               (
                 subst (λ (i : ℕ). ShowsFrame t nexts′ values i (going (p .f) (p .f .next + 1))) (p .slot-is)
                     (frame-kept t going-on nexts′ (a .values) values slot (going (p .f) (p .f .next + 1)) (going-shown (p .f .next + 1) (after-it (Call q arguments) e refl))
-                    (opening slot (slot + 1) (λ i v u z. omega arith))),
+                    (opening values (slot + 1) entered slot (slot + 1) (λ i v u z. omega arith))),
                 rest-kept nexts′ values (kept (n * 32) slot (λ i v u z. omega arith) (λ i v u z. omega arith)),
               ),
             );
           })
           (s .cells-are) (s .locks-are)))
         where
-          going-on : List ℕ
-          going-on = set (a .nexts) slot (p .f .next + 1)
-
           nexts′ : List ℕ
           nexts′ = set going-on (slot + 1) first
 
           counts′ : List ℕ
           counts′ = set (a .counts) n (getD (a .counts) n 0 + 1)
 
-          moved-on : set (set (a .nexts) (slot + 1) first) slot (next + 1) ≡ set (set (a .nexts) slot (p .f .next + 1)) (slot + 1) first
-          moved-on = set-comm (a .nexts) (slot + 1) slot first (next + 1) (λ z. omega arith) ∙ ap (λ (i : ℕ). set (set (a .nexts) slot (i + 1)) (slot + 1) first) next-is
-
           above : slot + 1 ≡ n * 32 + suc (length (p .older))
           above = omega (arith, p .slot-is)
-
-          opening : (low high : ℕ) → ((i : ℕ) → low ≤ i → i < high → i ≡ slot + 1 → ⊥) → Kept going-on nexts′ (a .values) values low high
-          opening low high out =
-              kept-both going-on nexts′ nexts′ (a .values) (a .values) values low high (kept-next going-on (a .values) (slot + 1) first low high out)
-              (kept-entered t nexts′ (a .values) values (slot + 1) slot from end low high arguments (entered) out)
 
           kept : (low high : ℕ) → ((i : ℕ) → low ≤ i → i < high → i ≡ slot → ⊥) → ((i : ℕ) → low ≤ i → i < high → i ≡ slot + 1 → ⊥)
               → Kept (a .nexts) nexts′ (a .values) values low high
           kept low high out out′ =
-              kept-both (a .nexts) going-on nexts′ (a .values) (a .values) values low high (kept-next (a .nexts) (a .values) slot (p .f .next + 1) low high out) (opening low high out′)
+              kept-both (a .nexts) going-on nexts′ (a .values) (a .values) values low high (kept-next (a .nexts) (a .values) slot (p .f .next + 1) low high out)
+              (opening values (slot + 1) entered low high out′)
 
       -- ---- START
 
@@ -549,19 +554,19 @@ module _ (t : Table) (accepted : Accepted t) (a : Arrays) (state : State) (n slo
           state n (Ran (Start q arguments))
       unfolding operate
       start-step values e w entered =
-          rw moved-on
+          rw (moved-on values (a .started * 32) entered (λ z. omega (arith, p .slot-is, p .few)))
           (ran _ (Start q arguments) _ e (rw (lt-leb 16 (length (state .threads)) (omega (arith, w, s .started-is)))) refl
           (added t mid new (a .started)
           (record {
             lengths =
                 record {
-                  nexts = length-set going-on (a .started * 32) first ∙ length-set (a .nexts) slot (p .f .next + 1) ∙ s .lengths .nexts;
+                  nexts = nexts-long values (a .started * 32) entered;
                   values = entered .long ∙ s .lengths .values;
                   counts = length-set (a .counts) (a .started) 1 ∙ s .lengths .counts;
                   accumulators = length-set (a .accumulators) (a .started) (pos 0) ∙ s .lengths .accumulators;
                   cells = s .lengths .cells;
                 };
-            slots = λ m apart. opening (m * 32) (m * 32 + 32) (λ i v u z. omega (arith, apart));
+            slots = λ m apart. opening values (a .started * 32) entered (m * 32) (m * 32 + 32) (λ i v u z. omega (arith, apart));
             counts = λ m apart. getD-set-other (a .counts) (a .started) m 1 0 apart;
             accumulators = λ m apart. getD-set-other (a .accumulators) (a .started) m (pos 0) (pos 0) apart;
           })
@@ -569,41 +574,25 @@ module _ (t : Table) (accepted : Accepted t) (a : Arrays) (state : State) (n slo
           (record { accumulator = pos 0; frames = opened t q (p .f .values) arguments ∷ [] })
           (goes (p .f .next + 1) _ (a .accumulators) (a .owners) (a .cells) (state .cells) (state .locks) (after-it (Start q arguments) e refl) accumulated-same refl (s .cells-are) (s .locks-are))
           refl (w) refl
-          (record {
-            count-is = getD-set-same (a .counts) (a .started) 1 0 (omega (arith, s .lengths .counts, w));
-            few = omega (arith, getD-set-same (a .counts) (a .started) 1 0 (omega (arith, s .lengths .counts, w)));
+          (let c = getD-set-same (a .counts) (a .started) 1 0 (omega (arith, s .lengths .counts, w)) in
+          record {
+            count-is = c;
+            few = omega (arith, c);
             accumulator-is = getD-set-same (a .accumulators) (a .started) (pos 0) (pos 0) (omega (arith, s .lengths .accumulators, w));
             frames = (
-              subst (λ (i : ℕ). ShowsFrame t nexts′ values i (opened t q (p .f .values) arguments)) above
-                  (new-frame nexts′ values (a .started * 32) (operands-of (Start q arguments) e .passes q refl)
-                  (getD-set-same going-on (a .started * 32) first 0 (omega (arith, length-set (a .nexts) slot (p .f .next + 1), s .lengths .nexts, w)))
-                  (entered)),
+              subst (λ (i : ℕ). ShowsFrame t (new .nexts) values i (opened t q (p .f .values) arguments)) above
+                  (new-frame values (a .started * 32) entered (omega (arith, w)) (operands-of (Start q arguments) e .passes q refl)),
               tt,
             );
           })
           refl refl))
         where
-          going-on : List ℕ
-          going-on = set (a .nexts) slot (p .f .next + 1)
-
-          nexts′ : List ℕ
-          nexts′ = set going-on (a .started * 32) first
-
           mid : Arrays
           mid = arrays (a .started) going-on (a .values) (a .counts) (a .accumulators) (a .owners) (a .cells)
 
           new : Arrays
-          new = arrays (a .started + 1) nexts′ values (set (a .counts) (a .started) 1) (set (a .accumulators) (a .started) (pos 0)) (a .owners) (a .cells)
+          new =
+              arrays (a .started + 1) (set going-on (a .started * 32) first) values (set (a .counts) (a .started) 1) (set (a .accumulators) (a .started) (pos 0)) (a .owners) (a .cells)
 
           above : a .started * 32 ≡ a .started * 32 + 0
           above = omega arith
-
-          moved-on : set (set (a .nexts) (a .started * 32) first) slot (next + 1) ≡ set (set (a .nexts) slot (p .f .next + 1)) (a .started * 32) first
-          moved-on =
-              set-comm (a .nexts) (a .started * 32) slot first (next + 1) (λ z. omega (arith, p .slot-is, p .few))
-              ∙ ap (λ (i : ℕ). set (set (a .nexts) slot (i + 1)) (a .started * 32) first) next-is
-
-          opening : (low high : ℕ) → ((i : ℕ) → low ≤ i → i < high → i ≡ a .started * 32 → ⊥) → Kept going-on nexts′ (a .values) values low high
-          opening low high out =
-              kept-both going-on nexts′ nexts′ (a .values) (a .values) values low high (kept-next going-on (a .values) (a .started * 32) first low high out)
-              (kept-entered t nexts′ (a .values) values (a .started * 32) slot from end low high arguments (entered) out)

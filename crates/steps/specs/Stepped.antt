@@ -11,7 +11,7 @@ use Rattle.machine.specs.Step.{after}
 use Rattle.machine.specs.Engine.{engineStep, engineRun, answers}
 use Rattle.run_state.specs.declared.Sizes.{Sizes}
 use Rattle.run_state.specs.Lists.{nextsIn, countsIn, startedIn}
-use Rattle.run_state.specs.Shown.{Arrays, view, user, Shows, ListsShow, Standing}
+use Rattle.run_state.specs.Shown.{Arrays, partsOf, user, Shows, ListsShow, Standing}
 use Rattle.operations.specs.declared.Place.{Place}
 use Rattle.operations.specs.declared.Move.{Move}
 use Rattle.operations.specs.declared.Move.the-variants.{To, Closed, Stopped}
@@ -29,7 +29,7 @@ pub record Stepped (t : Table) (new : Arrays) (state : State) (n : ℕ) (step : 
 -- of every state that the lists show before, what a step of thread n leaves
 abbrev pub Steps : Table → List ℕ → List ℕ → List ℤ → List ℕ → List ℕ → List ℤ → ℕ → Step → Type 0
 Steps t words values registers words′ values′ registers′ n step =
-    (state : State) → ListsShow t words values registers state → Stepped t (view t words′ values′ registers′) state n step
+    (state : State) → ListsShow t words values registers state → Stepped t (partsOf t words′ values′ registers′) state n step
 
 -- a schedule's steps: one answer for each in the first places of a list, the rest of it as it was, and the engine's state after them
 pub record Followed (t : Table) (words values : List ℕ) (registers : List ℤ) (schedule lent lent′ : List ℕ) (state : State) : Type 0 where
