@@ -71,6 +71,15 @@ fn turn_round(sets: &mut [u64], all: u64)
     }
 }
 
+// How many places `held_sets` needs.
+pub fn places_of(numbers: &[i32]) -> usize
+    ensures { λ r. ⌜ r ≡ basesOf (now (numbers .entry)) .every + 1 ⌝ }
+{
+    let handles = table::field_of(numbers, 0, 3);
+    let routines = table::field_of(numbers, 0, 4);
+    table::field_of(numbers, 0, 5) + routines + routines + handles + handles + 1
+}
+
 // Leaves in the first places of `out`, a list of empty sets, the held sets of a table, from its flow sets and the locks that each routine may give up.
 // `first` has the first statement of each routine; `edges` and `also` lend the room for edges.
 pub fn held_sets(
