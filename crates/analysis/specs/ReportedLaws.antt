@@ -6,9 +6,9 @@ use Prim.Native.Nat.{ℕ, _*_, _≤_, _<_}
 use native.Mathlib.Omega.{arith}
 use lib.Dec.{ltb}
 use lib.IntN.{ℤ, pos}
-use lib.ListN.{length, take, replicate}
+use lib.ListN.{length, take, replicate, length-replicate}
 use Rattle.lines.specs.Line.{numbersOf, lineCount}
-use Rattle.table.specs.Header.{routines, statements, statementLine}
+use Rattle.table.specs.Header.{handles, routines, statements, statementLine}
 use Rattle.table.specs.Table.{tableOf}
 use Rattle.table.specs.Accepted as Facts
 use Rattle.table.specs.AcceptedLaws.{accepted}
@@ -26,7 +26,7 @@ use Rattle.analysis.specs.declared.Answer.{Answer}
 use Rattle.analysis.specs.declared.Examined.{Examined}
 use Rattle.stages.specs.Lent.{Lent}
 use Rattle.findings.specs.FoundLaws.{statements-few}
-use Rattle.stages.specs.SetsLaws.{routines-few}
+use Rattle.stages.specs.SetsLaws.{handles-few, routines-few}
 
 -- ---- what was printed: a report is never empty, so no byte means no room
 
@@ -125,4 +125,13 @@ pub lent-long : (f : List ℤ) → Facts.Accepted (tableOf f) → Lent f (replic
 lent-long f acc =
     let r : routines f ≤ 32 = routines-few f acc in
     let s : statements f ≤ 512 = statements-few f acc in
-    record { zeros = refl; work-long = omega arith; edges-long = omega arith }
+    let h : handles f ≤ 128 = handles-few f acc in
+    record { zeros = refl; work-long = omega arith; places-long = omega arith; edges-long = omega arith }
+
+-- for those of a table of N lines at most
+pub lent-sized : (f : List ℤ) (N W E : ℕ) → length f ≡ 8 * statementLine f (statements f) → length f ≤ 8 * N → 3 * N ≤ W → 4 * N ≤ E
+    → Lent f (replicate W 0) (replicate E 0)
+lent-sized f N W E e l w k =
+    let a : length (replicate {A = ℕ} W 0) ≡ W = length-replicate W 0 in
+    let b : length (replicate {A = ℕ} E 0) ≡ E = length-replicate E 0 in
+    record { zeros = ap (λ (n : ℕ). replicate n 0) (sym a); work-long = omega arith; places-long = omega arith; edges-long = omega arith }

@@ -27,7 +27,7 @@ fn run_accepted(numbers: &[i32], schedule: &[u8], answers: &mut [u8], cells: &mu
     let first = declarations::first_statements(numbers);
     let handle = declarations::first_handles(numbers);
     let sizes = run_state::sizes_of(numbers);
-    let mut words = [0u16; 545];
+    let mut words = [0u32; 545];
     let mut values = [0u8; 4096];
     let mut registers = [0i32; 80];
     run_state::begin(numbers, &handle, &mut words, &mut values, &mut registers);

@@ -1,5 +1,5 @@
--- What a statement is to the findings, by the fields of its line. Assumes nothing.
-use mathlib.Core.Path.{_≡_, refl}
+-- What a statement is to the findings, by the view of its line. Assumes nothing.
+use mathlib.Core.Path.{_≡_, sym, ap, _∙_}
 use mathlib.Core.Bool.{Bool, false, not, _&&_}
 use mathlib.Core.List.{List}
 use Prim.Native.Nat.{ℕ, _+_}
@@ -9,77 +9,55 @@ use Rattle.sets.specs.Set.{subset, isSingle}
 use Rattle.table.specs.Fields.{field}
 use Rattle.table.specs.Header.{statementLine}
 use Rattle.table.specs.Table.{statementIn, statementOf}
-use Rattle.table.specs.OperationLaws.{by-operation}
+use Rattle.table.specs.OperationLaws.{view-line}
+use Rattle.table.specs.View.{view, setOn, testOn, starts, accesses}
+use Rattle.table.specs.ViewLaws.{starts-names, set-is}
+use Rattle.table.specs.declared.Reference.the-variants.{To, Nothing}
+use Rattle.table.specs.declared.Statement.{Statement}
+use Rattle.table.specs.declared.View.{View}
 use Rattle.report.specs.Layout.{named}
-use Rattle.report.specs.Operations.{reading, writing, accessed, byNaming}
+use Rattle.report.specs.Operations.{accessed}
 use Rattle.report.specs.Findings.{clash, strayBy}
 use Rattle.findings.specs.Steps.{ownBy, sharedBy}
 
-module _ (f : List ℤ) (s line : ℕ) (e : line ≡ statementLine f s) where
-  -- READ
-  module _ (flow : List ℕ) (op : field f line 1 ≡ 1) where
-    pub read-reads : ownBy f flow reading s ≡ getD flow (field f line 2) 0
-    unfolding ownBy statementOf statementIn accessed
-    read-reads = rw (← e, op)
+module _ (f : List ℤ) (s line : ℕ) (e : line ≡ statementLine f s) {v : View} (is : v ≡ view (statementIn f line (field f line 1))) where
+  abbrev σ : Statement
+  σ = statementOf f s
 
-    pub read-writes : ownBy f flow writing s ≡ 0
-    unfolding ownBy statementOf statementIn accessed
-    read-writes = rw (← e, op)
+  here : v ≡ view σ
+  here = view-line f s e is
 
-  -- WRITE
-  module _ (flow : List ℕ) (op : field f line 1 ≡ 2) where
-    pub write-reads : ownBy f flow reading s ≡ 0
-    unfolding ownBy statementOf statementIn accessed
-    write-reads = rw (← e, op)
-
-    pub write-writes : ownBy f flow writing s ≡ getD flow (field f line 2) 0
-    unfolding ownBy statementOf statementIn accessed
-    write-writes = rw (← e, op)
-
-  -- neither
-  pub other-none : (flow : List ℕ) (w : Bool) → (field f line 1 ≡ 1 → ⊥) → (field f line 1 ≡ 2 → ⊥) → ownBy f flow w s ≡ 0
-  unfolding ownBy statementOf accessed
-  other-none flow w a b = rw (← e) (go (field f line 1) a b)
-    where
-      go : (op : ℕ) → (op ≡ 1 → ⊥) → (op ≡ 2 → ⊥) → accessed w (λ h. getD flow h 0) 0 (statementIn f line op) ≡ 0
-      go =
-          by-operation f line (λ op σ. (op ≡ 1 → ⊥) → (op ≡ 2 → ⊥) → accessed w (λ h. getD flow h 0) 0 σ ≡ 0)
-          (λ a b. absurd (a refl)) (λ a b. absurd (b refl)) (λ a b. refl) (λ a b. refl) (λ a b. refl) (λ a b. refl) (λ a b. refl) (λ a b. refl) (λ a b. refl)
-          (λ a b. refl) (λ a b. refl) (λ op a b. refl)
+  -- READ and WRITE
+  pub own-is : (flow : List ℕ) (w : Bool) → ownBy f flow w s ≡ setOn (accesses w v) (λ h. getD flow h 0)
+  unfolding ownBy accessed
+  own-is flow w = ap {B = ℕ} (λ v. setOn (accesses w v) (λ h. getD flow h 0)) (sym here)
 
   -- START
   module _ (reads writes later : List ℕ) (half : ℕ) where
-    pub start-shares : field f line 1 ≡ 9
-        → sharedBy f reads writes later half s
-        ≡ clash (getD reads (field f line 2) 0) (getD writes (field f line 2) 0) (getD later s 0) (getD later (half + s) 0)
-    unfolding sharedBy statementOf statementIn byNaming named
-    start-shares op = rw (← e, op)
+    abbrev shares : ℕ → ℕ
+    shares q = clash (getD reads q 0) (getD writes q 0) (getD later s 0) (getD later (half + s) 0)
+
+    pub start-shares : (q : ℕ) → starts v ≡ To q → sharedBy f reads writes later half s ≡ shares q
+    unfolding sharedBy named
+    start-shares q at =
+        let names : starts (view σ) ≡ To q = ap starts (sym here) ∙ at in
+        set-is (starts (view σ)) (λ r. shares (named σ)) names ∙ ap shares (set-is (view σ .names) (λ r. r) (starts-names (view σ) names))
 
     -- no START
-    pub other-shares : (field f line 1 ≡ 9 → ⊥) → sharedBy f reads writes later half s ≡ 0
-    unfolding sharedBy statementOf byNaming
-    other-shares a = rw (← e) (go (field f line 1) a _)
-      where
-        go : (op : ℕ) → (op ≡ 9 → ⊥) → (x : ℕ) → byNaming 0 x 0 (statementIn f line op) ≡ 0
-        go =
-            by-operation f line (λ op σ. (op ≡ 9 → ⊥) → (x : ℕ) → byNaming 0 x 0 σ ≡ 0)
-            (λ a x. refl) (λ a x. refl) (λ a x. refl) (λ a x. refl) (λ a x. refl) (λ a x. refl) (λ a x. refl) (λ a x. refl) (λ a x. absurd (a refl))
-            (λ a x. refl) (λ a x. refl) (λ op a x. refl)
+    pub other-shares : starts v ≡ Nothing → sharedBy f reads writes later half s ≡ 0
+    unfolding sharedBy
+    other-shares at = ap {B = ℕ} (λ r. setOn r (λ q. shares (named σ))) (ap starts (sym here) ∙ at)
 
   -- GIVE
   module _ (flow : List ℕ) (held : ℕ) where
-    pub give-strays : (h : ℕ) → field f line 1 ≡ 6 → h ≡ field f line 2
-        → strayBy (λ h. getD flow h 0) held (statementOf f s) ≡ not (isSingle (getD flow h 0) && subset (getD flow h 0) held)
-    unfolding statementOf statementIn strayBy
-    give-strays h op q = rw (← e, op, q)
+    abbrev strays : ℕ → Bool
+    strays h = not (isSingle (getD flow h 0) && subset (getD flow h 0) held)
+
+    pub give-strays : (h : ℕ) → v .gives ≡ To h → strayBy (λ h. getD flow h 0) held σ ≡ strays h
+    unfolding strayBy
+    give-strays h at = ap {B = Bool} (λ r. testOn r strays) (ap (λ v. v .gives) (sym here) ∙ at)
 
     -- no GIVE
-    pub other-strays : (field f line 1 ≡ 6 → ⊥) → strayBy (λ h. getD flow h 0) held (statementOf f s) ≡ false
-    unfolding statementOf strayBy
-    other-strays a = rw (← e) (go (field f line 1) a)
-      where
-        go : (op : ℕ) → (op ≡ 6 → ⊥) → strayBy (λ h. getD flow h 0) held (statementIn f line op) ≡ false
-        go =
-            by-operation f line (λ op σ. (op ≡ 6 → ⊥) → strayBy (λ h. getD flow h 0) held σ ≡ false)
-            (λ a. refl) (λ a. refl) (λ a. refl) (λ a. refl) (λ a. refl) (λ a. absurd (a refl)) (λ a. refl) (λ a. refl) (λ a. refl)
-            (λ a. refl) (λ a. refl) (λ op a. refl)
+    pub other-strays : v .gives ≡ Nothing → strayBy (λ h. getD flow h 0) held σ ≡ false
+    unfolding strayBy
+    other-strays at = ap {B = Bool} (λ r. testOn r strays) (ap (λ v. v .gives) (sym here) ∙ at)

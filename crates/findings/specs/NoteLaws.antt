@@ -195,39 +195,33 @@ pub record NotedAt (own : Bool → ℕ) (held : ℕ) (noted₀ noted : List ℕ)
   pub common-is : (x : ℕ) → x < 64 → getD noted x 0 ≡ cond (has (own reading) x || has (own writing) x) (inter held (getD noted₀ x 0)) (getD noted₀ x 0)
   pub counts-is : (w : Bool) (x : ℕ) → x < 64 → getD noted (countPlace w + x) 0 ≡ bit (has (own w) x) + getD noted₀ (countPlace w + x) 0
 
-or-false : (b : Bool) → (b || false) ≡ b
-or-false true = refl
-or-false false = refl
+-- what is met twice is met once
+inter-again : (a b : ℕ) → inter a (inter a b) ≡ inter a b
+inter-again a b = same-elements _ _ (λ i. has-inter a (inter a b) i ∙ ap (λ (x : Bool). has a i && x) (has-inter a b i) ∙ go (has a i) (has b i) ∙ sym (has-inter a b i))
+  where
+    go : (x y : Bool) → (x && (x && y)) ≡ (x && y)
+    go true y = refl
+    go false y = refl
 
-module _ {own : Bool → ℕ} {held : ℕ} {noted₀ noted : List ℕ} where
-  pub noted-read : {cells : ℕ} → own reading ≡ cells → own writing ≡ 0 → Marked cells held 64 noted₀ noted → NotedAt own held noted₀ noted
-  noted-read {cells} a b m = record {
-    long = m .long;
-    common-is = λ x l. m .common-is x l ∙ rw (a, b, has-empty x, or-false (has cells x));
-    counts-is = counts;
-  }
-    where
-      counts : (w : Bool) (x : ℕ) → x < 64 → getD noted (countPlace w + x) 0 ≡ bit (has (own w) x) + getD noted₀ (countPlace w + x) 0
-      counts false x l = m .counts-is x l ∙ rw a
-      counts true x l = m .behind (128 + x) (omega arith) ∙ rw (b, has-empty x) (sym (zero-add (getD noted₀ (128 + x) 0)))
-
-  pub noted-write : {cells : ℕ} → own reading ≡ 0 → own writing ≡ cells → Marked cells held 128 noted₀ noted → NotedAt own held noted₀ noted
-  noted-write {cells} a b m = record {
-    long = m .long;
-    common-is = λ x l. m .common-is x l ∙ rw (a, b, has-empty x);
-    counts-is = counts;
-  }
-    where
-      counts : (w : Bool) (x : ℕ) → x < 64 → getD noted (countPlace w + x) 0 ≡ bit (has (own w) x) + getD noted₀ (countPlace w + x) 0
-      counts true x l = m .counts-is x l ∙ rw b
-      counts false x l = m .before (64 + x) (omega arith) (omega arith) ∙ rw (a, has-empty x) (sym (zero-add (getD noted₀ (64 + x) 0)))
-
-pub noted-none : (own : Bool → ℕ) (held : ℕ) (noted : List ℕ) → length noted ≡ 192 → ((w : Bool) → own w ≡ 0) → NotedAt own held noted noted
-noted-none own held noted long none-own = record {
-  long = long;
-  common-is = λ x l. rw (none-own reading, none-own writing, has-empty x);
-  counts-is = λ w x l. rw (none-own w, has-empty x) (sym (zero-add (getD noted (countPlace w + x) 0)));
+-- first what it reads, then what it writes
+pub noted-both : {own : Bool → ℕ} {held read written : ℕ} {noted₀ noted₁ noted : List ℕ} → own reading ≡ read → own writing ≡ written
+    → Marked read held 64 noted₀ noted₁ → Marked written held 128 noted₁ noted → NotedAt own held noted₀ noted
+noted-both {own} {held} {read} {written} {noted₀} {noted₁} {noted} r w m n = record {
+  long = n .long;
+  common-is = λ x l. n .common-is x l ∙ rw (m .common-is x l, r, w) (both (has read x) (has written x) (getD noted₀ x 0));
+  counts-is = counts;
 }
+  where
+    both : (a b : Bool) (common : ℕ)
+        → cond b (inter held (cond a (inter held common) common)) (cond a (inter held common) common) ≡ cond (a || b) (inter held common) common
+    both true true common = inter-again held common
+    both true false common = refl
+    both false true common = refl
+    both false false common = refl
+
+    counts : (w : Bool) (x : ℕ) → x < 64 → getD noted (countPlace w + x) 0 ≡ bit (has (own w) x) + getD noted₀ (countPlace w + x) 0
+    counts false x l = n .before (64 + x) (omega arith) (omega arith) ∙ m .counts-is x l ∙ rw r
+    counts true x l = n .counts-is x l ∙ rw (m .behind (128 + x) (omega arith), w)
 
 -- ---- all statements, from the last to the first
 

@@ -8,8 +8,9 @@ use lib.ListN.{getD}
 use Rattle.sets.specs.Set.{has, firsts}
 use Rattle.table.specs.Header.{locks}
 use Rattle.table.specs.Table.{statementOf}
+use Rattle.table.specs.View.{view, setOn, starts}
 use Rattle.report.specs.Layout.{named}
-use Rattle.report.specs.Operations.{reading, writing, accessed, byNaming}
+use Rattle.report.specs.Operations.{reading, writing, accessed}
 use Rattle.report.specs.Findings.{clash, strayBy, isUnguarded}
 
 -- the values of n numbers, `from` the first, joined by an operation to the last value
@@ -19,7 +20,7 @@ foldFrom op last from (suc n) f = op (f from) (foldFrom op last (from + 1) n f)
 
 -- the cells that statement s reads, or writes, itself
 unfoldable pub ownBy : List ℤ → List ℕ → Bool → ℕ → ℕ
-ownBy f flow w s = accessed w (λ h. getD flow h 0) 0 (statementOf f s)
+ownBy f flow w s = accessed w (λ h. getD flow h 0) (statementOf f s)
 
 -- statement s reads, or writes, cell x itself
 unfoldable pub accesses : List ℤ → List ℕ → Bool → ℕ → ℕ → Bool
@@ -32,9 +33,8 @@ heldAt f flow held x s = cond (accesses f flow reading x s || accesses f flow wr
 -- the cells shared at statement s, from the effects and from the futures, of which those that are written stand `half` places behind
 unfoldable pub sharedBy : List ℤ → List ℕ → List ℕ → List ℕ → ℕ → ℕ → ℕ
 sharedBy f reads writes later half s =
-    byNaming 0
-    (clash (getD reads (named (statementOf f s)) 0) (getD writes (named (statementOf f s)) 0) (getD later s 0) (getD later (half + s) 0))
-    0 (statementOf f s)
+    setOn (starts (view (statementOf f s)))
+    (λ q. clash (getD reads (named (statementOf f s)) 0) (getD writes (named (statementOf f s)) 0) (getD later s 0) (getD later (half + s) 0))
 
 -- statement s is a stray GIVE
 unfoldable pub strayIn : List ℤ → List ℕ → List ℕ → ℕ → Bool

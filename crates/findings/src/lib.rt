@@ -1,4 +1,4 @@
-// What the report says of cells and GIVEs, from the sets of a table. A statement is seen by the fields of its line.
+// What the report says of cells and GIVEs, from the sets of a table. A statement is seen by its view.
 ghost use mathlib.Core.Path.{_≡_};
 ghost use mathlib.Core.Bool.{true};
 ghost use Prim.Native.Nat.{ℕ, _+_, _≤_, _<_, _^_};
@@ -14,6 +14,7 @@ ghost use Rattle.report.specs.Report.{bit};
 ghost use Rattle.findings.specs.Steps.{ownBy, sharedBy, strayIn, unguardedIn};
 ghost use Rattle.findings.specs.NoteLaws.{Noted, NotedAt, Marked};
 use sets::Which;
+use table::Reference;
 
 // 1 or 0.
 fn mark(test: bool) -> usize
@@ -64,16 +65,11 @@ fn note_access(
     requires { ⌜ ((i : ℕ) → 64 ≤ i → getD (now noted) i 0 < 2 ^ 32) ⌝ }
     ensures { λ _. ⌜ NotedAt (λ w. ownBy (now (numbers .entry)) (now (flow .entry)) w s) held (now (noted .entry)) (now (noted .exit)) ⌝ }
 {
-    let op = table::field_of(numbers, line, 1);
-    if op == 1 {
-        let cells = lists::set_at(flow, table::field_of(numbers, line, 2));
-        note(cells, held, 64, noted);
-        return;
-    }
-    if op == 2 {
-        let cells = lists::set_at(flow, table::field_of(numbers, line, 2));
-        note(cells, held, 128, noted);
-    }
+    let v = table::view_at(numbers, line);
+    let reads = v.reads;
+    let writes = v.writes;
+    note(table::set_on(reads, flow), held, 64, noted);
+    note(table::set_on(writes, flow), held, 128, noted);
 }
 
 // Puts a set into the first 64 places of a list of zeros.
@@ -129,16 +125,15 @@ fn shared_at(
     requires { ⌜ half + s < 2 ^ 40 ⌝ }
     ensures { λ x. ⌜ x ≡ sharedBy (now (numbers .entry)) (now (reads .entry)) (now (writes .entry)) (now (later .entry)) half s ⌝ }
 {
-    if table::field_of(numbers, line, 1) == 9 {
-        let q = table::field_of(numbers, line, 2);
-        return clash(
+    match table::started(table::view_at(numbers, line)) {
+        Reference::To(q) => clash(
             lists::set_at(reads, q),
             lists::set_at(writes, q),
             lists::set_at(later, s),
             lists::set_at(later, half + s),
-        );
+        ),
+        Reference::Nothing => 0,
     }
-    0
 }
 
 // The cells shared at some statement, from the effects of the routines; `later` holds the futures, what may be read and then what may be written.
@@ -164,11 +159,15 @@ pub fn is_stray(numbers: &[i32], s: usize, line: usize, flow: &[u64], held: u64)
     requires { ⌜ line ≡ statementLine (now numbers) s ⌝ }
     ensures { λ b. ⌜ b ≡ strayBy (λ h. getD (now (flow .entry)) h 0) held (statementOf (now (numbers .entry)) s) ⌝ }
 {
-    if table::field_of(numbers, line, 1) == 6 {
-        let locks = lists::set_at(flow, table::field_of(numbers, line, 2));
-        return !(sets::is_single(locks) & sets::subset(locks, held));
+    let v = table::view_at(numbers, line);
+    let gives = v.gives;
+    match gives {
+        Reference::To(h) => {
+            let locks = lists::set_at(flow, h);
+            !(sets::is_single(locks) & sets::subset(locks, held))
+        }
+        Reference::Nothing => false,
     }
-    false
 }
 
 // How many statements are stray GIVEs.

@@ -11,7 +11,7 @@ use borrow.Author.Tests.{ltb-true, lt-ltb}
 use Rattle.sets.specs.Set.{has, minus}
 use Rattle.sets.specs.SetLaws.{has-firsts, inside-both}
 use Rattle.sets.specs.Least.{SetList, Edge, plain}
-use Rattle.sets.specs.LeastLaws.{least-holds-start, least-edge, least-induction}
+use Rattle.sets.specs.LeastLaws.{least-sets, least-holds-start, least-edge, least-induction}
 use Rattle.table.specs.Table.{Table, routine, statement, OwnHandle}
 use Rattle.table.specs.Tabulate.{tabulate}
 use Rattle.table.specs.TabulateLaws.{length-tabulate, is-tabulate}
@@ -38,6 +38,7 @@ use Rattle.report.specs.Rules.{Copies, Place, Goes, After, AtReturns, HeldRules
 use Rattle.lock_edges.specs.HeldEdges.{backPlace, givenPlace, flowPlace, otherPlace, everyPlace, placeCount, startAt, metPlace, edgesAt, heldEdges, heldOut}
 use Rattle.lock_edges.specs.StartLaws.{start-early, start-given, start-flow, start-other, start-every, start-below}
 use Rattle.lock_edges.specs.AloneLaws.{alone}
+use Rattle.lock_edges.specs.EdgePlaceLaws.{place-there, entry-there, handle-there, next-there, leads-there, enters}
 
 module _ (t : Table) (k : Layout) (acc : Accepted t) (fits : Fits t k) (flow : List ℕ) (below : (i : ℕ) → getD flow i 0 < 2 ^ 64)
     (given : List ℕ) (given-below : (i : ℕ) → getD given i 0 < 2 ^ 64) where
@@ -59,6 +60,10 @@ module _ (t : Table) (k : Layout) (acc : Accepted t) (fits : Fits t k) (flow : L
   start-out p x l h =
       least-holds-start (placeCount k) (heldEdges t k) start start-sets .at p x (tabulate-has (placeCount k) (startAt t k flow given) p x l h)
 
+  pub out-length : length (heldOut t k flow given) ≡ placeCount k
+  unfolding heldOut
+  out-length = least-sets (placeCount k) (heldEdges t k) start start-sets .places
+
   carries : (e : Edge) → List·Memᴰ e (heldEdges t k) → e .to < placeCount k → (x : ℕ) → Out (e .from) x → Out (e .also) x → Out (e .to) x
   unfolding heldOut
   carries e m l x = least-edge (placeCount k) (heldEdges t k) start start-sets e m l x
@@ -70,21 +75,6 @@ module _ (t : Table) (k : Layout) (acc : Accepted t) (fits : Fits t k) (flow : L
 
   is-lock : (x : ℕ) → x < t .locks → has (allLocks t) x ≡ true
   is-lock x l = has-firsts (t .locks) x locks-64 ∙ lt-ltb x (t .locks) l
-
-  place-there : (c s : ℕ) → Place copies c s → k .statementPlace c s < k .statements
-  place-there c s v = placed t k fits c s v .there
-
-  first-place : (c : ℕ) → c < k .copies → Place copies c (routine t (k .routineOf c) .first)
-  first-place c l =
-      let h : 1 ≤ routine t (k .routineOf c) .count = acc .routine-facts (k .routineOf c) (fits .of-there c l) .some-statement in
-      record { there = l; inside = record { low = omega arith; high = omega arith } }
-
-  entry-there : (c : ℕ) → c < k .copies → entry t k c < k .statements
-  unfolding entry
-  entry-there c l = place-there c _ (first-place c l)
-
-  handle-there : (c h : ℕ) → c < k .copies → OwnHandle t (k .routineOf c) h → k .handlePlace c h < k .handles
-  handle-there c h l o = fits .handle-placed c h l o .there
 
   -- ---- what a statement's edges carry
 
@@ -121,19 +111,9 @@ module _ (t : Table) (k : Layout) (acc : Accepted t) (fits : Fits t k) (flow : L
     unfolding heldEdges edgesAt
     along e m = carries e (List·Memᴰ·tail (among-all t k fits (edgesAt t k) e c s v σ refl m))
 
-    next-there : (n : ℕ) → Goes s σ n → k .statementPlace c n < placeCount k
-    next-there n g = let l : k .statementPlace c n < k .statements = place-there c n (goes-placed t k acc fits c s n v g) in omega arith
-
-    leads-there : (q : ℕ) → Names σ q → d < k .copies
-    leads-there q n = fits .leads-there c s q (v .there) (v .inside) n
-
-    enters : (q : ℕ) → Names σ q → k .statementPlace d (routine t q .first) ≡ entry t k d
-    unfolding entry
-    enters q n = ap (λ (r : ℕ). k .statementPlace d (routine t r .first)) (sym (fits .leads-of c s q (v .there) (v .inside) n))
-
     call-out : (q : ℕ) → calls (view σ) ≡ To q → (x : ℕ) → Out p x → Out (entry t k d) x
     call-out q e x o =
-        let l : entry t k d < k .statements = entry-there d (leads-there q (calls-names (view σ) e)) in
+        let l : entry t k d < k .statements = entry-there t k acc fits d (leads-there t k acc fits c s v q (calls-names (view σ) e)) in
         along (plain p (entry t k d)) (Memᴰ·append-left _ (list-has (calls (view σ)) _ _ e (List·Memᴰ·head refl))) (omega arith) x o o
 
     give-up-out : (q : ℕ) → calls (view σ) ≡ To q → (n : ℕ) → Goes s σ n → (x : ℕ) → Out (backPlace k d) x → Out (givenPlace k d) x → Out (k .statementPlace c n) x
@@ -142,19 +122,19 @@ module _ (t : Table) (k : Layout) (acc : Accepted t) (fits : Fits t k) (flow : L
         (Memᴰ·append-left _
         (list-has (calls (view σ)) _ _ e
         (List·Memᴰ·tail (map-has (λ (n : ℕ). record { from = backPlace k d; also = givenPlace k d; to = k .statementPlace c n }) _ n (goes-next s σ n g)))))
-        (next-there n g) x
+        (next-there t k acc fits c s v n g) x
 
     kept-out : (n : ℕ) → Goes s σ n → (x : ℕ) → Out p x → Out (metPlace k p c s σ) x → Out (k .statementPlace c n) x
     kept-out n g x =
         along (record { from = p; also = metPlace k p c s σ; to = k .statementPlace c n })
         (Memᴰ·append-right callEdges
         (Memᴰ·append-left _ (map-has (λ (n : ℕ). record { from = p; also = metPlace k p c s σ; to = k .statementPlace c n }) _ n (goes-next s σ n g))))
-        (next-there n g) x
+        (next-there t k acc fits c s v n g) x
 
     give-out : (h : ℕ) → view σ .gives ≡ To h → (n : ℕ) → Goes s σ n → (x : ℕ) → FlowHas k flow c h x → Out (k .statementPlace c n) x
     give-out h e n g x m =
         let l : k .handlePlace c h < k .handles =
-        handle-there c h (v .there) (acc .operands (k .routineOf c) s (fits .of-there c (v .there)) (v .inside) .gives h e .own) in
+        handle-there t k acc fits c h (v .there) (acc .operands (k .routineOf c) s (fits .of-there c (v .there)) (v .inside) .gives h e .own) in
         let o : Out (flowPlace k (k .handlePlace c h)) x =
         start-out (flowPlace k (k .handlePlace c h)) x (omega arith) (ap (λ (y : ℕ). has y x) (start-flow t k flow given (k .handlePlace c h) l) ∙ m) in
         along (plain (flowPlace k (k .handlePlace c h)) (k .statementPlace c n))
@@ -162,14 +142,14 @@ module _ (t : Table) (k : Layout) (acc : Accepted t) (fits : Fits t k) (flow : L
         (Memᴰ·append-right keptEdges
         (Memᴰ·append-left _
         (list-has (view σ .gives) _ _ e (map-has (λ (n : ℕ). plain (flowPlace k (k .handlePlace c h)) (k .statementPlace c n)) _ n (goes-next s σ n g))))))
-        (next-there n g) x o o
+        (next-there t k acc fits c s v n g) x o o
 
     every-out : (x : ℕ) → x < t .locks → Out (everyPlace k) x
     every-out x l = start-out (everyPlace k) x (omega arith) (ap (λ (y : ℕ). has y x) (start-every t k flow given) ∙ is-lock x l)
 
     started-out : (q : ℕ) → starts (view σ) ≡ To q → (x : ℕ) → x < t .locks → Out (entry t k d) x
     started-out q e x l =
-        let b : entry t k d < k .statements = entry-there d (leads-there q (starts-names (view σ) e)) in
+        let b : entry t k d < k .statements = entry-there t k acc fits d (leads-there t k acc fits c s v q (starts-names (view σ) e)) in
         along (plain (everyPlace k) (entry t k d))
         (Memᴰ·append-right callEdges
         (Memᴰ·append-right keptEdges (Memᴰ·append-right giveEdges (Memᴰ·append-left _ (list-has (starts (view σ)) _ _ e (List·Memᴰ·head refl))))))
@@ -194,7 +174,7 @@ module _ (t : Table) (k : Layout) (acc : Accepted t) (fits : Fits t k) (flow : L
             → Out (onOr r (λ h. otherPlace k (k .handlePlace c h)) (onOr u (λ q. backPlace k (k .leads c s)) p)) x
         go (To h) e u i =
             let j : k .handlePlace c h < k .handles =
-            handle-there c h (v .there) (acc .operands (k .routineOf c) s (fits .of-there c (v .there)) (v .inside) .takes h e .own) in
+            handle-there t k acc fits c h (v .there) (acc .operands (k .routineOf c) s (fits .of-there c (v .there)) (v .inside) .takes h e .own) in
             start-out (otherPlace k (k .handlePlace c h)) x (omega arith)
             (ap (λ (y : ℕ). has y x) (start-other t k flow given (k .handlePlace c h) j) ∙ minus-has (allLocks t) _ x (is-lock x l) (f h e))
         go Nothing e (To q) i = b q i
@@ -215,7 +195,7 @@ module _ (t : Table) (k : Layout) (acc : Accepted t) (fits : Fits t k) (flow : L
         lose : On (view (statement t s) .gives) (λ h. FlowHas k flow c h x) ⊎ On (calls (view (statement t s))) (λ q. GivesHas given (k .leads c s) x) → ⊥
         lose (inl (h, e, m)) = a .1 (give-out c s v h e n g x m)
         lose (inr (q, e, m)) =
-            let l : k .leads c s < k .copies = leads-there c s v q (calls-names (view (statement t s)) e) in
+            let l : k .leads c s < k .copies = leads-there t k acc fits c s v q (calls-names (view (statement t s)) e) in
             a .1 (give-up-out c s v q e n g x (b q e)
             (start-out (givenPlace k (k .leads c s)) x (omega arith) (ap (λ (y : ℕ). has y x) (start-given t k flow given (k .leads c s) l) ∙ m)))
 
@@ -242,7 +222,7 @@ module _ (t : Table) (k : Layout) (acc : Accepted t) (fits : Fits t k) (flow : L
   unfolding heldEdges
   main-out x l =
       let o : Out (everyPlace k) x = start-out (everyPlace k) x (omega arith) (ap (λ (y : ℕ). has y x) (start-every t k flow given) ∙ is-lock x l) in
-      let b : entry t k (k .first) < k .statements = entry-there (k .first) (fits .first-there) in
+      let b : entry t k (k .first) < k .statements = entry-there t k acc fits (k .first) (fits .first-there) in
       carries (plain (everyPlace k) (entry t k (k .first))) (List·Memᴰ·head refl) (omega arith) x o o
 
   left-rules : HeldRules copies (FlowHas k flow) (GivesHas given) Left
@@ -251,9 +231,9 @@ module _ (t : Table) (k : Layout) (acc : Accepted t) (fits : Fits t k) (flow : L
     locks = λ c s x v a. a .0;
     way = λ c s n x v g a. left-way c s n x v g a;
     by-call = λ c s x q v e a.
-        (a .0, λ o. a .1 (subst (λ (y : ℕ). Out y x) (sym (enters c s v q (calls-names (view (statement t s)) e))) (call-out c s v q e x o)));
+        (a .0, λ o. a .1 (subst (λ (y : ℕ). Out y x) (sym (enters t k acc fits c s v q (calls-names (view (statement t s)) e))) (call-out c s v q e x o)));
     by-start = λ c s x q v e a.
-        a .1 (subst (λ (y : ℕ). Out y x) (sym (enters c s v q (starts-names (view (statement t s)) e))) (started-out c s v q e x (a .0)));
+        a .1 (subst (λ (y : ℕ). Out y x) (sym (enters t k acc fits c s v q (starts-names (view (statement t s)) e))) (started-out c s v q e x (a .0)));
     by-main = λ x a. a .1 (subst (λ (r : ℕ). Out (k .statementPlace (k .first) (routine t r .first)) x) (fits .first-of) (main-out x (a .0)));
   }
 
@@ -311,8 +291,8 @@ module _ (t : Table) (k : Layout) (acc : Accepted t) (fits : Fits t k) (flow : L
   -- the first statement of the copy that a statement names
   entered : (c s q x : ℕ) (v : Place copies c s) → Names (statement t s) q → (Held (k .leads c s) (routine t q .first) x → ⊥) → Off (entry t k (k .leads c s)) x
   entered c s q x v n f =
-      off-before (entry t k (k .leads c s)) x (entry-there (k .leads c s) (leads-there c s v q n))
-      (λ h. f (subst (λ (y : ℕ). has (getD (heldSets t k flow given) y 0) x ≡ true) (sym (enters c s v q n)) h))
+      off-before (entry t k (k .leads c s)) x (entry-there t k acc fits (k .leads c s) (leads-there t k acc fits c s v q n))
+      (λ h. f (subst (λ (y : ℕ). has (getD (heldSets t k flow given) y 0) x ≡ true) (sym (enters t k acc fits c s v q n)) h))
 
   module _ (c s x : ℕ) (v : Place copies c s) where
     abbrev σ′ : Statement
@@ -323,10 +303,10 @@ module _ (t : Table) (k : Layout) (acc : Accepted t) (fits : Fits t k) (flow : L
 
     -- what comes next holds nothing that is not held behind the statement
     off-next : (n : ℕ) → Goes s σ′ n → (After copies (FlowHas k flow) (GivesHas given) Held c s x σ′ → ⊥) → Off (k .statementPlace c n) x
-    off-next n g f = off-before (k .statementPlace c n) x (place-there c n (goes-placed t k acc fits c s n v g)) (λ h. f (rules .way c s n x v g h))
+    off-next n g f = off-before (k .statementPlace c n) x (place-there t k acc fits c n (goes-placed t k acc fits c s n v g)) (λ h. f (rules .way c s n x v g h))
 
     not-held : Off p′ x → Held c s x → ⊥
-    not-held o h = o .before (place-there c s v) h
+    not-held o h = o .before (place-there t k acc fits c s v) h
 
     off-call : (q : ℕ) → calls (view σ′) ≡ To q → (e : Edge)
         → List·Memᴰ e (plain p′ (entry t k (k .leads c s)) ∷ map (λ (n : ℕ). record { from = backPlace k (k .leads c s); also = givenPlace k (k .leads c s); to = k .statementPlace c n }) (nexts s σ′))
@@ -336,7 +316,7 @@ module _ (t : Table) (k : Layout) (acc : Accepted t) (fits : Fits t k) (flow : L
         (entered c s q x v (calls-names (view σ′) i) (λ h. not-held (subst (λ (y : Edge). Off (y .from) x) j o) (rules .by-call c s x q v i h)))
     off-call q i e (List·Memᴰ·tail m) o b =
         let r = map-from (λ (n : ℕ). record { from = backPlace k (k .leads c s); also = givenPlace k (k .leads c s); to = k .statementPlace c n }) (nexts s σ′) e m in
-        let l : k .leads c s < k .copies = leads-there c s v q (calls-names (view σ′) i) in
+        let l : k .leads c s < k .copies = leads-there t k acc fits c s v q (calls-names (view σ′) i) in
         let ob : Off (backPlace k (k .leads c s)) x = subst (λ (y : Edge). Off (y .from) x) (r .2) o in
         let og : Off (givenPlace k (k .leads c s)) x = subst (λ (y : Edge). Off (y .also) x) (r .2) b in
         subst (λ (y : Edge). Off (y .to) x) (sym (r .2)) (off-next (r .0) (next-goes s σ′ (r .0) (r .1)) (go l ob og))
@@ -372,9 +352,9 @@ module _ (t : Table) (k : Layout) (acc : Accepted t) (fits : Fits t k) (flow : L
         go : Off p′ x → Off (metPlace k p′ c s σ′) x → After copies (FlowHas k flow) (GivesHas given) Held c s x σ′ → ⊥
         go op om (inl (inl (h, j, a))) =
             let l : k .handlePlace c h < k .handles =
-            handle-there c h (v .there) (acc .operands (k .routineOf c) s (fits .of-there c (v .there)) (v .inside) .takes h j .own) in
+            handle-there t k acc fits c h (v .there) (acc .operands (k .routineOf c) s (fits .of-there c (v .there)) (v .inside) .takes h j .own) in
             om .other (k .handlePlace c h) l (met-take h j) (only-has _ (below (k .handlePlace c h)) x a)
-        go op om (inl (inr (q, j, a))) = om .back (k .leads c s) (leads-there c s v q (calls-names (view σ′) j)) (met-call q j) a
+        go op om (inl (inr (q, j, a))) = om .back (k .leads c s) (leads-there t k acc fits c s v q (calls-names (view σ′) j)) (met-call q j) a
         go op om (inr (a, f)) = not-held op a
 
     off-give : (h : ℕ) → view σ′ .gives ≡ To h → (e : Edge)
@@ -382,7 +362,7 @@ module _ (t : Table) (k : Layout) (acc : Accepted t) (fits : Fits t k) (flow : L
     off-give h i e m o =
         let r = map-from (λ (n : ℕ). plain (flowPlace k (k .handlePlace c h)) (k .statementPlace c n)) (nexts s σ′) e m in
         let l : k .handlePlace c h < k .handles =
-        handle-there c h (v .there) (acc .operands (k .routineOf c) s (fits .of-there c (v .there)) (v .inside) .gives h i .own) in
+        handle-there t k acc fits c h (v .there) (acc .operands (k .routineOf c) s (fits .of-there c (v .there)) (v .inside) .gives h i .own) in
         let f : FlowHas k flow c h x = subst (λ (y : Edge). Off (y .from) x) (r .2) o .flows (k .handlePlace c h) l refl in
         subst (λ (y : Edge). Off (y .to) x) (sym (r .2)) (off-next (r .0) (next-goes s σ′ (r .0) (r .1)) (go f))
       where
@@ -418,7 +398,7 @@ module _ (t : Table) (k : Layout) (acc : Accepted t) (fits : Fits t k) (flow : L
   off-first : (x : ℕ) → Off (entry t k (k .first)) x
   unfolding entry
   off-first x =
-      off-before (entry t k (k .first)) x (entry-there (k .first) (fits .first-there))
+      off-before (entry t k (k .first)) x (entry-there t k acc fits (k .first) (fits .first-there))
       (λ h. rules .by-main x (subst (λ (r : ℕ). Held (k .first) (routine t r .first) x) (fits .first-of) h))
 
   off-every : (e : Edge) → List·Memᴰ e (heldEdges t k) → (x : ℕ) → Off (e .from) x → Off (e .also) x → Off (e .to) x

@@ -148,3 +148,31 @@ unfolding edgesOf
 ready {ends} {also} a l m p r =
     let h = p .then a [] (record { count = refl; long = l; also-long = m; is = refl }) r in
     record { there = omega (arith, h .count, h .long, r .room); also-there = omega (arith, h .count, h .also-long, r .room); is = h .is }
+
+-- ---- parts of a range of numbers
+
+-- where the parts below i were appended, those below j are then
+pub record Going (part : ℕ → List Edge) (x : Store) (i : ℕ) (y : Store) (j : ℕ) : Type 0 where
+  pub same : length (y .ends) ≡ length (x .ends)
+  pub also-same : length (y .also) ≡ length (x .also)
+  pub then : (z : Store) → Growing part z x i → Growing part z y j
+
+pub going-start : {part : ℕ → List Edge} {x : Store} {i j : ℕ} → i ≡ j → Going part x i x j
+going-start {part} {x} e = record { same = refl; also-same = refl; then = λ z g. subst (Growing part z x) e g }
+
+pub going-next : {part : ℕ → List Edge} {x y z : Store} {i j : ℕ} → Going part x i y j → Appended y z (part j) → Going part x i z (j + 1)
+going-next g a = record {
+  same = a .same ∙ g .same;
+  also-same = a .also-same ∙ g .also-same;
+  then = λ w h. growing-next (g .then w h) a;
+}
+
+pub going-both : {part : ℕ → List Edge} {x y z : Store} {i j k : ℕ} → Going part x i y j → Going part y j z k → Going part x i z k
+going-both g h = record { same = h .same ∙ g .same; also-same = h .also-same ∙ g .also-same; then = λ w a. h .then w (g .then w a) }
+
+pub going-as : {part : ℕ → List Edge} {x y : Store} {i j i′ j′ : ℕ} → i ≡ i′ → j ≡ j′ → Going part x i y j → Going part x i′ y j′
+going-as {part} {x} {y} {i} {j} {i′} {j′} p q g = subst (λ (m : ℕ). Going part x m y j′) p (subst (Going part x i y) q g)
+
+-- all of them
+pub going-done : {part : ℕ → List Edge} {x y : Store} {n : ℕ} → Going part x 0 y n → Appended x y (joinedFrom 0 n part)
+going-done {part} g = g .then _ (growing-start part) .so-far

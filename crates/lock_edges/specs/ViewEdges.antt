@@ -6,8 +6,11 @@ use lib.IntN.{ℤ}
 use lib.ListN.{getD}
 use Rattle.sets.specs.Least.{Edge, plain}
 use Rattle.table.specs.Header.{handles, routines, statements}
+use Rattle.table.specs.Table.{tableOf, statement}
 use Rattle.table.specs.View.{Each, onOr, listOn, when, calls, starts}
 use Rattle.table.specs.declared.View.{View}
+use Rattle.report.specs.Layout.{oneEach}
+use Rattle.lock_edges.specs.HeldEdges.{edgesAt}
 use Rattle.lock_edges.specs.declared.Bases.{Bases}
 use Rattle.lock_edges.specs.declared.Origin.{Origin}
 
@@ -69,3 +72,7 @@ pub record Low (b : Bases) : Type 0 where
   pub flow : b .flow < 1024
   pub other : b .other < 1024
   pub every : b .every < 1024
+
+-- the edges of statement s of a table
+abbrev pub partOf : List ℤ → ℕ → List Edge
+partOf f s = edgesAt (tableOf f) (oneEach (tableOf f)) s (oneEach (tableOf f) .statementCopy s) s (statement (tableOf f) s)

@@ -1,66 +1,32 @@
--- Passes until one changes nothing, and sets turned round. Assumes nothing.
-use mathlib.Core.Path.{_≡_, refl, sym, ap, _∙_, subst}
-use mathlib.Core.Bool.{Bool, true, false}
-use mathlib.Core.List.{List}
-use mathlib.Core.Logic.{⊎-elim}
-use Prim.Native.Nat.{ℕ, _+_, _≤_, _<_}
+-- Sets filled in, and turned round. Assumes nothing.
+use mathlib.Core.Path.{_≡_, refl, sym, ap, ap₂, _∙_, subst}
+use mathlib.Core.List.{List, [], _∷_, _++_}
+use Prim.Native.Nat.{ℕ, _+_, _-_, _^_, _≤_, _<_}
 use native.Mathlib.Nat.{le-refl}
 use native.Mathlib.Omega.{arith}
-use lib.ListN.{length, getD, set}
-use lib.Seq.{getD-set-other}
-use Rattle.sets.specs.Set.{minus}
-use Rattle.sets.specs.Least.{room}
+use lib.IntN.{ℤ}
+use lib.ListN.{length, getD, set, take, drop, replicate, length-replicate}
+use lib.Seq.{getD-set-other, getD-take, length-take-le}
+use borrow.Author.Tests.{lt-ltb, le-ltb}
+use Rattle.sets.specs.Set.{firsts, minus}
+use Rattle.sets.specs.Least.{Edge, edgesOf, least}
+use Rattle.table.specs.Header.{locks, handles, routines, statements}
+use Rattle.table.specs.Table.{Table, tableOf}
 use Rattle.table.specs.Tabulate.{tabulate}
-use Rattle.table.specs.TabulateLaws.{filled-none, filled-next, filled-all}
+use Rattle.table.specs.TabulateLaws.{Filled, zeros-at, filled-none, filled-next, filled-all, length-tabulate, getD-tabulate, is-tabulate}
+use Rattle.table.specs.LookupLaws.{handles-length, routines-length, statements-length}
+use Rattle.table.specs.Accepted.{Accepted}
 use Rattle.report.specs.Greatest.{leaving}
-use Rattle.lock_rules.specs.Rules.{Setting, Closed, Kept, Moved, Solved}
-use Rattle.lock_rules.specs.MoveLaws.{kept-none, kept-then}
-use Rattle.lockset.specs.Settle.{Settling, Turned}
-
--- what is left to do, besides the room: one turn while going on
-unfoldable pub turn : Bool → ℕ
-turn true = 1
-turn false = 0
-
-module _ {e : Setting} where
-  -- ---- passes until one changes nothing
-
-  pub solved-then : {o b o′ b′ o″ b″ : List ℕ} → Kept e o b o′ b′ → Solved e o′ b′ o″ b″ → Solved e o b o″ b″
-  solved-then p q = record { kept = kept-then p (q .kept); closed = q .closed }
-
-  -- a pass that changes nothing shows that the lists are closed
-  pub pass-closes : {o b o′ b′ : List ℕ} {x y : Bool} → y ≡ false → Moved e (Closed e) o b o′ b′ x y → Solved e o b o′ b′
-  pass-closes {o} {b′ = b′} t p = record {
-    kept = p .kept;
-    closed =
-        let v = p .still t in
-        subst (λ (r : List ℕ). Closed e r b′) (sym (v .1)) (subst (λ (r : List ℕ). Closed e o r) (sym (v .2)) (v .3));
-  }
-
-  pub settling-going : {o b o′ b′ : List ℕ} → Kept e o b o′ b′ → Settling e o b o′ b′ true
-  settling-going p = record { kept = p; closed = λ t. absurd (let z : _≡_ {A = ℕ} 0 1 = cc in omega arith) }
-
-  pub settling-closed : {o b o′ b′ : List ℕ} {x : Bool} → Solved e o b o′ b′ → Settling e o b o′ b′ x
-  settling-closed p = record { kept = p .kept; closed = λ t. p .closed }
-
-  pub settling-on : {o b o′ b′ : List ℕ} {x : Bool} → Settling e o b o′ b′ x → Settling e o′ b′ o′ b′ x
-  settling-on p = record { kept = kept-none; closed = p .closed }
-
-  pub settling-next : {o b o′ b′ o″ b″ : List ℕ} {x y z : Bool} → Settling e o b o′ b′ x → Moved e (Closed e) o′ b′ o″ b″ y z → Settling e o b o″ b″ z
-  settling-next p q = record { kept = kept-then (p .kept) (q .kept); closed = λ t. pass-closes t q .closed }
-
-  pub settling-done : {o b o′ b′ : List ℕ} {x : Bool} → x ≡ false → Settling e o b o′ b′ x → Solved e o b o′ b′
-  settling-done t p = record { kept = p .kept; closed = p .closed t }
-
-  -- what is left to do falls with every pass
-  pub settling-less : {o b o′ b′ : List ℕ} {x y : Bool} → x ≡ true → Moved e (Closed e) o b o′ b′ false y
-      → room o′ + room b′ + turn y < room o + room b + turn x
-  unfolding turn
-  settling-less {o} {b} {o′} {b′} {x} {y} t p = subst (λ (z : Bool). room o′ + room b′ + turn y < room o + room b + turn z) (sym t) (go y p)
-    where
-      go : (z : Bool) → Moved e (Closed e) o b o′ b′ false z → room o′ + room b′ + turn z < room o + room b + turn true
-      go true q = ⊎-elim (λ m. absurd (let w : _≡_ {A = ℕ} 0 1 = cc in omega arith)) (λ l. omega arith) (q .moved refl)
-      go false q = omega (arith, q .kept .less)
+use Rattle.report.specs.Layout.{oneEach}
+use Rattle.report.specs.OneEach.{one-each-fits}
+use Rattle.report.specs.Held.{allLocks, onlyLock, heldSets}
+use Rattle.lock_edges.specs.declared.Bases.{Bases}
+use Rattle.lock_edges.specs.ViewEdges.{basesOf}
+use Rattle.lock_edges.specs.HeldEdges.{placeCount, startAt, heldEdges, heldOut}
+use Rattle.lock_edges.specs.HeldEdgeLaws.{out-length, held-is-left}
+use Rattle.lock_edges.specs.StoreLaws.{Ready}
+use Rattle.lockset.specs.Start.{startIn}
+use Rattle.lockset.specs.Settle.{Turned}
 
 -- ---- sets turned round
 
@@ -79,3 +45,106 @@ turned-next {all} {s₀} {s} {p} {v} t l e =
 
 pub turned-done : {all : ℕ} {s₀ s : List ℕ} {p : ℕ} → Turned all s₀ s p → length s ≤ p → s ≡ tabulate (length s₀) (leaving all s₀)
 turned-done {all} {s₀} {s} {p} t h = filled-all (leaving all s₀) s (length s₀) p (t .filled) (omega (arith, t .filled .long))
+
+-- ---- the start
+
+module _ (flow given : List ℕ) (b : Bases) (all p : ℕ) where
+  pub in-early : p < b .given → startIn flow given b all p ≡ 0
+  unfolding startIn
+  in-early l = rw (lt-ltb p (b .given) l)
+
+  pub in-given : b .given ≤ p → p < b .flow → getD given (p - b .given) 0 ≡ startIn flow given b all p
+  unfolding startIn
+  in-given l m = rw (le-ltb p (b .given) l, lt-ltb p (b .flow) m)
+
+  pub in-flow : b .given ≤ p → b .flow ≤ p → p < b .other → getD flow (p - b .flow) 0 ≡ startIn flow given b all p
+  unfolding startIn
+  in-flow l m n = rw (le-ltb p (b .given) l, le-ltb p (b .flow) m, lt-ltb p (b .other) n)
+
+  pub in-other : b .given ≤ p → b .flow ≤ p → b .other ≤ p → p < b .every → minus all (onlyLock (getD flow (p - b .other) 0)) ≡ startIn flow given b all p
+  unfolding startIn
+  in-other l m n o = rw (le-ltb p (b .given) l, le-ltb p (b .flow) m, le-ltb p (b .other) n, lt-ltb p (b .every) o)
+
+  pub in-every : b .given ≤ p → b .flow ≤ p → b .other ≤ p → b .every ≤ p → all ≡ startIn flow given b all p
+  unfolding startIn
+  in-every l m n o = rw (le-ltb p (b .given) l, le-ltb p (b .flow) m, le-ltb p (b .other) n, le-ltb p (b .every) o)
+
+-- zeros are filled as far as nothing is left out
+pub start-filled : (flow given : List ℕ) (b : Bases) (all : ℕ) (s : List ℕ) → s ≡ replicate (length s) 0 → Filled (startIn flow given b all) s (length s) (b .given)
+start-filled flow given b all s z = record {
+  long = refl;
+  holds = λ k l. ap (λ (r : List ℕ). getD r k 0) z ∙ zeros-at (length s) k ∙ sym (in-early flow given b all k l);
+}
+
+pub locks-are : (f : List ℤ) → firsts (locks f) ≡ allLocks (tableOf f)
+unfolding tableOf
+locks-are f = refl
+
+pub zeros-own : {s : List ℕ} (n : ℕ) → s ≡ replicate n 0 → s ≡ replicate (length s) 0
+zeros-own n z = z ∙ ap (λ (m : ℕ). replicate m 0) (sym (ap length z ∙ length-replicate n 0))
+
+take-front : (x y : List ℕ) → take (length x) (x ++ y) ≡ x
+take-front [] y = refl
+take-front (a ∷ x) y = ap (λ (l : List ℕ). a ∷ l) (take-front x y)
+
+-- ---- the whole
+
+module _ (f : List ℤ) (acc : Accepted (tableOf f)) (flow : List ℕ) (below : (i : ℕ) → getD flow i 0 < 2 ^ 64)
+    (given : List ℕ) (given-below : (i : ℕ) → getD given i 0 < 2 ^ 64) where
+  abbrev t : Table
+  t = tableOf f
+
+  count-is : basesOf f .every + 1 ≡ placeCount (oneEach t)
+  unfolding oneEach
+  count-is = rw (handles-length f, routines-length f, statements-length f)
+
+  start-at-is : (p : ℕ) → startIn flow given (basesOf f) (allLocks t) p ≡ startAt t (oneEach t) flow given p
+  unfolding startIn startAt oneEach
+  start-at-is p =
+      let a : statements f + routines f + 0 ≡ statements f + routines f = omega arith in
+      let b : statements f + routines f + routines f + 0 ≡ statements f + routines f + routines f = omega arith in
+      let c : statements f + routines f + routines f + handles f + 0 ≡ statements f + routines f + routines f + handles f = omega arith in
+      rw (handles-length f, routines-length f, statements-length f, a, b, c)
+
+  start-is : tabulate (basesOf f .every + 1) (startIn flow given (basesOf f) (allLocks t)) ≡ tabulate (placeCount (oneEach t)) (startAt t (oneEach t) flow given)
+  start-is =
+      is-tabulate (placeCount (oneEach t)) (startAt t (oneEach t) flow given) _ 0 (length-tabulate (basesOf f .every + 1) _ ∙ count-is)
+      (λ p l. getD-tabulate (basesOf f .every + 1) _ p 0 (omega (arith, count-is)) ∙ start-at-is p)
+
+  -- what the solver leaves
+  pub out-is : {out₀ out₁ out₂ ends also : List ℕ} {n all : ℕ} {b : Bases} → out₀ ≡ replicate (basesOf f .every + 1) 0 → b ≡ basesOf f → all ≡ allLocks t
+      → out₁ ≡ tabulate (length out₀) (startIn flow given b all) → Ready ends also n (heldEdges t (oneEach t))
+      → out₂ ≡ least (edgesOf (take n ends) (take n also)) out₁ → out₂ ≡ heldOut t (oneEach t) flow given
+  unfolding heldOut
+  out-is {out₀} {out₁} {out₂} {ends} {also} {n} {all} {b} z e i o r l =
+      l ∙ ap₂ (λ (es : List Edge) (s : List ℕ). least es s) (r .is)
+      (o ∙ ap₂ (λ (m : ℕ) (g : ℕ → ℕ). tabulate m g) (ap length z ∙ length-replicate (basesOf f .every + 1) 0)
+      (ap₂ (λ (c : Bases) (y : ℕ). startIn flow given c y) e i) ∙ start-is)
+
+  -- and what is left when its first places are turned round
+  held-is : {out turned : List ℕ} {all m : ℕ} → out ≡ heldOut t (oneEach t) flow given → all ≡ allLocks t → m ≡ statements f → m ≤ length out
+      → turned ≡ tabulate (length (take m out)) (leaving all (take m out)) → turned ≡ heldSets t (oneEach t) flow given
+  unfolding leaving oneEach
+  held-is {out} {turned} {all} {m} o i e l y =
+      y
+      ∙ is-tabulate (length (t .statements)) (leaving (allLocks t) (heldOut t (oneEach t) flow given)) _ 0
+      (length-tabulate (length (take m out)) _ ∙ long)
+      (λ p h.
+      getD-tabulate (length (take m out)) _ p 0 (omega (arith, long))
+      ∙ ap₂ minus i (getD-take m out p 0 (omega (arith, statements-length f)) ∙ ap (λ (r : List ℕ). getD r p 0) o))
+      ∙ sym (held-is-left t (oneEach t) acc (one-each-fits t acc) flow below given given-below)
+    where
+      long : length (take m out) ≡ length (t .statements)
+      long = length-take-le m out l ∙ e ∙ sym (statements-length f)
+
+  pub out-long : {out : List ℕ} {m : ℕ} → out ≡ heldOut t (oneEach t) flow given → m ≡ statements f → m ≤ length out
+  unfolding oneEach
+  out-long o e =
+      let l = ap length o ∙ out-length t (oneEach t) acc (one-each-fits t acc) flow below given given-below in
+      omega (arith, l, statements-length f)
+
+  pub held-front : {out turned : List ℕ} (rest : List ℕ) {all m : ℕ} → out ≡ heldOut t (oneEach t) flow given → all ≡ allLocks t → m ≡ statements f
+      → turned ≡ tabulate (length (take m out)) (leaving all (take m out)) → take (statements f) (turned ++ rest) ≡ heldSets t (oneEach t) flow given
+  held-front {out} {turned} rest {all} {m} o i e y =
+      let long : length turned ≡ m = ap length y ∙ length-tabulate (length (take m out)) _ ∙ length-take-le m out (out-long o e) in
+      ap (λ (n : ℕ). take n (turned ++ rest)) (sym (long ∙ e)) ∙ take-front turned rest ∙ held-is o i e (out-long o e) y

@@ -1,6 +1,8 @@
-// The held sets of a table: the greatest sets of locks before each statement, solved from what is left out of them.
+// The held sets of a table: all locks but what is left out of them, which the solver finds.
 ghost use mathlib.Core.Path.{_≡_};
-ghost use lib.ListN.{length, replicate};
+ghost use Prim.Native.Nat.{_+_, _*_, _≤_};
+ghost use lib.ListN.{length, replicate, take};
+ghost use Rattle.sets.specs.Least.{edgesOf, least};
 ghost use Rattle.table.specs.Accepted.{Accepted};
 ghost use Rattle.table.specs.Header.{statements};
 ghost use Rattle.table.specs.Extents.{firstStatements};
@@ -8,54 +10,54 @@ ghost use Rattle.table.specs.Table.{tableOf};
 ghost use Rattle.table.specs.Tabulate.{tabulate};
 ghost use Rattle.report.specs.Greatest.{leaving};
 ghost use Rattle.report.specs.Layout.{oneEach};
-ghost use Rattle.report.specs.Held.{heldSets};
-ghost use Rattle.lock_rules.specs.Rules.{lent, Small, Solved};
-ghost use Rattle.lockset.specs.Settle.{Settling};
-use lock_rules::Fixed;
+ghost use Rattle.report.specs.Held.{onlyLock, heldSets};
+ghost use Rattle.lock_edges.specs.ViewEdges.{basesOf};
+ghost use Rattle.lockset.specs.Start.{startIn};
+use lock_edges::Bases;
+use solver::Order;
 
-// Two passes, and if the second one changed anything, the statements that it leads to. Returns whether more passes are needed.
-fn first_passes(
-    out: &mut [u64],
-    back: &mut [u64; 32],
-    numbers: &[i32],
-    first: &[usize],
-    flow: &[u64],
-    given: &[u64],
-    fixed: Fixed,
-) -> bool
-    requires { ⌜ Small (now first) (fixed .base) ⌝ }
-    ensures { λ c. ⌜ Settling (lent (numbers .entry) (first .entry) (flow .entry) (given .entry) fixed) (now (out .entry)) (now (back .entry)) (now (out .exit)) (now (back .exit)) c ⌝ }
+// The one lock of a flow set; the empty set if it has none or several.
+fn only_lock(flow: u64) -> u64
+    ensures { λ r. ⌜ r ≡ onlyLock flow ⌝ }
 {
-    let mut marks = [0u64; 8];
-    if !lock_passes::pass(out, back, numbers, first, flow, given, fixed, &mut marks) {
-        return false;
-    }
-    let mut changed = [0u64; 8];
-    if !lock_passes::pass(out, back, numbers, first, flow, given, fixed, &mut changed) {
-        return false;
-    }
-    lock_passes::work_through(out, back, numbers, first, flow, given, fixed, &changed);
-    true
+    if sets::is_single(flow) { flow } else { 0 }
 }
 
-// Passes until one changes nothing.
-fn settle(
-    out: &mut [u64],
-    back: &mut [u64; 32],
-    numbers: &[i32],
-    first: &[usize],
-    flow: &[u64],
-    given: &[u64],
-    fixed: Fixed,
-)
-    requires { ⌜ Small (now first) (fixed .base) ⌝ }
-    ensures { λ _. ⌜ Solved (lent (numbers .entry) (first .entry) (flow .entry) (given .entry) fixed) (now (out .entry)) (now (back .entry)) (now (out .exit)) (now (back .exit)) ⌝ }
+// What is left out at place `p` at the start, of the places that no edge leads to.
+fn start_at(flow: &[u64], given: &[u64], bases: Bases, all: u64, p: usize) -> u64
+    requires { ⌜ bases .given ≤ p ⌝ }
+    ensures { λ r. ⌜ r ≡ startIn (now (flow .entry)) (now (given .entry)) bases all p ⌝ }
 {
-    let mut marks = [0u64; 8];
-    let mut going = first_passes(out, back, numbers, first, flow, given, fixed);
-    while going {
-        going = lock_passes::pass(out, back, numbers, first, flow, given, fixed, &mut marks);
+    if p < bases.flow {
+        return lists::set_at(given, p - bases.given);
     }
+    if p < bases.other {
+        return lists::set_at(flow, p - bases.flow);
+    }
+    if p < bases.every {
+        return sets::difference(all, only_lock(lists::set_at(flow, p - bases.other)));
+    }
+    all
+}
+
+// Fills in what is left out at the start.
+fn fill_start(flow: &[u64], given: &[u64], bases: Bases, all: u64, out: &mut [u64])
+    requires { ⌜ now out ≡ replicate (length (now out)) 0 ⌝ }
+    ensures { λ _. ⌜ now (out .exit) ≡ tabulate (length (now (out .entry))) (startIn (now (flow .entry)) (now (given .entry)) bases all) ⌝ }
+{
+    let mut p = bases.given;
+    while p < out.len() {
+        out[p] = start_at(flow, given, bases, all, p);
+        p += 1;
+    }
+}
+
+// Makes the sets the least ones along the first `n` edges.
+fn settle(out: &mut [u64], edges: &[u32], also: &[u16], n: usize)
+    requires { ⌜ (n ≤ length (now edges)) × (n ≤ length (now also)) ⌝ }
+    ensures { λ _. ⌜ now (out .exit) ≡ least (edgesOf (take n (now (edges .entry))) (take n (now (also .entry)))) (now (out .entry)) ⌝ }
+{
+    solver::solve(out, &edges[..n], &also[..n], Order::FirstToLast);
 }
 
 // Turns what is left out at each statement into what is held there.
@@ -69,16 +71,36 @@ fn turn_round(sets: &mut [u64], all: u64)
     }
 }
 
-// Makes a list of empty sets, one a statement, the held sets of a table, from its flow sets and the locks that each routine may give up.
-// `first` has the first statement of each routine.
-pub fn held_sets(numbers: &[i32], first: &[usize], flow: &[u64], given: &[u64], held: &mut [u64])
+// How many places `held_sets` needs.
+pub fn places_of(numbers: &[i32]) -> usize
+    ensures { λ r. ⌜ r ≡ basesOf (now (numbers .entry)) .every + 1 ⌝ }
+{
+    let handles = table::field_of(numbers, 0, 3);
+    let routines = table::field_of(numbers, 0, 4);
+    table::field_of(numbers, 0, 5) + routines + routines + handles + handles + 1
+}
+
+// Leaves in the first places of `out`, a list of empty sets, the held sets of a table, from its flow sets and the locks that each routine may give up.
+// `first` has the first statement of each routine; `edges` and `also` lend the room for edges.
+pub fn held_sets(
+    numbers: &[i32],
+    first: &[usize],
+    flow: &[u64],
+    given: &[u64],
+    edges: &mut [u32],
+    also: &mut [u16],
+    out: &mut [u64],
+)
     requires { ⌜ Accepted (tableOf (now numbers)) ⌝ }
     requires { ⌜ now first ≡ firstStatements (now numbers) ⌝ }
-    requires { ⌜ now held ≡ replicate (statements (now numbers)) 0 ⌝ }
-    ensures { λ _. ⌜ now (held .exit) ≡ heldSets (tableOf (now (numbers .entry))) (oneEach (tableOf (now (numbers .entry)))) (now (flow .entry)) (now (given .entry)) ⌝ }
+    requires { ⌜ (3 * statements (now numbers) + 1 ≤ length (now edges)) × (3 * statements (now numbers) + 1 ≤ length (now also)) ⌝ }
+    requires { ⌜ now out ≡ replicate (basesOf (now numbers) .every + 1) 0 ⌝ }
+    ensures { λ _. ⌜ take (statements (now (numbers .entry))) (now (out .exit)) ≡ heldSets (tableOf (now (numbers .entry))) (oneEach (tableOf (now (numbers .entry)))) (now (flow .entry)) (now (given .entry)) ⌝ }
 {
-    let fixed = lock_rules::fixed_of(numbers);
-    let mut back = [0u64; 32];
-    settle(held, &mut back, numbers, first, flow, given, fixed);
-    turn_round(held, fixed.all);
+    let bases = lock_edges::bases_of(numbers);
+    let all = sets::firsts(table::field_of(numbers, 0, 2));
+    fill_start(flow, given, bases, all, out);
+    let n = lock_edges::fill(numbers, first, edges, also);
+    settle(out, edges, also, n);
+    turn_round(&mut out[..bases.back], all);
 }

@@ -9,6 +9,7 @@ ghost use Rattle.naming.specs.GatherLaws.{Ended};
 use lists::number_at;
 use lists::set_at;
 use sets::Which;
+use table::Reference;
 use table::field_of;
 use table::first_line;
 
@@ -17,12 +18,12 @@ fn named_by(numbers: &[i32], s: usize) -> u64
     requires { ⌜ s < 2 ^ 32 ⌝ }
     ensures { λ x. ⌜ x ≡ namedBy (now (numbers .entry)) s ⌝ }
 {
-    let line = first_line(numbers) + s;
-    let op = field_of(numbers, line, 1);
-    if (op == 8) | (op == 9) {
-        return sets::one(field_of(numbers, line, 2));
+    let v = table::view_at(numbers, first_line(numbers) + s);
+    let names = v.names;
+    match names {
+        Reference::To(q) => sets::one(q),
+        Reference::Nothing => 0,
     }
-    0
 }
 
 // What the statements from `from` on and below `end` name.

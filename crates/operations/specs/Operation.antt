@@ -11,6 +11,7 @@ use Rattle.run_state.specs.Lists.{countsIn, startedIn, ownersIn, countPlace, st
 use Rattle.run_state.specs.Shown.{Entered}
 use Rattle.operations.specs.declared.Place.{Place}
 use Rattle.operations.specs.declared.Move.{Move}
+use Rattle.operations.specs.declared.Move.the-variants.{To, Stopped}
 
 -- a place within the limits of a run
 pub record Placed (at : Place) : Type 0 where
@@ -18,23 +19,21 @@ pub record Placed (at : Place) : Type 0 where
   pub slot-low : at .slot < 512
   pub next-low : at .next < 512
 
--- the step ran, and its frame is at statement s afterwards
-abbrev pub to : ℕ → Move
-to s = record { number = 0; next = s }
+-- the slot is that of its thread's newest frame, of so many that are open
+pub record Newest (at : Place) (count : ℕ) : Type 0 where
+  pub some : 0 < count
+  pub few : count ≤ 32
+  pub slot-is : at .slot + 1 ≡ at .thread * 32 + count
 
 -- the step ran, and its frame goes on
 abbrev pub on : Place → Move
-on at = to (at .next + 1)
-
--- the step was refused, and its frame stays
-abbrev pub stopped : ℕ → Place → Move
-stopped number at = record { number = number; next = at .next }
+on at = To (at .next + 1)
 
 -- TAKE and GIVE of lock k: refused with `number` unless its owner is `needed`, and then nothing changes; else its owner becomes `owner`, and the
 -- thread goes on
 abbrev pub Locked : ℕ → ℕ → ℕ → ℕ → Place → ℕ → Move → List ℕ → List ℕ → Type 0
 Locked number needed owner k at locks r words words′ =
-    record { blocked : getD (ownersIn locks words) k 0 ≡ needed → ⊥; answer-is : r ≡ stopped number at; words-are : words′ ≡ words }
+    record { blocked : getD (ownersIn locks words) k 0 ≡ needed → ⊥; answer-is : r ≡ Stopped number; words-are : words′ ≡ words }
     ⊎ record { free : getD (ownersIn locks words) k 0 ≡ needed; answer-is : r ≡ on at; words-are : words′ ≡ putOwner locks words k owner }
 
 -- CALL: refused with 19 where 32 frames are open, and then nothing changes; else the frame goes on and a new one stands in the next slot
@@ -42,7 +41,7 @@ abbrev pub Called : Table → ℕ → ℕ → ℕ → Arguments → Place → Mo
 Called t first from end arguments at r words words′ values values′ =
     record {
       full : 32 ≤ getD (countsIn words) (at .thread) 0;
-      answer-is : r ≡ stopped 19 at;
+      answer-is : r ≡ Stopped 19;
       words-are : words′ ≡ words;
       values-are : values′ ≡ values;
     }
@@ -58,7 +57,7 @@ abbrev pub Started : Table → ℕ → ℕ → ℕ → Arguments → Place → M
 Started t first from end arguments at r words words′ values values′ registers registers′ =
     record {
       full : 16 ≤ startedIn words;
-      answer-is : r ≡ stopped 18 at;
+      answer-is : r ≡ Stopped 18;
       words-are : words′ ≡ words;
       values-are : values′ ≡ values;
       registers-are : registers′ ≡ registers;

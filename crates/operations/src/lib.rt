@@ -6,11 +6,12 @@ ghost use mathlib.Core.Bool.{cond};
 ghost use Prim.Native.Nat.{_+_, _*_, _-_, _<_, _≤_};
 ghost use lib.IntN.{pos, _+ℤ_};
 ghost use lib.ListN.{getD, set, length};
-ghost use Rattle.table.specs.Table.{tableOf, argumentsIn};
+ghost use Rattle.table.specs.Table.{tableOf};
 ghost use Rattle.machine.specs.Step.{wrap, isZero};
 ghost use Rattle.run_state.specs.Lists.{countsIn, startedIn, accumulatorsIn, cellsIn, countPlace, putCell};
-ghost use Rattle.run_state.specs.Shown.{valuePlace, Reaching, Naming};
-ghost use Rattle.operations.specs.Operation.{Placed, on, to, Locked, Called, Started};
+ghost use Rattle.run_state.specs.Shown.{valuePlace, HandlesThere, Naming};
+ghost use Rattle.operations.specs.declared.Move.the-variants.{To, Closed};
+ghost use Rattle.operations.specs.Operation.{Placed, Newest, on, Locked, Called, Started};
 use numbers::is_zero;
 use numbers::wrapped_sum;
 use run_state::frames::enter;
@@ -18,7 +19,6 @@ use run_state::frames::put_value;
 use run_state::frames::value_of;
 use run_state::places::accumulator_of;
 use run_state::places::cell_at;
-use run_state::places::count_of;
 use run_state::places::go_to;
 use run_state::places::owner_at;
 use run_state::places::put_accumulator;
@@ -27,6 +27,7 @@ use run_state::places::put_count;
 use run_state::places::put_owner;
 use run_state::places::put_started;
 use run_state::places::started_of;
+use table::Arguments;
 use table::Statement;
 
 // What a step is answered with: the statement that ran, the statement that was refused and the number 16 to 19 of its refusal, or that the thread
@@ -37,19 +38,19 @@ pub enum Step {
     Nothing { number: u32 },
 }
 
-// Where a thread stands: its number, the slot of its newest frame, that frame's next statement, and the line of that statement.
+// Where a thread stands: its number, the slot of its newest frame, and that frame's next statement.
 pub struct Place {
     pub thread: usize,
     pub slot: usize,
     pub next: usize,
-    pub line: usize,
 }
 
-// What an operation is answered with: 0 or the number of its refusal, and the statement that its frame is at afterwards. The caller stores the latter;
-// a refused operation changes nothing.
-pub struct Move {
-    pub number: u32,
-    pub next: usize,
+// What an operation leaves: its frame goes to a statement, which the caller stores; its frame is closed; or it was stopped with the number of its
+// refusal, and nothing has changed.
+pub enum Move {
+    To(usize),
+    Closed,
+    Stopped(u32),
 }
 
 // The frame goes on to the next statement.
@@ -57,10 +58,7 @@ fn going_on(at: Place) -> Move
     requires { ⌜ Placed at ⌝ }
     ensures { λ r. ⌜ r ≡ on at ⌝ }
 {
-    Move {
-        number: 0,
-        next: at.next + 1,
-    }
+    Move::To(at.next + 1)
 }
 
 // READ: "accumulator becomes the cell's value".
@@ -122,25 +120,21 @@ fn hand_over(
     number: u32,
     at: Place,
     locks: usize,
-    words: &mut [u16; 545],
+    words: &mut [u32; 545],
 ) -> Move
-    requires { ⌜ Placed at × (locks ≤ 16) × (owner < 65536) ⌝ }
+    requires { ⌜ Placed at × (locks ≤ 16) × (owner < 4294967296) ⌝ }
     ensures { λ r. ⌜ Locked number needed owner k at locks r (now (words .entry)) (now (words .exit)) ⌝ }
 {
-    let next = at.next;
-    let after = next + 1;
+    let after = at.next + 1;
     if owner_at(words, locks, k) != needed {
-        return Move { number, next };
+        return Move::Stopped(number);
     }
     put_owner(words, locks, k, owner);
-    Move {
-        number: 0,
-        next: after,
-    }
+    Move::To(after)
 }
 
 // TAKE: "the free lock becomes this thread's"; 16 where it is held.
-pub fn take(h: usize, at: Place, locks: usize, words: &mut [u16; 545], values: &[u8; 4096]) -> Move
+pub fn take(h: usize, at: Place, locks: usize, words: &mut [u32; 545], values: &[u8; 4096]) -> Move
     requires { ⌜ Placed at × (locks ≤ 16) ⌝ }
     ensures { λ r. ⌜ Locked 16 0 (at .thread + 1) (getD (now (values .entry)) (valuePlace (at .slot) h) 0) at locks r (now (words .entry)) (now (words .exit)) ⌝ }
 {
@@ -150,7 +144,7 @@ pub fn take(h: usize, at: Place, locks: usize, words: &mut [u16; 545], values: &
 }
 
 // GIVE: "this thread's lock becomes free"; 17 where it is not this thread's.
-pub fn give(h: usize, at: Place, locks: usize, words: &mut [u16; 545], values: &[u8; 4096]) -> Move
+pub fn give(h: usize, at: Place, locks: usize, words: &mut [u32; 545], values: &[u8; 4096]) -> Move
     requires { ⌜ Placed at × (locks ≤ 16) ⌝ }
     ensures { λ r. ⌜ Locked 17 (at .thread + 1) 0 (getD (now (values .entry)) (valuePlace (at .slot) h) 0) at locks r (now (words .entry)) (now (words .exit)) ⌝ }
 {
@@ -169,68 +163,64 @@ pub fn point(h: usize, g: usize, at: Place, values: &mut [u8; 4096]) -> Move
     going_on(at)
 }
 
-// CALL: "opens a frame"; 19 where 32 are open. The arguments are read from its line where they are wanted.
+// CALL: "opens a frame"; 19 where 32 are open.
 pub fn call(
     numbers: &[i32],
     first: &[usize; 33],
     handle: &[usize; 33],
     routine: usize,
+    arguments: Arguments,
     at: Place,
-    words: &mut [u16; 545],
+    words: &mut [u32; 545],
     values: &mut [u8; 4096],
 ) -> Move
-    requires { ⌜ Naming (now numbers) (now first) (now handle) routine × Placed at × (at .slot + 1 ≡ at .thread * 32 + getD (countsIn (now words)) (at .thread) 0) × (length (now values) ≡ 4096) × Reaching (now numbers) (at .line) ⌝ }
-    ensures { λ r. ⌜ Called (tableOf (now (numbers .entry))) (getD (now (first .entry)) routine 0) (getD (now (handle .entry)) routine 0) (getD (now (handle .entry)) (routine + 1) 0) (argumentsIn (now (numbers .entry)) (at .line)) at r (now (words .entry)) (now (words .exit)) (now (values .entry)) (now (values .exit)) ⌝ }
+    requires { ⌜ Naming (now numbers) (now first) (now handle) routine × Placed at × Newest at (getD (countsIn (now words)) (at .thread) 0) × (length (now values) ≡ 4096) × HandlesThere (now numbers) ⌝ }
+    ensures { λ r. ⌜ Called (tableOf (now (numbers .entry))) (getD (now (first .entry)) routine 0) (getD (now (handle .entry)) routine 0) (getD (now (handle .entry)) (routine + 1) 0) arguments at r (now (words .entry)) (now (words .exit)) (now (values .entry)) (now (values .exit)) ⌝ }
 {
     let slot = at.slot;
-    let count = count_of(words, at.thread);
-    if 32 <= count {
-        return Move {
-            number: 19,
-            next: at.next,
-        };
+    let older = slot % 32;
+    if 31 <= older {
+        return Move::Stopped(19);
     }
     enter(
         numbers,
         handle[routine],
         handle[routine + 1],
-        at.line,
+        arguments,
         values,
         slot + 1,
         slot,
     );
     go_to(words, slot + 1, first[routine]);
-    put_count(words, at.thread, count + 1);
+    put_count(words, at.thread, older + 2);
     going_on(at)
 }
 
-// START: "adds a thread"; 18 where 16 are started. The arguments are read from its line where they are wanted.
+// START: "adds a thread"; 18 where 16 are started.
 pub fn start(
     numbers: &[i32],
     first: &[usize; 33],
     handle: &[usize; 33],
     routine: usize,
+    arguments: Arguments,
     at: Place,
-    words: &mut [u16; 545],
+    words: &mut [u32; 545],
     values: &mut [u8; 4096],
     registers: &mut [i32; 80],
 ) -> Move
-    requires { ⌜ Naming (now numbers) (now first) (now handle) routine × Placed at × (at .slot < startedIn (now words) * 32) × (length (now values) ≡ 4096) × Reaching (now numbers) (at .line) ⌝ }
-    ensures { λ r. ⌜ Started (tableOf (now (numbers .entry))) (getD (now (first .entry)) routine 0) (getD (now (handle .entry)) routine 0) (getD (now (handle .entry)) (routine + 1) 0) (argumentsIn (now (numbers .entry)) (at .line)) at r (now (words .entry)) (now (words .exit)) (now (values .entry)) (now (values .exit)) (now (registers .entry)) (now (registers .exit)) ⌝ }
+    requires { ⌜ Naming (now numbers) (now first) (now handle) routine × Placed at × (at .slot < startedIn (now words) * 32) × (length (now values) ≡ 4096) × HandlesThere (now numbers) ⌝ }
+    ensures { λ r. ⌜ Started (tableOf (now (numbers .entry))) (getD (now (first .entry)) routine 0) (getD (now (handle .entry)) routine 0) (getD (now (handle .entry)) (routine + 1) 0) arguments at r (now (words .entry)) (now (words .exit)) (now (values .entry)) (now (values .exit)) (now (registers .entry)) (now (registers .exit)) ⌝ }
 {
     let slot = at.slot;
     let n = started_of(words);
     if 16 <= n {
-        return Move {
-            number: 18,
-            next: at.next,
-        };
+        return Move::Stopped(18);
     }
     enter(
         numbers,
         handle[routine],
         handle[routine + 1],
-        at.line,
+        arguments,
         values,
         n * 32,
         slot,
@@ -245,24 +235,20 @@ pub fn start(
 // JUMPZ: "goes there if the accumulator is zero, else on".
 pub fn jump_zero(s: usize, at: Place, registers: &[i32; 80]) -> Move
     requires { ⌜ Placed at ⌝ }
-    ensures { λ r. ⌜ r ≡ to (cond (isZero (getD (accumulatorsIn (now (registers .entry))) (at .thread) (pos 0))) s (at .next + 1)) ⌝ }
+    ensures { λ r. ⌜ r ≡ To (cond (isZero (getD (accumulatorsIn (now (registers .entry))) (at .thread) (pos 0))) s (at .next + 1)) ⌝ }
 {
     if is_zero(accumulator_of(registers, at.thread)) {
-        Move { number: 0, next: s }
+        Move::To(s)
     } else {
         going_on(at)
     }
 }
 
-// RETURN: "closes the frame". Its next statement stays, and is never read again.
-pub fn close(at: Place, words: &mut [u16; 545]) -> Move
-    requires { ⌜ Placed at × (0 < getD (countsIn (now words)) (at .thread) 0) × (getD (countsIn (now words)) (at .thread) 0 ≤ 32) ⌝ }
-    ensures { λ r. ⌜ (r ≡ to (at .next)) × (now (words .exit) ≡ set (now (words .entry)) (countPlace (at .thread)) (getD (countsIn (now (words .entry))) (at .thread) 0 - 1)) ⌝ }
+// RETURN: "closes the frame"; as many stay open as are older.
+pub fn close(at: Place, words: &mut [u32; 545]) -> Move
+    requires { ⌜ Placed at × Newest at (getD (countsIn (now words)) (at .thread) 0) ⌝ }
+    ensures { λ r. ⌜ (r ≡ Closed) × (now (words .exit) ≡ set (now (words .entry)) (countPlace (at .thread)) (getD (countsIn (now (words .entry))) (at .thread) 0 - 1)) ⌝ }
 {
-    let count = count_of(words, at.thread);
-    put_count(words, at.thread, count - 1);
-    Move {
-        number: 0,
-        next: at.next,
-    }
+    put_count(words, at.thread, at.slot % 32);
+    Move::Closed
 }

@@ -1,40 +1,23 @@
 -- The lists as they are filled at first show where a run begins. Assumes nothing.
-use Prim.Native.Nat.{ℕ, zero, suc, _-_, _<_}
+use Prim.Native.Nat.{ℕ, zero, suc, _+_, _<_}
 use mathlib.Core.Path.{_≡_, refl, sym, ap, _∙_, subst}
 use mathlib.Core.List.{List, [], _∷_, map}
 use native.Mathlib.Omega.{arith}
 use lib.IntN.{ℤ, pos}
 use lib.ListN.{length, getD, set, length-set, replicate, length-replicate, getD-replicate}
-use Rattle.table.specs.Table.{Table, tableOf, routine, passed}
+use Rattle.table.specs.Table.{Table, tableOf, routine}
 use Rattle.table.specs.Extents.{firstStatements, firstHandles}
 use Rattle.table.specs.Accepted.{Accepted}
 use Rattle.table.specs.declared.Arguments.{Arguments}
 use Rattle.machine.specs.State.{Holder, free, thread, start}
-use Rattle.run_state.specs.ListLaws.{part-replicate, view-count, view-started}
-use Rattle.run_state.specs.Shown.{Arrays, arrays, view, valuePlace, startValue, holderOf, Shows, ListsShow, Entering, Entered}
+use Rattle.run_state.specs.ListLaws.{part-replicate, parts-count, parts-started}
+use Rattle.run_state.specs.Shown.{Arrays, arrays, partsOf, holderOf, Shows, ListsShow, Entering, Entered}
 use Rattle.run_state.specs.ShownLaws.{ThreadIn, opened-shown}
 use Rattle.run_state.specs.TableLaws.{LookedUp, looked-up, naming}
 
 all-free : (n : ℕ) → replicate n free ≡ map holderOf (replicate n 0)
 all-free zero = refl
 all-free (suc n) = ap (λ (l : List Holder). free ∷ l) (all-free n)
-
-zeros : (n i : ℕ) → _≡_ {A = ℕ} (getD (replicate n 0) i 0) 0
-zeros zero i = refl
-zeros (suc n) zero = refl
-zeros (suc n) (suc i) = zeros n i
-
--- where every value is 0 the arguments do not matter
-any-arguments : (t : Table) (values new : List ℕ) (slot caller from end : ℕ) (a b : Arguments) → ((i : ℕ) → getD values i 0 ≡ 0)
-    → Entered t values new slot caller from end a → Entered t values new slot caller from end b
-unfolding startValue
-any-arguments t values new slot caller from end a b z e =
-    record {
-      long = e .long;
-      set-here = λ h l u. e .set-here h l u ∙ rw (z (valuePlace caller (getD (passed a) (h - from) 0)), z (valuePlace caller (getD (passed b) (h - from) 0)));
-      kept-below = e .kept-below;
-      kept-above = e .kept-above;
-    }
 
 -- nothing is passed to routine 0
 abbrev pub nothing-passed : Arguments
@@ -55,15 +38,13 @@ module _ (numbers : List ℤ) (handle : List ℕ) (accepted : Accepted (tableOf 
       let q = naming numbers (firstStatements numbers) handle 0 accepted (omega (arith, accepted .routines-some)) looked in
       record { accepted = accepted; few = q .few; there = q .there; slot-low = omega arith; caller-low = omega arith; apart = λ e. omega (arith, e) }
 
-  module _ (new : List ℕ) (arguments : Arguments) (given : Entered (tableOf numbers) (replicate 4096 0) new 0 1 (getD handle 0 0) (getD handle 1 0) arguments) where
-    e : Entered (tableOf numbers) (replicate 4096 0) new 0 1 (getD handle 0 0) (getD handle 1 0) nothing-passed
-    e = any-arguments (tableOf numbers) (replicate 4096 0) new 0 1 (getD handle 0 0) (getD handle 1 0) arguments nothing-passed (zeros 4096) given
-
+  module _ (values new : List ℕ) (long : length values ≡ 4096)
+      (e : Entered (tableOf numbers) values new 0 1 (getD handle 0 0) (getD handle 1 0) nothing-passed) where
     shown : Shows (tableOf numbers) (first-arrays (tableOf numbers) new) (start (tableOf numbers))
     unfolding start
     shown =
         record {
-          lengths = record { nexts = length-replicate {A = ℕ} 512 0; values = e .long ∙ length-replicate {A = ℕ} 4096 0; counts = refl; accumulators = refl; cells = length-replicate (tableOf numbers .cells) (pos 0) };
+          lengths = record { nexts = length-replicate {A = ℕ} 512 0; values = e .long ∙ long; counts = refl; accumulators = refl; cells = length-replicate (tableOf numbers .cells) (pos 0) };
           started-is = refl;
           most = omega arith;
           cells-are = refl;
@@ -81,9 +62,9 @@ module _ (numbers : List ℤ) (handle : List ℕ) (accepted : Accepted (tableOf 
               few = omega arith;
               accumulator-is = refl;
               frames = (
-                opened-shown (tableOf numbers) accepted (replicate 512 0) (replicate 4096 0) new [] 0 1 0 nothing-passed (omega (arith, accepted .routines-some)) frame-there
-                    (subst (λ (i : ℕ). Entered (tableOf numbers) (replicate 4096 0) new 0 1 (routine (tableOf numbers) 0 .handle) i nothing-passed) (looked .end-is)
-                    (subst (λ (i : ℕ). Entered (tableOf numbers) (replicate 4096 0) new 0 1 i (getD handle 1 0) nothing-passed) (looked .from-is) e))
+                opened-shown (tableOf numbers) accepted (replicate 512 0) values new [] 0 1 0 nothing-passed (omega (arith, accepted .routines-some)) frame-there
+                    (subst (λ (i : ℕ). Entered (tableOf numbers) values new 0 1 (routine (tableOf numbers) 0 .handle) i nothing-passed) (looked .end-is)
+                    (subst (λ (i : ℕ). Entered (tableOf numbers) values new 0 1 i (getD handle 1 0) nothing-passed) (looked .from-is) e))
                     (λ k b. absurd (omega (arith, accepted .first-parameters))),
                 tt,
               );
@@ -95,12 +76,12 @@ module _ (numbers : List ℤ) (handle : List ℕ) (accepted : Accepted (tableOf 
     begun = subst (λ (a : Arrays). Shows (tableOf numbers) a (start (tableOf numbers))) (sym (both (replicate 545 0) (replicate 80 (pos 0)) refl refl)) shown
       where
         both : (zeros : List ℕ) (registers : List ℤ) → zeros ≡ replicate 545 0 → registers ≡ replicate 80 (pos 0)
-            → view (tableOf numbers) (set (set zeros 512 1) 528 1) new registers ≡ first-arrays (tableOf numbers) new
+            → partsOf (tableOf numbers) (set (set zeros 512 1) 528 1) new registers ≡ first-arrays (tableOf numbers) new
         both zeros registers z r =
             let long : length zeros ≡ 545 = ap length z ∙ length-replicate {A = ℕ} 545 0 in
             let t = tableOf numbers in
-            view-started t (set zeros 512 1) new registers 1 (omega (arith, length-set zeros 512 1))
-            ∙ ap (λ (a : Arrays). arrays 1 (a .nexts) (a .values) (a .counts) (a .accumulators) (a .owners) (a .cells)) (view-count t zeros new registers 0 512 1 (omega arith) refl)
+            parts-started t (set zeros 512 1) new registers 1 (omega (arith, length-set zeros 512 1))
+            ∙ ap (λ (a : Arrays). arrays 1 (a .nexts) (a .values) (a .counts) (a .accumulators) (a .owners) (a .cells)) (parts-count t zeros new registers 0 512 1 (omega arith) refl)
             ∙ rw (
               z,
               r,

@@ -11,7 +11,7 @@ use lib.ListN.{length, getD, take, drop, set, length-take, length-drop, replicat
 use lib.Seq.{getD-take, getD-drop, getD-set-same, getD-set-other, drop-set-add, drop-set-lt, take-set-lt, take-set-le, set-out, ext-getD}
 use Rattle.table.specs.Table.{Table}
 use Rattle.run_state.specs.Lists.{part, put, countPlace, startedPlace, nextsIn, countsIn, startedIn, ownersIn, putOwner, accumulatorsIn, cellsIn, putCell}
-use Rattle.run_state.specs.Shown.{arrays, view}
+use Rattle.run_state.specs.Shown.{arrays, partsOf}
 
 -- ---- one part
 
@@ -93,10 +93,10 @@ started-there words some = go (ltb startedPlace (length words)) refl
 -- ---- the lists after a store
 
 module _ (t : Table) (words values : List ℕ) (registers : List ℤ) where
-  pub view-next : (slot x : ℕ) → slot < 512
-      → view t (set words slot x) values registers
+  pub parts-next : (slot x : ℕ) → slot < 512
+      → partsOf t (set words slot x) values registers
       ≡ arrays (startedIn words) (set (nextsIn words) slot x) values (countsIn words) (accumulatorsIn registers) (ownersIn (t .locks) words) (cellsIn (t .cells) registers)
-  view-next slot x b =
+  parts-next slot x b =
       rw (
         started-kept words slot x (λ e. omega arith),
         part-set 0 512 words slot slot x b (omega arith),
@@ -104,10 +104,10 @@ module _ (t : Table) (words values : List ℕ) (registers : List ℤ) where
         part-below 529 (t .locks) words slot x (omega arith),
       )
 
-  pub view-count : (n j x : ℕ) → n < 16 → j ≡ countPlace n
-      → view t (set words j x) values registers
+  pub parts-count : (n j x : ℕ) → n < 16 → j ≡ countPlace n
+      → partsOf t (set words j x) values registers
       ≡ arrays (startedIn words) (nextsIn words) values (set (countsIn words) n x) (accumulatorsIn registers) (ownersIn (t .locks) words) (cellsIn (t .cells) registers)
-  view-count n j x b e =
+  parts-count n j x b e =
       rw (
         started-kept words j x (λ q. omega arith),
         part-above 0 512 words j x (omega arith),
@@ -115,11 +115,11 @@ module _ (t : Table) (words values : List ℕ) (registers : List ℤ) where
         part-below 529 (t .locks) words j x (omega arith),
       )
 
-  pub view-started : (x : ℕ) → startedPlace < length words
-      → view t (set words startedPlace x) values registers
+  pub parts-started : (x : ℕ) → startedPlace < length words
+      → partsOf t (set words startedPlace x) values registers
       ≡ arrays x (nextsIn words) values (countsIn words) (accumulatorsIn registers) (ownersIn (t .locks) words) (cellsIn (t .cells) registers)
   unfolding startedIn
-  view-started x b =
+  parts-started x b =
       rw (
         getD-set-same words startedPlace x 0 b,
         part-above 0 512 words startedPlace x (omega arith),
@@ -127,10 +127,10 @@ module _ (t : Table) (words values : List ℕ) (registers : List ℤ) where
         part-below 529 (t .locks) words startedPlace x (omega arith),
       )
 
-  pub view-owner : (k x : ℕ)
-      → view t (putOwner (t .locks) words k x) values registers
+  pub parts-owner : (k x : ℕ)
+      → partsOf t (putOwner (t .locks) words k x) values registers
       ≡ arrays (startedIn words) (nextsIn words) values (countsIn words) (accumulatorsIn registers) (set (ownersIn (t .locks) words) k x) (cellsIn (t .cells) registers)
-  view-owner k x =
+  parts-owner k x =
       rw (
         put-kept 529 (t .locks) words startedIn k x (λ j b. started-kept words j x (λ e. omega arith)),
         put-kept 529 (t .locks) words nextsIn k x (λ j b. part-above 0 512 words j x (omega arith)),
@@ -138,15 +138,15 @@ module _ (t : Table) (words values : List ℕ) (registers : List ℤ) where
         part-put 529 (t .locks) words k x,
       )
 
-  pub view-accumulator : (n : ℕ) (x : ℤ) → n < 16
-      → view t words values (set registers n x)
+  pub parts-accumulator : (n : ℕ) (x : ℤ) → n < 16
+      → partsOf t words values (set registers n x)
       ≡ arrays (startedIn words) (nextsIn words) values (countsIn words) (set (accumulatorsIn registers) n x) (ownersIn (t .locks) words) (cellsIn (t .cells) registers)
-  view-accumulator n x b = rw (part-set 0 16 registers n n x b (omega arith), part-below 16 (t .cells) registers n x b)
+  parts-accumulator n x b = rw (part-set 0 16 registers n n x b (omega arith), part-below 16 (t .cells) registers n x b)
 
-  pub view-cell : (k : ℕ) (x : ℤ)
-      → view t words values (putCell (t .cells) registers k x)
+  pub parts-cell : (k : ℕ) (x : ℤ)
+      → partsOf t words values (putCell (t .cells) registers k x)
       ≡ arrays (startedIn words) (nextsIn words) values (countsIn words) (accumulatorsIn registers) (ownersIn (t .locks) words) (set (cellsIn (t .cells) registers) k x)
-  view-cell k x =
+  parts-cell k x =
       rw (
         put-kept 16 (t .cells) registers accumulatorsIn k x (λ j b. part-above 0 16 registers j x (omega arith)),
         part-put 16 (t .cells) registers k x,

@@ -31,8 +31,8 @@ arrays started nexts values counts accumulators owners cells =
     record { started = started; nexts = nexts; values = values; counts = counts; accumulators = accumulators; owners = owners; cells = cells }
 
 -- the lists of a run of a table, apart
-abbrev pub view : Table → List ℕ → List ℕ → List ℤ → Arrays
-view t words values registers =
+abbrev pub partsOf : Table → List ℕ → List ℕ → List ℤ → Arrays
+partsOf t words values registers =
     arrays (startedIn words) (nextsIn words) values (countsIn words) (accumulatorsIn registers) (ownersIn (t .locks) words) (cellsIn (t .cells) registers)
 
 -- the machine's thread that has thread number n in the run: "takes the next thread number"
@@ -85,7 +85,7 @@ pub record Shows (t : Table) (a : Arrays) (state : State) : Type 0 where
 
 -- the lists show a state of the machine, in a run of the table
 abbrev pub ListsShow : Table → List ℕ → List ℕ → List ℤ → State → Type 0
-ListsShow t words values registers state = Shows t (view t words values registers) state
+ListsShow t words values registers state = Shows t (partsOf t words values registers) state
 
 -- the sizes are those that the header of the numbers says
 pub record Sized (numbers : List ℤ) (sizes : Sizes) : Type 0 where
@@ -107,10 +107,9 @@ pub record Standing (numbers : List ℤ) (first handle : List ℕ) (sizes : Size
   pub state : State
   pub shows : ListsShow (tableOf numbers) words values registers state
 
--- a line is there, and so are the lines of the handles
-pub record Reaching (numbers : List ℤ) (line : ℕ) : Type 0 where
-  pub line-there : line * 8 + 8 ≤ length numbers
-  pub handles-there : 8 * length (tableOf numbers .handles) + 8 ≤ length numbers
+-- the lines of the handles are there
+abbrev pub HandlesThere : List ℤ → Type 0
+HandlesThere numbers = 8 * length (tableOf numbers .handles) + 8 ≤ length numbers
 
 -- what handle h refers to in a new frame, with arguments from the frame in slot `caller`
 unfoldable pub startValue : Table → List ℕ → ℕ → ℕ → Arguments → ℕ → ℕ

@@ -19,7 +19,7 @@ use Rattle.table.specs.UntilLaws.{until-range}
 use Rattle.table.specs.Table.{Table, tableOf, declaration, routine, statement, passed, argumentsIn, declarationOf, routineAt, statementOf}
 use Rattle.table.specs.Accepted.{Accepted, HandleFacts}
 use Rattle.table.specs.declared.Arguments.{Arguments}
-use Rattle.run_state.specs.Shown.{Reaching, Naming, valuePlace, startValue}
+use Rattle.run_state.specs.Shown.{HandlesThere, Naming, valuePlace, startValue}
 
 pub declaration-read : (f : List ℤ) (h : ℕ) → h < length (tableOf f .handles) → declaration (tableOf f) h ≡ declarationOf f h
 unfolding tableOf
@@ -34,15 +34,6 @@ unfolding tableOf
 routine-read f r l = getD-tabulate (routines f) (routineAt f) r _ (rw length-tabulate at l)
 
 -- ---- a new frame's values, by a handle's line
-
--- handle k of those that a line passes
-pub argument-said : (f : List ℤ) (line k : ℕ) → k < 4 → field f line (3 + k) ≡ getD (passed (argumentsIn f line)) k 0
-unfolding argumentsIn
-argument-said f line zero l = refl
-argument-said f line (suc zero) l = refl
-argument-said f line (suc (suc zero)) l = refl
-argument-said f line (suc (suc (suc zero))) l = refl
-argument-said f line (suc (suc (suc (suc k)))) l = absurd (omega arith)
 
 module _ (f : List ℤ) (values : List ℕ) (caller from : ℕ) (arguments : Arguments) (h : ℕ) (there : h < length (tableOf f .handles)) where
   same : declaration (tableOf f) h ≡ declarationOf f h
@@ -70,10 +61,10 @@ module _ (f : List ℤ) (values : List ℕ) (caller from : ℕ) (arguments : Arg
       small (inr z) (inl k) = omega (arith, facts .cell-there z k, accepted .cells-most)
       small (inr z) (inr k) = omega (arith, facts .lock-there z k, accepted .locks-most)
 
--- a line of the table is there
-pub reaching : (f : List ℤ) (line : ℕ) → length f ≡ 8 * statementLine f (statements f) → line < statementLine f (statements f) → Reaching f line
+-- the lines of an accepted table's handles are there
+pub handles-there : (f : List ℤ) → length f ≡ 8 * statementLine f (statements f) → HandlesThere f
 unfolding tableOf
-reaching f line e l = record { line-there = omega arith; handles-there = rw length-tabulate (omega arith) }
+handles-there f e = rw length-tabulate (omega arith)
 
 -- what the two lists hold at a routine
 pub record LookedUp (t : Table) (first handle : List ℕ) (r : ℕ) : Type 0 where

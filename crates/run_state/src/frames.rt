@@ -3,9 +3,10 @@
 ghost use mathlib.Core.Path.{_≡_};
 ghost use Prim.Native.Nat.{_+_, _*_, _<_, _≤_};
 ghost use lib.ListN.{getD, set, length};
-ghost use Rattle.table.specs.Table.{tableOf, passed, argumentsIn};
+ghost use Rattle.table.specs.Table.{tableOf, passed};
 ghost use Rattle.table.specs.Accepted.{Accepted};
-ghost use Rattle.run_state.specs.Shown.{valuePlace, Reaching, Entering, Entered, startValue};
+ghost use Rattle.run_state.specs.Shown.{valuePlace, HandlesThere, Entering, Entered, startValue};
+use table::Arguments;
 
 // What handle `h` refers to in the frame in `slot`.
 pub fn value_of(values: &[u8; 4096], slot: usize, h: usize) -> usize
@@ -23,54 +24,61 @@ pub fn put_value(values: &mut [u8; 4096], slot: usize, h: usize, v: usize)
     values[slot * 8 + h % 8] = (v % 256) as u8;
 }
 
-// The handle that the CALL or START in `line` passes for parameter `k`; 0 where there is none.
-fn argument_of(numbers: &[i32], line: usize, k: usize) -> usize
-    requires { ⌜ line * 8 + 8 ≤ length (now numbers) ⌝ }
-    ensures { λ r. ⌜ r ≡ getD (passed (argumentsIn (now (numbers .entry)) line)) k 0 ⌝ }
+// The handle that is passed for parameter `k`; 0 where there is none.
+fn argument_of(arguments: Arguments, k: usize) -> usize
+    ensures { λ r. ⌜ r ≡ getD (passed arguments) k 0 ⌝ }
 {
-    if k < 4 {
-        table::field_in(numbers, line, 3 + k)
-    } else {
-        0
+    if k == 0 {
+        return arguments.first;
     }
+    if k == 1 {
+        return arguments.second;
+    }
+    if k == 2 {
+        return arguments.third;
+    }
+    if k == 3 {
+        return arguments.fourth;
+    }
+    0
 }
 
-// What handle `h` of a routine whose handles begin at `from` refers to in a new frame, with the arguments in `line` from the frame in slot `caller`.
+// What handle `h` of a routine whose handles begin at `from` refers to in a new frame, with arguments from the frame in slot `caller`.
 fn entry_value(
     numbers: &[i32],
     from: usize,
     h: usize,
-    line: usize,
+    arguments: Arguments,
     values: &[u8; 4096],
     caller: usize,
 ) -> usize
-    requires { ⌜ (caller < 512) × (from ≤ h) × (h < length (tableOf (now numbers) .handles)) × Accepted (tableOf (now numbers)) × Reaching (now numbers) line ⌝ }
-    ensures { λ r. ⌜ (r ≡ startValue (tableOf (now (numbers .entry))) (now (values .entry)) caller from (argumentsIn (now (numbers .entry)) line) h) × (r < 256) ⌝ }
+    requires { ⌜ (caller < 512) × (from ≤ h) × (h < length (tableOf (now numbers) .handles)) × Accepted (tableOf (now numbers)) × HandlesThere (now numbers) ⌝ }
+    ensures { λ r. ⌜ (r ≡ startValue (tableOf (now (numbers .entry))) (now (values .entry)) caller from arguments h) × (r < 256) ⌝ }
 {
     if table::field_in(numbers, 1 + h, 3) == 0 {
-        value_of(values, caller, argument_of(numbers, line, h - from))
+        value_of(values, caller, argument_of(arguments, h - from))
     } else {
         table::field_in(numbers, 1 + h, 4)
     }
 }
 
-// Sets the handles `from` to `end`, those of one routine, in the new frame in `slot`: parameters to what the arguments in `line` refer to in the frame
-// in slot `caller`, locals to their starts.
+// Sets the handles `from` to `end`, those of one routine, in the new frame in `slot`: parameters to what the arguments refer to in the frame in slot
+// `caller`, locals to their starts.
 pub fn enter(
     numbers: &[i32],
     from: usize,
     end: usize,
-    line: usize,
+    arguments: Arguments,
     values: &mut [u8; 4096],
     slot: usize,
     caller: usize,
 )
-    requires { ⌜ Entering (tableOf (now numbers)) from end slot caller × (length (now values) ≡ 4096) × Reaching (now numbers) line ⌝ }
-    ensures { λ _. ⌜ Entered (tableOf (now (numbers .entry))) (now (values .entry)) (now (values .exit)) slot caller from end (argumentsIn (now (numbers .entry)) line) ⌝ }
+    requires { ⌜ Entering (tableOf (now numbers)) from end slot caller × (length (now values) ≡ 4096) × HandlesThere (now numbers) ⌝ }
+    ensures { λ _. ⌜ Entered (tableOf (now (numbers .entry))) (now (values .entry)) (now (values .exit)) slot caller from end arguments ⌝ }
 {
     let mut h = from;
     while h < end {
-        let v = entry_value(numbers, from, h, line, values, caller);
+        let v = entry_value(numbers, from, h, arguments, values, caller);
         put_value(values, slot, h, v);
         h += 1;
     }

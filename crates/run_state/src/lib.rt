@@ -14,6 +14,7 @@ ghost use Rattle.table.specs.Accepted.{Accepted};
 ghost use Rattle.machine.specs.State.{start};
 ghost use Rattle.run_state.specs.Lists.{cellsIn};
 ghost use Rattle.run_state.specs.Shown.{ListsShow, Sized};
+use table::Arguments;
 
 // What a step asks of the table's header: the line of statement 0, and how many cells and locks there are.
 pub struct Sizes {
@@ -38,20 +39,26 @@ pub fn sizes_of(numbers: &[i32]) -> Sizes
 pub fn begin(
     numbers: &[i32],
     handle: &[usize; 33],
-    words: &mut [u16; 545],
+    words: &mut [u32; 545],
     values: &mut [u8; 4096],
     registers: &mut [i32; 80],
 )
     requires { ⌜ Accepted (tableOf (now numbers)) × (now handle ≡ firstHandles (now numbers)) × (length (now numbers) ≡ 8 * statementLine (now numbers) (statements (now numbers))) ⌝ }
     ensures { λ _. ⌜ ListsShow (tableOf (now (numbers .entry))) (now (words .exit)) (now (values .exit)) (now (registers .exit)) (start (tableOf (now (numbers .entry)))) ⌝ }
 {
-    *words = [0u16; 545];
+    *words = [0u32; 545];
     *values = [0u8; 4096];
     *registers = [0i32; 80];
     words[512] = 1;
     words[528] = 1;
-    // routine 0 has no parameter, so any line will do for the arguments
-    frames::enter(numbers, handle[0], handle[1], 0, values, 0, 1);
+    // routine 0 has no parameter
+    let nothing = Arguments {
+        first: 0,
+        second: 0,
+        third: 0,
+        fourth: 0,
+    };
+    frames::enter(numbers, handle[0], handle[1], nothing, values, 0, 1);
 }
 
 // Copies the cells' values out.

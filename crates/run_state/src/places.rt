@@ -5,72 +5,74 @@ ghost use lib.IntN.{pos};
 ghost use lib.ListN.{getD, set};
 ghost use Rattle.run_state.specs.Lists.{nextsIn, countsIn, startedIn, ownersIn, accumulatorsIn, cellsIn, countPlace, startedPlace, putOwner, putCell};
 
+fn wide(x: u32) -> usize
+    ensures { λ r. ⌜ r ≡ x ⌝ }
+{
+    x as usize
+}
+
 // The next statement of the frame in `slot`.
-pub fn next_of(words: &[u16; 545], slot: usize) -> usize
+pub fn next_of(words: &[u32; 545], slot: usize) -> usize
     requires { ⌜ slot < 512 ⌝ }
     ensures { λ r. ⌜ r ≡ getD (nextsIn (now (words .entry))) slot 0 ⌝ }
 {
-    lists::wide(words[slot])
+    wide(words[slot])
 }
 
 // Makes `s` the next statement of the frame in `slot`.
-pub fn go_to(words: &mut [u16; 545], slot: usize, s: usize)
-    requires { ⌜ (slot < 512) × (s < 65536) ⌝ }
+pub fn go_to(words: &mut [u32; 545], slot: usize, s: usize)
+    requires { ⌜ (slot < 512) × (s < 4294967296) ⌝ }
     ensures { λ _. ⌜ now (words .exit) ≡ set (now (words .entry)) slot s ⌝ }
 {
-    words[slot] = (s % 65536) as u16;
+    words[slot] = (s % 4_294_967_296) as u32;
 }
 
 // How many frames thread `n` has open.
-pub fn count_of(words: &[u16; 545], n: usize) -> usize
+pub fn count_of(words: &[u32; 545], n: usize) -> usize
     requires { ⌜ n < 16 ⌝ }
     ensures { λ r. ⌜ r ≡ getD (countsIn (now (words .entry))) n 0 ⌝ }
 {
-    lists::wide(words[512 + n])
+    wide(words[512 + n])
 }
 
 // Stores how many frames thread `n` has open.
-pub fn put_count(words: &mut [u16; 545], n: usize, count: usize)
-    requires { ⌜ (n < 16) × (count < 65536) ⌝ }
+pub fn put_count(words: &mut [u32; 545], n: usize, count: usize)
+    requires { ⌜ (n < 16) × (count < 4294967296) ⌝ }
     ensures { λ _. ⌜ now (words .exit) ≡ set (now (words .entry)) (countPlace n) count ⌝ }
 {
-    words[512 + n] = (count % 65536) as u16;
+    words[512 + n] = (count % 4_294_967_296) as u32;
 }
 
 // How many threads are started.
-pub fn started_of(words: &[u16; 545]) -> usize
+pub fn started_of(words: &[u32; 545]) -> usize
     ensures { λ r. ⌜ r ≡ startedIn (now (words .entry)) ⌝ }
 {
-    lists::wide(words[528])
+    wide(words[528])
 }
 
 // Stores how many threads are started.
-pub fn put_started(words: &mut [u16; 545], started: usize)
-    requires { ⌜ started < 65536 ⌝ }
+pub fn put_started(words: &mut [u32; 545], started: usize)
+    requires { ⌜ started < 4294967296 ⌝ }
     ensures { λ _. ⌜ now (words .exit) ≡ set (now (words .entry)) startedPlace started ⌝ }
 {
-    words[528] = (started % 65536) as u16;
+    words[528] = (started % 4_294_967_296) as u32;
 }
 
 // Who holds lock `k` of so many locks: 0 for nobody, else one more than the thread.
-pub fn owner_at(words: &[u16; 545], locks: usize, k: usize) -> usize
+pub fn owner_at(words: &[u32; 545], locks: usize, k: usize) -> usize
     requires { ⌜ locks ≤ 16 ⌝ }
     ensures { λ r. ⌜ r ≡ getD (ownersIn locks (now (words .entry))) k 0 ⌝ }
 {
-    if k < locks {
-        lists::wide(words[529 + k])
-    } else {
-        0
-    }
+    if k < locks { wide(words[529 + k]) } else { 0 }
 }
 
 // Stores who holds lock `k` of so many locks.
-pub fn put_owner(words: &mut [u16; 545], locks: usize, k: usize, owner: usize)
-    requires { ⌜ (locks ≤ 16) × (owner < 65536) ⌝ }
+pub fn put_owner(words: &mut [u32; 545], locks: usize, k: usize, owner: usize)
+    requires { ⌜ (locks ≤ 16) × (owner < 4294967296) ⌝ }
     ensures { λ _. ⌜ now (words .exit) ≡ putOwner locks (now (words .entry)) k owner ⌝ }
 {
     if k < locks {
-        words[529 + k] = (owner % 65536) as u16;
+        words[529 + k] = (owner % 4_294_967_296) as u32;
     }
 }
 

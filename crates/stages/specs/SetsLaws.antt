@@ -1,18 +1,19 @@
 -- The sets of a table, each computed out of those before it, and how many there are of each. Assumes nothing.
-use mathlib.Core.Path.{_≡_, sym, ap, ap₂, _∙_}
+use mathlib.Core.Path.{_≡_, refl, sym, ap, ap₂, _∙_}
 use mathlib.Core.Bool.{true, false}
-use mathlib.Core.List.{List, _++_}
-use Prim.Native.Nat.{ℕ, _-_, _≤_}
+use mathlib.Core.List.{List, [], _∷_, _++_}
+use Prim.Native.Nat.{ℕ, zero, suc, _+_, _*_, _-_, _≤_}
+use native.Mathlib.Nat.{le-of-suc-le-suc}
 use native.Mathlib.Omega.{arith}
 use lib.IntN.{ℤ}
 use lib.ListN.{length, take, drop, replicate, length-append, length-take, length-drop}
-use lib.Seq.{take-at, drop-at}
+use lib.Seq.{take-at}
 use borrow.Rule.Slice.PartMut.{putMid, take-put}
-use Rattle.table.specs.Header.{handles, routines}
+use Rattle.table.specs.Header.{handles, routines, statements}
 use Rattle.table.specs.Table.{Table, tableOf}
 use Rattle.table.specs.Accepted.{Accepted}
 use Rattle.table.specs.CutLaws.{take-replicate}
-use Rattle.table.specs.LookupLaws.{handles-length, routines-length}
+use Rattle.table.specs.LookupLaws.{handles-length, routines-length, statements-length}
 use Rattle.report.specs.Layout.{Layout, oneEach}
 use Rattle.report.specs.Flow.{flowSets}
 use Rattle.report.specs.Effect.{effects, gives}
@@ -85,15 +86,34 @@ zeros-front n work z h = ap (take n) z ∙ take-replicate n (length work) 0 h
 
 -- ---- the held sets in the first places of the lent list, the futures behind them
 
-module _ (n : ℕ) (work held : List ℕ) (fits : n ≤ length work) (e : length held ≡ length (take n work)) where
-  held-long : length held ≡ n
-  held-long = e ∙ length-take n work ∙ omega arith
+take-inside : (n : ℕ) (a b : List ℕ) → n ≤ length a → take n (a ++ b) ≡ take n a
+take-inside zero a b h = refl
+take-inside (suc n) [] b h = absurd (omega arith)
+take-inside (suc n) (x ∷ a) b h = ap (λ (l : List ℕ). x ∷ l) (take-inside n a b (le-of-suc-le-suc h))
 
-  pub behind-long : (end : ℕ) → n ≤ end → end ≤ length work → length (take (end - n) (drop n (held ++ drop n work))) ≡ end - n
-  behind-long end low high =
-      ap (λ (l : List ℕ). length (take (end - n) l)) (drop-at held (drop n work) n held-long)
-      ∙ length-take (end - n) (drop n work) ∙ omega (arith, length-drop n work)
+-- n held sets in the first of m places
+module _ (n m : ℕ) (work out : List ℕ) (fits : m ≤ length work) (among : n ≤ m) (e : length out ≡ length (take m work)) where
+  out-long : length out ≡ m
+  out-long = e ∙ length-take m work ∙ omega arith
 
-  pub held-kept : (k : ℕ) (later : List ℕ) → take n (putMid n k (held ++ drop n work) later) ≡ held
-  held-kept k later =
-      take-put n k (held ++ drop n work) later (omega (arith, length-append held (drop n work), held-long)) ∙ take-at held (drop n work) n held-long
+  all-long : length (out ++ drop m work) ≡ length work
+  all-long = length-append out (drop m work) ∙ omega (arith, out-long, length-drop m work)
+
+  pub behind-long : (end : ℕ) → n ≤ end → end ≤ length work → length (take (end - n) (drop n (out ++ drop m work))) ≡ end - n
+  behind-long end low high = length-take (end - n) (drop n (out ++ drop m work)) ∙ omega (arith, length-drop n (out ++ drop m work), all-long)
+
+  pub held-kept : (k : ℕ) (later : List ℕ) → take n (putMid n k (out ++ drop m work) later) ≡ take n out
+  held-kept k later = take-put n k (out ++ drop m work) later (omega (arith, all-long)) ∙ take-inside n out (drop m work) (omega (arith, out-long))
+
+  pub held-count : n ≡ length (take n out)
+  held-count = sym (length-take n out ∙ omega (arith, out-long))
+
+  pub kept-fits : (k : ℕ) (later : List ℕ) → n ≤ length (putMid n k (out ++ drop m work) later)
+  kept-fits k later = omega (arith, length-take n (putMid n k (out ++ drop m work) later), ap length (held-kept k later), held-count)
+
+-- three edges a statement and one more
+pub also-fits : (f : List ℤ) → Accepted (tableOf f) → 3 * statements f + 1 ≤ 1537
+also-fits f acc = omega (arith, acc .statements-most, statements-length f)
+
+pub edges-fit : (f : List ℤ) → Accepted (tableOf f) → (n : ℕ) → 4 * statements f ≤ n → 3 * statements f + 1 ≤ n
+edges-fit f acc n l = omega (arith, acc .statements-some, statements-length f)

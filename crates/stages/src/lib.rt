@@ -2,7 +2,7 @@
 // are found.
 ghost use mathlib.Core.Path.{_≡_};
 ghost use Prim.Native.Nat.{_+_, _*_, _≤_};
-ghost use lib.ListN.{length, replicate};
+ghost use lib.ListN.{length, replicate, take};
 ghost use Rattle.table.specs.Header.{routines, statements};
 ghost use Rattle.table.specs.Extents.{firstStatements};
 ghost use Rattle.table.specs.Table.{tableOf};
@@ -10,24 +10,34 @@ ghost use Rattle.table.specs.Accepted.{Accepted};
 ghost use Rattle.report.specs.Layout.{oneEach};
 ghost use Rattle.report.specs.Findings.{sharedCells};
 ghost use Rattle.report.specs.Report.{reportText};
+ghost use Rattle.lock_edges.specs.ViewEdges.{basesOf};
 ghost use Rattle.findings.specs.Found.{setsIn};
 ghost use Rattle.report_printer.specs.Printed.{bytesIn, printedOver, countsNothing};
 ghost use Rattle.stages.specs.Lent.{Lent};
 use report_printer::Printed;
 
-// Leaves in `held` what is held at each statement.
-fn find_held(numbers: &[i32], first: &[usize], flow: &[u64], held: &mut [u64], edges: &mut [u32])
+// Leaves in the first places of `out` what is held at each statement.
+fn find_held(numbers: &[i32], first: &[usize], flow: &[u64], out: &mut [u64], edges: &mut [u32])
     requires { ⌜ Accepted (tableOf (now numbers)) ⌝ }
     requires { ⌜ now first ≡ firstStatements (now numbers) ⌝ }
     requires { ⌜ now flow ≡ setsIn (tableOf (now numbers)) .flow ⌝ }
-    requires { ⌜ now held ≡ replicate (statements (now numbers)) 0 ⌝ }
+    requires { ⌜ now out ≡ replicate (basesOf (now numbers) .every + 1) 0 ⌝ }
     requires { ⌜ 4 * statements (now numbers) ≤ length (now edges) ⌝ }
-    ensures { λ _. ⌜ now (held .exit) ≡ setsIn (tableOf (now (numbers .entry))) .held ⌝ }
+    ensures { λ _. ⌜ take (statements (now (numbers .entry))) (now (out .exit)) ≡ setsIn (tableOf (now (numbers .entry))) .held ⌝ }
 {
     let routines = table::field_of(numbers, 0, 4);
     let mut given = [0u64; 32];
     dataflow::given_sets(numbers, first, flow, edges, &mut given[..routines]);
-    lockset::held_sets(numbers, first, flow, &given[..routines], held);
+    let mut also = [0u16; 1537];
+    lockset::held_sets(
+        numbers,
+        first,
+        flow,
+        &given[..routines],
+        edges,
+        &mut also[..],
+        out,
+    );
 }
 
 // The shared cells, from the effects; `later` lends the room for the futures.
@@ -123,7 +133,8 @@ fn with_flow(
     let first = declarations::first_statements(numbers);
     let count = table::field_of(numbers, 0, 5);
     let end = count + 2 * (count + table::field_of(numbers, 0, 4));
-    find_held(numbers, &first[..], flow, &mut work[..count], edges);
+    let places = lockset::places_of(numbers);
+    find_held(numbers, &first[..], flow, &mut work[..places], edges);
     let shared = find_shared(numbers, &first[..], flow, &mut work[count..end], edges);
     print_found(numbers, flow, &work[..count], shared, out)
 }

@@ -7,13 +7,10 @@ use mathlib.Core.Logic.{_⊎_, inl, inr}
 use native.Mathlib.Omega.{arith}
 use lib.IntN.{ℤ, pos, _+ℤ_}
 use lib.ListN.{length, getD, set, length-set}
-use lib.Seq.{set-getD}
 use Rattle.table.specs.Fields.{field}
 use Rattle.table.specs.Header.{statements, statementLine}
-use Rattle.table.specs.Statements.{operation}
 use Rattle.table.specs.TabulateLaws.{length-tabulate}
-use Rattle.table.specs.Table.{Table, tableOf, statement, argumentsIn, statementIn, statementOf, InRoutine}
-use Rattle.table.specs.OperationLaws.{by-operation}
+use Rattle.table.specs.Table.{Table, tableOf, statement, statementIn, statementOf, InRoutine}
 use Rattle.table.specs.Accepted.{Accepted, Operands}
 use Rattle.table.specs.declared.Arguments.{Arguments}
 use Rattle.table.specs.declared.Handle.{Handle}
@@ -24,16 +21,16 @@ use Rattle.machine.specs.State.{State}
 use Rattle.machine.specs.Step.{wrap, isZero}
 use Rattle.run_state.specs.declared.Sizes.{Sizes}
 use Rattle.run_state.specs.Lists.{nextsIn, countsIn, startedIn, ownersIn, accumulatorsIn, cellsIn, countPlace, startedPlace, putCell}
-use Rattle.run_state.specs.ListLaws.{started-there, view-next, view-count, view-started, view-owner, view-accumulator, view-cell}
-use Rattle.run_state.specs.Shown.{Arrays, arrays, view, valuePlace, Shows, Fixed, Standing, Reaching, Naming}
-use Rattle.run_state.specs.TableLaws.{statement-read, reaching, LookedUp, looked-up, naming}
+use Rattle.run_state.specs.ListLaws.{started-there, parts-next, parts-count, parts-started, parts-owner, parts-accumulator, parts-cell}
+use Rattle.run_state.specs.Shown.{Arrays, arrays, partsOf, valuePlace, Shows, Fixed, Standing, HandlesThere, Naming}
+use Rattle.run_state.specs.TableLaws.{statement-read, handles-there, LookedUp, looked-up, naming}
 use Rattle.operations.specs.declared.Place.{Place}
 use Rattle.operations.specs.declared.Move.{Move}
+use Rattle.operations.specs.declared.Move.the-variants.{To, Closed, Stopped}
 use Rattle.operations.specs.declared.Step.{Step}
 use Rattle.operations.specs.declared.Step.the-variants.{Ran, Refused}
-use Rattle.operations.specs.Step.{answeredAt}
-use Rattle.operations.specs.Operation.{Placed, on, to, stopped, Locked, Called, Started}
-use Rattle.steps.specs.Stepped.{Stepped, Here, Operated}
+use Rattle.operations.specs.Operation.{Placed, on, Locked, Called, Started}
+use Rattle.steps.specs.Stepped.{Stepped, Here, stored, Storable, answerBy, Operated}
 use Rattle.steps.specs.StepLaws.{Top, top, placed, read-step, write-step, set-step, add-step, jump-step, jump-zero-step, return-step, take-refused, take-step, give-refused, give-step, point-step, call-refused, call-step, start-refused, start-step}
 
 -- the statement of a line is the table's
@@ -71,7 +68,7 @@ module _ (numbers : List ℤ) (first handle : List ℕ) (sizes : Sizes) (words v
   pub lined : (next : ℕ) → next ≡ getD (nextsIn words) (n * 32 + count - 1) 0 → Lined numbers (sizes .base + next)
   unfolding tableOf
   lined next q =
-      let p = top (tableOf numbers) (view (tableOf numbers) words values registers) (s .state) n (n * 32 + count - 1) (s .shows) inside some-open newest-is in
+      let p = top (tableOf numbers) (partsOf (tableOf numbers) words values registers) (s .state) n (n * 32 + count - 1) (s .shows) inside some-open newest-is in
       let accepted = s .fixed .accepted in
       let facts = accepted .routine-facts (p .f .routine) (p .shown .there) in
       let within : next < statements numbers = omega (arith, q ∙ p .shown .next-is, p .shown .inside .high, rw length-tabulate at (facts .statements-there)) in
@@ -89,49 +86,17 @@ module _ (numbers : List ℤ) (first handle : List ℕ) (sizes : Sizes) (words v
 
   pub here-at : (next : ℕ) (σ : Statement) → next ≡ getD (nextsIn words) (n * 32 + count - 1) 0
       → σ ≡ statementIn numbers (sizes .base + next) (field numbers (sizes .base + next) 1)
-      → Here numbers first handle sizes words values registers (record { thread = n; slot = n * 32 + count - 1; next = next; line = sizes .base + next }) σ
+      → Here numbers first handle sizes words values registers (record { thread = n; slot = n * 32 + count - 1; next = next }) σ
   here-at next σ q e =
       record {
         standing = s;
         low = inside;
-        some = some-open;
-        slot-is = newest-is;
+        newest = record { some = some-open; few = s .shows .thread-is n inside .few; slot-is = newest-is };
         next-is = q;
-        line-is = omega (arith, s .fixed .sized .base-is);
         statement-is = line-said numbers (sizes .base) next σ (s .fixed .sized .base-is) e;
       }
 
--- what a CALL or START passes is what its line passes
-Passing : Arguments → Statement → Type 0
-Passing arguments (Read h) = Unit {0}
-Passing arguments (Write h) = Unit {0}
-Passing arguments (Set x) = Unit {0}
-Passing arguments (Add x) = Unit {0}
-Passing arguments (Take h) = Unit {0}
-Passing arguments (Give h) = Unit {0}
-Passing arguments (Point h g) = Unit {0}
-Passing arguments (Call q a) = arguments ≡ a
-Passing arguments (Start q a) = arguments ≡ a
-Passing arguments (Jump s) = Unit {0}
-Passing arguments (JumpZero s) = Unit {0}
-Passing arguments Return = Unit {0}
-
-passing : (f : List ℤ) (line op : ℕ) → Passing (argumentsIn f line) (statementIn f line op)
-unfolding Passing
-passing f line op =
-    by-operation f line (λ o σ. Passing (argumentsIn f line) σ) tt tt tt tt tt tt tt refl refl tt tt (λ o. tt) op
-
--- the arguments of a CALL or START are those in its line
-arguments-read : (f : List ℤ) (s q : ℕ) (a : Arguments) (σ : Statement) → σ ≡ statementOf f s → (σ ≡ Call q a) ⊎ (σ ≡ Start q a) → argumentsIn f (statementLine f s) ≡ a
-unfolding Passing statementOf
-arguments-read f s q a σ e (inl k) = subst (Passing (argumentsIn f (statementLine f s))) (sym e ∙ k) (passing f (statementLine f s) (operation f s))
-arguments-read f s q a σ e (inr k) = subst (Passing (argumentsIn f (statementLine f s))) (sym e ∙ k) (passing f (statementLine f s) (operation f s))
-
 -- ---- at the statement
-
--- x becomes the next statement of the frame in a slot
-abbrev stored : Arrays → ℕ → ℕ → Arrays
-stored a slot x = arrays (a .started) (set (a .nexts) slot x) (a .values) (a .counts) (a .accumulators) (a .owners) (a .cells)
 
 module _ (numbers : List ℤ) (first handle : List ℕ) (sizes : Sizes) (words values : List ℕ) (registers : List ℤ) (at : Place) (σ : Statement)
     (here : Here numbers first handle sizes words values registers at σ) where
@@ -139,7 +104,7 @@ module _ (numbers : List ℤ) (first handle : List ℕ) (sizes : Sizes) (words v
   t = tableOf numbers
 
   abbrev a : Arrays
-  a = view (tableOf numbers) words values registers
+  a = partsOf (tableOf numbers) words values registers
 
   abbrev fixed : Fixed numbers first handle sizes
   fixed = here .standing .fixed
@@ -147,9 +112,9 @@ module _ (numbers : List ℤ) (first handle : List ℕ) (sizes : Sizes) (words v
   abbrev accepted : Accepted (tableOf numbers)
   accepted = here .standing .fixed .accepted
 
-  module _ (state : State) (s : Shows (tableOf numbers) (view (tableOf numbers) words values registers) state) where
-    abbrev p : Top (tableOf numbers) (view (tableOf numbers) words values registers) state (at .thread) (at .slot)
-    p = top t a state (at .thread) (at .slot) s (here .low) (here .some) (here .slot-is)
+  module _ (state : State) (s : Shows (tableOf numbers) (partsOf (tableOf numbers) words values registers) state) where
+    abbrev p : Top (tableOf numbers) (partsOf (tableOf numbers) words values registers) state (at .thread) (at .slot)
+    p = top t a state (at .thread) (at .slot) s (here .low) (here .newest .some) (here .newest .slot-is)
 
     stands-at : at .next ≡ p .f .next
     stands-at = here .next-is ∙ p .shown .next-is
@@ -166,15 +131,15 @@ module _ (numbers : List ℤ) (first handle : List ℕ) (sizes : Sizes) (words v
 
   -- ---- what the operations ask
 
-  abbrev shown-here : Shows (tableOf numbers) (view (tableOf numbers) words values registers) (here .standing .state)
+  abbrev shown-here : Shows (tableOf numbers) (partsOf (tableOf numbers) words values registers) (here .standing .state)
   shown-here = here .standing .shows
 
-  abbrev stands : Top (tableOf numbers) (view (tableOf numbers) words values registers) (here .standing .state) (at .thread) (at .slot)
+  abbrev stands : Top (tableOf numbers) (partsOf (tableOf numbers) words values registers) (here .standing .state) (at .thread) (at .slot)
   stands = p (here .standing .state) shown-here
 
   pub placed-here : Placed at
   placed-here =
-      let q = placed t accepted a (here .standing .state) (at .thread) (at .slot) shown-here (here .low) stands (at .line) in
+      let q = placed t accepted a (here .standing .state) (at .thread) (at .slot) shown-here (here .low) stands in
       record { thread-low = q .thread-low; slot-low = q .slot-low; next-low = subst (λ (i : ℕ). i < 512) (sym (stands-at (here .standing .state) shown-here)) (q .next-low) }
 
   pub cells-few : sizes .cells ≤ 64
@@ -183,36 +148,21 @@ module _ (numbers : List ℤ) (first handle : List ℕ) (sizes : Sizes) (words v
   pub locks-few : sizes .locks ≤ 16
   locks-few = omega (arith, fixed .sized .locks-are, accepted .locks-most)
 
-  pub count-few : getD (countsIn words) (at .thread) 0 ≤ 32
-  count-few = shown-here .thread-is (at .thread) (here .low) .few
-
   pub values-long : length values ≡ 4096
   values-long = shown-here .lengths .values
 
   pub slot-below : at .slot < startedIn words * 32
   slot-below = omega (arith, here .low, stands .slot-is, stands .few)
 
-  pub line-there : Reaching numbers (at .line)
-  unfolding tableOf
-  line-there =
-      reaching numbers (at .line) (fixed .long)
-      (omega (
-        arith,
-        here .line-is,
-        stands-at (here .standing .state) shown-here,
-        stands .shown .inside .high,
-        rw length-tabulate at (accepted .routine-facts (stands .f .routine) (stands .shown .there) .statements-there),
-      ))
-
-  passes : (q : ℕ) (arguments : Arguments) → (σ ≡ Call q arguments) ⊎ (σ ≡ Start q arguments) → argumentsIn numbers (at .line) ≡ arguments
-  passes q arguments e = ap (argumentsIn numbers) (here .line-is) ∙ arguments-read numbers (at .next) q arguments σ (here .statement-is) e
+  pub lines-there : HandlesThere numbers
+  lines-there = handles-there numbers (fixed .long)
 
   target-low : (s : ℕ) → InRoutine (tableOf numbers) (stands .f .routine) s → s < 512
   target-low s i = omega (arith, i .high, accepted .routine-facts (stands .f .routine) (stands .shown .there) .statements-there, accepted .statements-most)
 
   pub routine-there : (q : ℕ) (arguments : Arguments) → (σ ≡ Call q arguments) ⊎ (σ ≡ Start q arguments) → q < length (tableOf numbers .routines)
-  routine-there q arguments (inl e) = operands (here .standing .state) shown-here (Call q arguments) e .there
-  routine-there q arguments (inr e) = operands (here .standing .state) shown-here (Start q arguments) e .there
+  routine-there q arguments (inl e) = operands (here .standing .state) shown-here (Call q arguments) e .passes q refl .there
+  routine-there q arguments (inr e) = operands (here .standing .state) shown-here (Start q arguments) e .passes q refl .there
 
   looked : (q : ℕ) → q < length (tableOf numbers .routines) → LookedUp (tableOf numbers) first handle q
   looked q l = looked-up numbers first handle q accepted (fixed .first-is) (fixed .handle-is) l
@@ -222,45 +172,48 @@ module _ (numbers : List ℤ) (first handle : List ℕ) (sizes : Sizes) (words v
 
   -- ---- what the operations leave
 
-  -- by what the lists hold after the operation, before the frame's next statement is stored
-  left : (words′ values′ : List ℕ) (registers′ : List ℤ) (r m : Move) (new : Arrays) (answer : Step) → r ≡ m → m .next < 65536
-      → view (tableOf numbers) words′ values′ registers′ ≡ new → answeredAt (m .number) σ ≡ answer
-      → ((state : State) (s : Shows (tableOf numbers) (view (tableOf numbers) words values registers) state) → Stepped (tableOf numbers) (stored new (at .slot) (m .next)) state (at .thread) answer)
+  -- by what the lists hold after the operation and the store
+  left : (words′ values′ : List ℕ) (registers′ : List ℤ) (r m : Move) (new : Arrays) (answer : Step) → r ≡ m → Storable m
+      → partsOf (tableOf numbers) (stored (at .slot) m words′) values′ registers′ ≡ new → answerBy m σ ≡ answer
+      → ((state : State) (s : Shows (tableOf numbers) (partsOf (tableOf numbers) words values registers) state) → Stepped (tableOf numbers) new state (at .thread) answer)
       → Operated (tableOf numbers) words values registers words′ values′ registers′ at σ r
   left words′ values′ registers′ r m new answer e l v k did =
       subst (λ (q : Move). Operated t words values registers words′ values′ registers′ at σ q) (sym e)
       (record {
-        small = l;
+        storable = l;
         steps = λ state s.
-            subst (λ (x : Step). Stepped t (view t (set words′ (at .slot) (m .next)) values′ registers′) state (at .thread) x) (sym k)
-            (subst (λ (b : Arrays). Stepped t b state (at .thread) answer)
-            (sym (view-next t words′ values′ registers′ (at .slot) (m .next) (placed-here .slot-low) ∙ ap (λ (b : Arrays). stored b (at .slot) (m .next)) v)) (did state s));
+            subst (λ (x : Step). Stepped t (partsOf t (stored (at .slot) m words′) values′ registers′) state (at .thread) x) (sym k)
+            (subst (λ (b : Arrays). Stepped t b state (at .thread) answer) (sym v) (did state s));
       })
 
-  next-small : at .next + 1 < 65536
+  went-to : (words′ values′ : List ℕ) (registers′ : List ℤ) (r : Move) (x : ℕ) (new : Arrays) (τ : Statement) → σ ≡ τ → r ≡ To x → x < 4294967296
+      → partsOf (tableOf numbers) words′ values′ registers′ ≡ new
+      → ((state : State) (s : Shows (tableOf numbers) (partsOf (tableOf numbers) words values registers) state)
+      → Stepped (tableOf numbers) (arrays (new .started) (set (new .nexts) (at .slot) x) (new .values) (new .counts) (new .accumulators) (new .owners) (new .cells)) state (at .thread) (Ran τ))
+      → Operated (tableOf numbers) words values registers words′ values′ registers′ at σ r
+  went-to words′ values′ registers′ r x new τ e q l v did =
+      left words′ values′ registers′ r (To x) _ (Ran τ) q l
+      (parts-next t words′ values′ registers′ (at .slot) x (placed-here .slot-low)
+      ∙ ap (λ (b : Arrays). arrays (b .started) (set (b .nexts) (at .slot) x) (b .values) (b .counts) (b .accumulators) (b .owners) (b .cells)) v)
+      (ap Ran e) did
+
+  next-small : at .next + 1 < 4294967296
   next-small = omega (arith, placed-here .next-low)
 
   went-on : (words′ values′ : List ℕ) (registers′ : List ℤ) (r : Move) (new : Arrays) (τ : Statement) → σ ≡ τ → r ≡ on at
-      → view (tableOf numbers) words′ values′ registers′ ≡ new
-      → ((state : State) (s : Shows (tableOf numbers) (view (tableOf numbers) words values registers) state)
-      → Stepped (tableOf numbers) (stored new (at .slot) (at .next + 1)) state (at .thread) (Ran τ))
+      → partsOf (tableOf numbers) words′ values′ registers′ ≡ new
+      → ((state : State) (s : Shows (tableOf numbers) (partsOf (tableOf numbers) words values registers) state)
+      → Stepped (tableOf numbers) (arrays (new .started) (set (new .nexts) (at .slot) (at .next + 1)) (new .values) (new .counts) (new .accumulators) (new .owners) (new .cells)) state (at .thread) (Ran τ))
       → Operated (tableOf numbers) words values registers words′ values′ registers′ at σ r
-  went-on words′ values′ registers′ r new τ e q v did = left words′ values′ registers′ r (on at) new (Ran τ) q next-small v (ap Ran e) did
+  went-on words′ values′ registers′ r new τ e q v did = went-to words′ values′ registers′ r (at .next + 1) new τ e q next-small v did
 
-  -- the frame's next statement stored again
-  same : (b : Arrays) → b .nexts ≡ nextsIn words → stored b (at .slot) (at .next) ≡ b
-  same b e =
-      ap (λ (l : List ℕ). arrays (b .started) l (b .values) (b .counts) (b .accumulators) (b .owners) (b .cells))
-      (ap (λ (i : ℕ). set (b .nexts) (at .slot) i) (here .next-is ∙ ap (λ (l : List ℕ). getD l (at .slot) 0) (sym e)) ∙ set-getD (b .nexts) (at .slot) 0)
-
-  was-refused : (number : ℕ) (words′ values′ : List ℕ) (registers′ : List ℤ) (r : Move) (τ : Statement) → σ ≡ τ → answeredAt number σ ≡ Refused number σ → r ≡ stopped number at
+  was-refused : (number : ℕ) (words′ values′ : List ℕ) (registers′ : List ℤ) (r : Move) (τ : Statement) → σ ≡ τ → r ≡ Stopped number
       → words′ ≡ words → values′ ≡ values → registers′ ≡ registers
-      → ((state : State) (s : Shows (tableOf numbers) (view (tableOf numbers) words values registers) state)
-      → Stepped (tableOf numbers) (view (tableOf numbers) words values registers) state (at .thread) (Refused number τ))
+      → ((state : State) (s : Shows (tableOf numbers) (partsOf (tableOf numbers) words values registers) state)
+      → Stepped (tableOf numbers) (partsOf (tableOf numbers) words values registers) state (at .thread) (Refused number τ))
       → Operated (tableOf numbers) words values registers words′ values′ registers′ at σ r
-  was-refused number words′ values′ registers′ r τ e k q x y z did =
-      left words′ values′ registers′ r (stopped number at) a (Refused number τ) q (omega (arith, placed-here .next-low)) (rw (x, y, z)) (k ∙ ap (Refused number) e)
-      (λ state s. subst (λ (b : Arrays). Stepped t b state (at .thread) (Refused number τ)) (sym (same a refl)) (did state s))
+  was-refused number words′ values′ registers′ r τ e q x y z did =
+      left words′ values′ registers′ r (Stopped number) a (Refused number τ) q tt (rw (x, y, z)) (ap (Refused number) e) did
 
   pub did-read : (h : Handle) (registers′ : List ℤ) (r : Move) → σ ≡ Read h → r ≡ on at
       → registers′ ≡ set registers (at .thread) (getD (cellsIn (sizes .cells) registers) (getD values (valuePlace (at .slot) (h .number)) 0) (pos 0))
@@ -268,8 +221,8 @@ module _ (numbers : List ℤ) (first handle : List ℕ) (sizes : Sizes) (words v
   did-read h registers′ r e q x =
       let value : ℕ → ℤ = λ cells. getD (cellsIn cells registers) (getD values (valuePlace (at .slot) (h .number)) 0) (pos 0) in
       went-on words values registers′ r _ (Read h) e q
-      (ap (λ (l : List ℤ). view t words values l) (x ∙ ap (λ (cells : ℕ). set registers (at .thread) (value cells)) (fixed .sized .cells-are))
-      ∙ view-accumulator t words values registers (at .thread) (value (t .cells)) (placed-here .thread-low))
+      (ap (λ (l : List ℤ). partsOf t words values l) (x ∙ ap (λ (cells : ℕ). set registers (at .thread) (value cells)) (fixed .sized .cells-are))
+      ∙ parts-accumulator t words values registers (at .thread) (value (t .cells)) (placed-here .thread-low))
       (λ state s. read-step t accepted a state (at .thread) (at .slot) s (here .low) (p state s) (at .next) (stands-at state s) h (is state s (Read h) e))
 
   pub did-write : (h : Handle) (registers′ : List ℤ) (r : Move) → σ ≡ Write h → r ≡ on at
@@ -279,14 +232,14 @@ module _ (numbers : List ℤ) (first handle : List ℕ) (sizes : Sizes) (words v
       let k = getD values (valuePlace (at .slot) (h .number)) 0 in
       let value = getD (accumulatorsIn registers) (at .thread) (pos 0) in
       went-on words values registers′ r _ (Write h) e q
-      (ap (λ (l : List ℤ). view t words values l) (x ∙ ap (λ (cells : ℕ). putCell cells registers k value) (fixed .sized .cells-are)) ∙ view-cell t words values registers k value)
+      (ap (λ (l : List ℤ). partsOf t words values l) (x ∙ ap (λ (cells : ℕ). putCell cells registers k value) (fixed .sized .cells-are)) ∙ parts-cell t words values registers k value)
       (λ state s. write-step t accepted a state (at .thread) (at .slot) s (here .low) (p state s) (at .next) (stands-at state s) h (is state s (Write h) e))
 
   pub did-set : (number : ℤ) (registers′ : List ℤ) (r : Move) → σ ≡ Set number → r ≡ on at → registers′ ≡ set registers (at .thread) number
       → Operated (tableOf numbers) words values registers words values registers′ at σ r
   did-set number registers′ r e q x =
       went-on words values registers′ r _ (Set number) e q
-      (ap (λ (l : List ℤ). view t words values l) x ∙ view-accumulator t words values registers (at .thread) number (placed-here .thread-low))
+      (ap (λ (l : List ℤ). partsOf t words values l) x ∙ parts-accumulator t words values registers (at .thread) number (placed-here .thread-low))
       (λ state s. set-step t accepted a state (at .thread) (at .slot) s (here .low) (p state s) (at .next) (stands-at state s) number (is state s (Set number) e))
 
   pub did-add : (number : ℤ) (registers′ : List ℤ) (r : Move) → σ ≡ Add number → r ≡ on at
@@ -294,8 +247,8 @@ module _ (numbers : List ℤ) (first handle : List ℕ) (sizes : Sizes) (words v
       → Operated (tableOf numbers) words values registers words values registers′ at σ r
   did-add number registers′ r e q x =
       went-on words values registers′ r _ (Add number) e q
-      (ap (λ (l : List ℤ). view t words values l) x
-      ∙ view-accumulator t words values registers (at .thread) (wrap (getD (accumulatorsIn registers) (at .thread) (pos 0) +ℤ number)) (placed-here .thread-low))
+      (ap (λ (l : List ℤ). partsOf t words values l) x
+      ∙ parts-accumulator t words values registers (at .thread) (wrap (getD (accumulatorsIn registers) (at .thread) (pos 0) +ℤ number)) (placed-here .thread-low))
       (λ state s. add-step t accepted a state (at .thread) (at .slot) s (here .low) (p state s) (at .next) (stands-at state s) number (is state s (Add number) e))
 
   -- the locks that the header says are the table's
@@ -311,11 +264,11 @@ module _ (numbers : List ℤ) (first handle : List ℕ) (sizes : Sizes) (words v
       go : Locked 16 0 (at .thread + 1) (getD values (valuePlace (at .slot) (h .number)) 0) at (tableOf numbers .locks) r words words′
           → Operated (tableOf numbers) words values registers words′ values registers at σ r
       go (inl w) =
-          was-refused 16 words′ values registers r (Take h) e refl (w .answer-is) (w .words-are) refl refl
+          was-refused 16 words′ values registers r (Take h) e (w .answer-is) (w .words-are) refl refl
           (λ state s. take-refused t accepted a state (at .thread) (at .slot) s (here .low) (p state s) (at .next) (stands-at state s) h (is state s (Take h) e) (w .blocked))
       go (inr w) =
           went-on words′ values registers r _ (Take h) e (w .answer-is)
-          (ap (λ (l : List ℕ). view t l values registers) (w .words-are) ∙ view-owner t words values registers (getD values (valuePlace (at .slot) (h .number)) 0) (at .thread + 1))
+          (ap (λ (l : List ℕ). partsOf t l values registers) (w .words-are) ∙ parts-owner t words values registers (getD values (valuePlace (at .slot) (h .number)) 0) (at .thread + 1))
           (λ state s. take-step t accepted a state (at .thread) (at .slot) s (here .low) (p state s) (at .next) (stands-at state s) h (is state s (Take h) e) (w .free))
 
   pub did-give : (h : Handle) (words′ : List ℕ) (r : Move) → σ ≡ Give h
@@ -326,26 +279,26 @@ module _ (numbers : List ℤ) (first handle : List ℕ) (sizes : Sizes) (words v
       go : Locked 17 (at .thread + 1) 0 (getD values (valuePlace (at .slot) (h .number)) 0) at (tableOf numbers .locks) r words words′
           → Operated (tableOf numbers) words values registers words′ values registers at σ r
       go (inl w) =
-          was-refused 17 words′ values registers r (Give h) e refl (w .answer-is) (w .words-are) refl refl
+          was-refused 17 words′ values registers r (Give h) e (w .answer-is) (w .words-are) refl refl
           (λ state s. give-refused t accepted a state (at .thread) (at .slot) s (here .low) (p state s) (at .next) (stands-at state s) h (is state s (Give h) e) (w .blocked))
       go (inr w) =
           went-on words′ values registers r _ (Give h) e (w .answer-is)
-          (ap (λ (l : List ℕ). view t l values registers) (w .words-are) ∙ view-owner t words values registers (getD values (valuePlace (at .slot) (h .number)) 0) 0)
+          (ap (λ (l : List ℕ). partsOf t l values registers) (w .words-are) ∙ parts-owner t words values registers (getD values (valuePlace (at .slot) (h .number)) 0) 0)
           (λ state s. give-step t accepted a state (at .thread) (at .slot) s (here .low) (p state s) (at .next) (stands-at state s) h (is state s (Give h) e) (w .free))
 
   pub did-point : (h g : Handle) (values′ : List ℕ) (r : Move) → σ ≡ Point h g → r ≡ on at
       → values′ ≡ set values (valuePlace (at .slot) (h .number)) (getD values (valuePlace (at .slot) (g .number)) 0)
       → Operated (tableOf numbers) words values registers words values′ registers at σ r
   did-point h g values′ r e q x =
-      went-on words values′ registers r _ (Point h g) e q (ap (λ (l : List ℕ). view t words l registers) x)
+      went-on words values′ registers r _ (Point h g) e q (ap (λ (l : List ℕ). partsOf t words l registers) x)
       (λ state s. point-step t accepted a state (at .thread) (at .slot) s (here .low) (p state s) (at .next) (stands-at state s) h g (is state s (Point h g) e))
 
   pub did-call : (q : ℕ) (arguments : Arguments) (words′ values′ : List ℕ) (r : Move) → σ ≡ Call q arguments
-      → Called (tableOf numbers) (getD first q 0) (getD handle q 0) (getD handle (q + 1) 0) (argumentsIn numbers (at .line)) at r words words′ values values′
+      → Called (tableOf numbers) (getD first q 0) (getD handle q 0) (getD handle (q + 1) 0) arguments at r words words′ values values′
       → Operated (tableOf numbers) words values registers words′ values′ registers at σ r
   did-call q arguments words′ values′ r e (inl w) =
       let u = looked q (routine-there q arguments (inl e)) in
-      was-refused 19 words′ values′ registers r (Call q arguments) e refl (w .answer-is) (w .words-are) (w .values-are) refl
+      was-refused 19 words′ values′ registers r (Call q arguments) e (w .answer-is) (w .words-are) (w .values-are) refl
       (λ state s. call-refused t accepted a state (at .thread) (at .slot) s (here .low) (p state s) (at .next) (stands-at state s) q arguments
       (getD first q 0) (getD handle q 0) (getD handle (q + 1) 0) (u .first-is) (u .from-is) (u .end-is) (is state s (Call q arguments) e) (w .full))
   did-call q arguments words′ values′ r e (inr w) =
@@ -353,31 +306,29 @@ module _ (numbers : List ℤ) (first handle : List ℕ) (sizes : Sizes) (words v
       let count = getD (countsIn words) (at .thread) 0 + 1 in
       let opened = set words (at .slot + 1) (getD first q 0) in
       went-on words′ values′ registers r _ (Call q arguments) e (w .answer-is)
-      (ap (λ (l : List ℕ). view t l values′ registers) (w .words-are)
-      ∙ view-count t opened values′ registers (at .thread) (countPlace (at .thread)) count (placed-here .thread-low) refl
+      (ap (λ (l : List ℕ). partsOf t l values′ registers) (w .words-are)
+      ∙ parts-count t opened values′ registers (at .thread) (countPlace (at .thread)) count (placed-here .thread-low) refl
       ∙ ap (λ (b : Arrays). arrays (b .started) (b .nexts) (b .values) (set (b .counts) (at .thread) count) (b .accumulators) (b .owners) (b .cells))
-      (view-next t words values′ registers (at .slot + 1) (getD first q 0) (omega (arith, here .slot-is, w .free, placed-here .thread-low))))
+      (parts-next t words values′ registers (at .slot + 1) (getD first q 0) (omega (arith, here .newest .slot-is, w .free, placed-here .thread-low))))
       (λ state s. call-step t accepted a state (at .thread) (at .slot) s (here .low) (p state s) (at .next) (stands-at state s) q arguments
-      (getD first q 0) (getD handle q 0) (getD handle (q + 1) 0) (u .first-is) (u .from-is) (u .end-is) values′ (is state s (Call q arguments) e) (w .free)
-      (rw (passes q arguments (inl e)) at (w .entered)))
+      (getD first q 0) (getD handle q 0) (getD handle (q + 1) 0) (u .first-is) (u .from-is) (u .end-is) values′ (is state s (Call q arguments) e) (w .free) (w .entered))
 
   pub did-start : (q : ℕ) (arguments : Arguments) (words′ values′ : List ℕ) (registers′ : List ℤ) (r : Move) → σ ≡ Start q arguments
-      → Started (tableOf numbers) (getD first q 0) (getD handle q 0) (getD handle (q + 1) 0) (argumentsIn numbers (at .line)) at r words words′ values values′ registers registers′
+      → Started (tableOf numbers) (getD first q 0) (getD handle q 0) (getD handle (q + 1) 0) arguments at r words words′ values values′ registers registers′
       → Operated (tableOf numbers) words values registers words′ values′ registers′ at σ r
   did-start q arguments words′ values′ registers′ r e (inl w) =
       let u = looked q (routine-there q arguments (inr e)) in
-      was-refused 18 words′ values′ registers′ r (Start q arguments) e refl (w .answer-is) (w .words-are) (w .values-are) (w .registers-are)
+      was-refused 18 words′ values′ registers′ r (Start q arguments) e (w .answer-is) (w .words-are) (w .values-are) (w .registers-are)
       (λ state s. start-refused t accepted a state (at .thread) (at .slot) s (here .low) (p state s) (at .next) (stands-at state s) q arguments
       (getD first q 0) (getD handle q 0) (getD handle (q + 1) 0) (u .first-is) (u .from-is) (u .end-is) (is state s (Start q arguments) e) (w .full))
   did-start q arguments words′ values′ registers′ r e (inr w) =
       let u = looked q (routine-there q arguments (inr e)) in
       went-on words′ values′ registers′ r _ (Start q arguments) e (w .answer-is) (begun (startedIn words) refl (w .free) (w .words-are) (w .registers-are))
       (λ state s. start-step t accepted a state (at .thread) (at .slot) s (here .low) (p state s) (at .next) (stands-at state s) q arguments
-      (getD first q 0) (getD handle q 0) (getD handle (q + 1) 0) (u .first-is) (u .from-is) (u .end-is) values′ (is state s (Start q arguments) e) (w .free)
-      (rw (passes q arguments (inr e)) at (w .entered)))
+      (getD first q 0) (getD handle q 0) (getD handle (q + 1) 0) (u .first-is) (u .from-is) (u .end-is) values′ (is state s (Start q arguments) e) (w .free) (w .entered))
     where
       begun : (n : ℕ) → n ≡ startedIn words → n < 16 → words′ ≡ set (set (set words (n * 32) (getD first q 0)) (countPlace n) 1) startedPlace (n + 1) → registers′ ≡ set registers n (pos 0)
-          → view (tableOf numbers) words′ values′ registers′
+          → partsOf (tableOf numbers) words′ values′ registers′
           ≡ arrays (n + 1) (set (nextsIn words) (n * 32) (getD first q 0)) values′ (set (countsIn words) n 1) (set (accumulatorsIn registers) n (pos 0))
           (ownersIn (tableOf numbers .locks) words) (cellsIn (tableOf numbers .cells) registers)
       begun n is low x y =
@@ -385,39 +336,42 @@ module _ (numbers : List ℤ) (first handle : List ℕ) (sizes : Sizes) (words v
           let counted = set opened (countPlace n) 1 in
           let frame-low : n * 32 < 512 = omega arith in
           let long : startedPlace < length counted = omega (arith, length-set opened (countPlace n) 1, length-set words (n * 32) (getD first q 0), started-there words (omega (arith, here .low))) in
-          ap (λ (l : List ℕ). view t l values′ registers′) x ∙ ap (λ (l : List ℤ). view t (set counted startedPlace (n + 1)) values′ l) y
-          ∙ view-started t counted values′ (set registers n (pos 0)) (n + 1) long
+          ap (λ (l : List ℕ). partsOf t l values′ registers′) x ∙ ap (λ (l : List ℤ). partsOf t (set counted startedPlace (n + 1)) values′ l) y
+          ∙ parts-started t counted values′ (set registers n (pos 0)) (n + 1) long
           ∙ ap (λ (b : Arrays). arrays (n + 1) (b .nexts) (b .values) (b .counts) (b .accumulators) (b .owners) (b .cells))
-          (view-count t opened values′ (set registers n (pos 0)) n (countPlace n) 1 low refl
+          (parts-count t opened values′ (set registers n (pos 0)) n (countPlace n) 1 low refl
           ∙ ap (λ (b : Arrays). arrays (b .started) (b .nexts) (b .values) (set (b .counts) n 1) (b .accumulators) (b .owners) (b .cells))
-          (view-next t words values′ (set registers n (pos 0)) (n * 32) (getD first q 0) frame-low
-          ∙ ap (λ (b : Arrays). stored b (n * 32) (getD first q 0)) (view-accumulator t words values′ registers n (pos 0) low)))
+          (parts-next t words values′ (set registers n (pos 0)) (n * 32) (getD first q 0) frame-low
+          ∙ ap (λ (b : Arrays). arrays (b .started) (set (b .nexts) (n * 32) (getD first q 0)) (b .values) (b .counts) (b .accumulators) (b .owners) (b .cells)) (parts-accumulator t words values′ registers n (pos 0) low)))
 
-  pub did-jump : (target : Target) (r : Move) → σ ≡ Jump target → r ≡ to (target .statement) → Operated (tableOf numbers) words values registers words values registers at σ r
+  pub did-jump : (target : Target) (r : Move) → σ ≡ Jump target → r ≡ To (target .statement) → Operated (tableOf numbers) words values registers words values registers at σ r
   did-jump target r e q =
-      left words values registers r (to (target .statement)) a (Ran (Jump target)) q
-      (omega (arith, target-low (target .statement) (operands (here .standing .state) shown-here (Jump target) e))) refl (ap Ran e)
+      went-to words values registers r (target .statement) a (Jump target) e q
+      (omega (arith, target-low (target .statement) (operands (here .standing .state) shown-here (Jump target) e .target (target .statement) refl))) refl
       (λ state s. jump-step t accepted a state (at .thread) (at .slot) s (here .low) (p state s) (at .next) (stands-at state s) target (is state s (Jump target) e))
 
   pub did-jump-zero : (target : Target) (r : Move) → σ ≡ JumpZero target
-      → r ≡ to (cond (isZero (getD (accumulatorsIn registers) (at .thread) (pos 0))) (target .statement) (at .next + 1))
+      → r ≡ To (cond (isZero (getD (accumulatorsIn registers) (at .thread) (pos 0))) (target .statement) (at .next + 1))
       → Operated (tableOf numbers) words values registers words values registers at σ r
   did-jump-zero target r e q =
       let z = isZero (getD (accumulatorsIn registers) (at .thread) (pos 0)) in
-      left words values registers r (to (cond z (target .statement) (at .next + 1))) a (Ran (JumpZero target)) q (small z) refl (ap Ran e)
+      went-to words values registers r (cond z (target .statement) (at .next + 1)) a (JumpZero target) e q (small z) refl
       (λ state s. jump-zero-step t accepted a state (at .thread) (at .slot) s (here .low) (p state s) (at .next) (stands-at state s) target (is state s (JumpZero target) e))
     where
-      small : (b : Bool) → cond b (target .statement) (at .next + 1) < 65536
-      small true = omega (arith, target-low (target .statement) (operands (here .standing .state) shown-here (JumpZero target) e))
+      small : (b : Bool) → cond b (target .statement) (at .next + 1) < 4294967296
+      small true = omega (arith, target-low (target .statement) (operands (here .standing .state) shown-here (JumpZero target) e .target (target .statement) refl))
       small false = next-small
 
-  pub did-return : (words′ : List ℕ) (r : Move) → σ ≡ Return → r ≡ to (at .next)
+  pub did-return : (words′ : List ℕ) (r : Move) → σ ≡ Return → r ≡ Closed
       → words′ ≡ set words (countPlace (at .thread)) (getD (countsIn words) (at .thread) 0 - 1)
       → Operated (tableOf numbers) words values registers words′ values registers at σ r
   did-return words′ r e q x =
       let count = getD (countsIn words) (at .thread) 0 - 1 in
-      left words′ values registers r (to (at .next)) _ (Ran Return) q (omega (arith, placed-here .next-low))
-      (ap (λ (l : List ℕ). view t l values registers) x ∙ view-count t words values registers (at .thread) (countPlace (at .thread)) count (placed-here .thread-low) refl) (ap Ran e)
-      (λ state s. subst (λ (b : Arrays). Stepped t b state (at .thread) (Ran Return))
-      (sym (same (arrays (startedIn words) (nextsIn words) values (set (countsIn words) (at .thread) count) (accumulatorsIn registers) (ownersIn (t .locks) words) (cellsIn (t .cells) registers)) refl))
-      (return-step t accepted a state (at .thread) (at .slot) s (here .low) (p state s) (at .next) (stands-at state s) (is state s Return e)))
+      left words′ values registers r Closed _ (Ran Return) q tt
+      (ap (λ (l : List ℕ). partsOf t l values registers) x ∙ parts-count t words values registers (at .thread) (countPlace (at .thread)) count (placed-here .thread-low) refl) (ap Ran e)
+      (λ state s. return-step t accepted a state (at .thread) (at .slot) s (here .low) (p state s) (at .next) (stands-at state s) (is state s Return e))
+
+-- what an operation left, where that is known
+pub known : (t : Table) (words values : List ℕ) (registers : List ℤ) (words′ values′ : List ℕ) (registers′ : List ℤ) (at : Place) (σ : Statement) (r m : Move) → r ≡ m
+    → Operated t words values registers words′ values′ registers′ at σ r → Operated t words values registers words′ values′ registers′ at σ m
+known t words values registers words′ values′ registers′ at σ r m e o = subst (Operated t words values registers words′ values′ registers′ at σ) e o

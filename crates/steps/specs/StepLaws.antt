@@ -108,8 +108,8 @@ pub record Accumulated (old new : List ℤ) (n : ℕ) (b : ℤ) : Type 0 where
   pub other : (m : ℕ) → (m ≡ n → ⊥) → getD new m (pos 0) ≡ getD old m (pos 0)
 
 module _ (t : Table) (accepted : Accepted t) (a : Arrays) (state : State) (n slot : ℕ) (s : Shows t a state) (low : n < a .started) (p : Top t a state n slot) where
-  pub placed : (line : ℕ) → Placed (record { thread = n; slot = slot; next = p .f .next; line = line })
-  placed line =
+  pub placed : Placed (record { thread = n; slot = slot; next = p .f .next })
+  placed =
       let facts = accepted .routine-facts (p .f .routine) (p .shown .there) in
       record {
         thread-low = omega (arith, s .most);
@@ -232,8 +232,8 @@ module _ (t : Table) (accepted : Accepted t) (a : Arrays) (state : State) (n slo
     read-step h e =
         rw on
         (ran _ (Read h) _ e refl refl
-        (goes (p .f .next + 1) _ _ (a .owners) (a .cells) (state .cells) (state .locks) (after-it (Read h) e)
-        (accumulated-set _ _ (ap₂ (λ (l : List ℤ) (i : ℕ). getD l i (pos 0)) (sym (s .cells-are)) (own-value (h .number) (operands-of (Read h) e .own))))
+        (goes (p .f .next + 1) _ _ (a .owners) (a .cells) (state .cells) (state .locks) (after-it (Read h) e refl)
+        (accumulated-set _ _ (ap₂ (λ (l : List ℤ) (i : ℕ). getD l i (pos 0)) (sym (s .cells-are)) (own-value (h .number) (operands-of (Read h) e .reads (h .number) refl .own))))
         refl (s .cells-are) (s .locks-are)))
 
     pub write-step : (h : Handle) → statement t (p .f .next) ≡ Write h
@@ -245,9 +245,9 @@ module _ (t : Table) (accepted : Accepted t) (a : Arrays) (state : State) (n slo
     write-step h e =
         rw on
         (ran _ (Write h) _ e refl refl
-        (goes (p .f .next + 1) _ (a .accumulators) (a .owners) _ _ (state .locks) (after-it (Write h) e) accumulated-same
+        (goes (p .f .next + 1) _ (a .accumulators) (a .owners) _ _ (state .locks) (after-it (Write h) e refl) accumulated-same
         (length-set (a .cells) (getD (a .values) (valuePlace slot (h .number)) 0) (getD (a .accumulators) n (pos 0)))
-        (rw (s .cells-are, own-value (h .number) (operands-of (Write h) e .own), p .accumulator-is))
+        (rw (s .cells-are, own-value (h .number) (operands-of (Write h) e .writes (h .number) refl .own), p .accumulator-is))
         (s .locks-are)))
 
     pub set-step : (number : ℤ) → statement t (p .f .next) ≡ Set number
@@ -256,7 +256,7 @@ module _ (t : Table) (accepted : Accepted t) (a : Arrays) (state : State) (n slo
     set-step number e =
         rw on
         (ran _ (Set number) _ e refl refl
-        (goes (p .f .next + 1) _ _ (a .owners) (a .cells) (state .cells) (state .locks) (after-it (Set number) e) (accumulated-set _ _ refl) refl (s .cells-are) (s .locks-are)))
+        (goes (p .f .next + 1) _ _ (a .owners) (a .cells) (state .cells) (state .locks) (after-it (Set number) e refl) (accumulated-set _ _ refl) refl (s .cells-are) (s .locks-are)))
 
     pub add-step : (number : ℤ) → statement t (p .f .next) ≡ Add number
         → Stepped t
@@ -267,7 +267,7 @@ module _ (t : Table) (accepted : Accepted t) (a : Arrays) (state : State) (n slo
     add-step number e =
         rw on
         (ran _ (Add number) _ e refl refl
-        (goes (p .f .next + 1) _ _ (a .owners) (a .cells) (state .cells) (state .locks) (after-it (Add number) e)
+        (goes (p .f .next + 1) _ _ (a .owners) (a .cells) (state .cells) (state .locks) (after-it (Add number) e refl)
         (accumulated-set _ _ (ap (λ (z : ℤ). wrap (z +ℤ number)) (p .accumulator-is))) refl (s .cells-are) (s .locks-are)))
 
     pub jump-step : (target : Target) → statement t (p .f .next) ≡ Jump target
@@ -275,7 +275,7 @@ module _ (t : Table) (accepted : Accepted t) (a : Arrays) (state : State) (n slo
     unfolding operate
     jump-step target e =
         ran _ (Jump target) _ e refl refl
-        (goes (target .statement) _ (a .accumulators) (a .owners) (a .cells) (state .cells) (state .locks) (operands-of (Jump target) e) accumulated-same refl (s .cells-are) (s .locks-are))
+        (goes (target .statement) _ (a .accumulators) (a .owners) (a .cells) (state .cells) (state .locks) (operands-of (Jump target) e .target (target .statement) refl) accumulated-same refl (s .cells-are) (s .locks-are))
 
     pub jump-zero-step : (target : Target) → statement t (p .f .next) ≡ JumpZero target
         → Stepped t
@@ -292,8 +292,8 @@ module _ (t : Table) (accepted : Accepted t) (a : Arrays) (state : State) (n slo
         where-to b = cond b (target .statement) (p .f .next + 1)
 
         inside : (b : Bool) → InRoutine t (p .f .routine) (cond b (target .statement) (p .f .next + 1))
-        inside true = operands-of (JumpZero target) e
-        inside false = after-it (JumpZero target) e
+        inside true = operands-of (JumpZero target) e .target (target .statement) refl
+        inside false = after-it (JumpZero target) e refl
 
         there : set (a .nexts) slot (cond (isZero (getD (a .accumulators) n (pos 0))) (target .statement) (next + 1))
             ≡ set (a .nexts) slot (cond (isZero (thread state n .accumulator)) (target .statement) (p .f .next + 1))
@@ -350,7 +350,7 @@ module _ (t : Table) (accepted : Accepted t) (a : Arrays) (state : State) (n slo
           blocked : (o : ℕ) → getD (a .owners) (getD (a .values) (valuePlace slot (h .number)) 0) 0 ≡ o
               → operate t state n (thread state n .accumulator) (p .f) (p .older) (Take h) ≡ refused 16
           blocked zero q = absurd (w q)
-          blocked (suc m) q = rw (lock-is (h .number) (suc m) (operands-of (Take h) e .own) q)
+          blocked (suc m) q = rw (lock-is (h .number) (suc m) (operands-of (Take h) e .takes (h .number) refl .own) q)
 
       pub take-step : getD (a .owners) (getD (a .values) (valuePlace slot (h .number)) 0) 0 ≡ 0
           → Stepped t (arrays (a .started) (set (a .nexts) slot (next + 1)) (a .values) (a .counts) (a .accumulators) (set (a .owners) (getD (a .values) (valuePlace slot (h .number)) 0) (n + 1)) (a .cells)) state n (Ran (Take h))
@@ -359,8 +359,8 @@ module _ (t : Table) (accepted : Accepted t) (a : Arrays) (state : State) (n slo
           rw on
           (ran _ (Take h)
           (with-thread state n (thread state n .accumulator) (going (p .f) (p .f .next + 1) ∷ p .older) (state .cells) (set (state .locks) (refers (p .f) (h .number)) (held n)))
-          e refl (rw (lock-is (h .number) 0 (operands-of (Take h) e .own) w))
-          (handed (Take h) (h .number) (n + 1) (held n) (operands-of (Take h) e .own) (after-it (Take h) e) (holder-next n)))
+          e refl (rw (lock-is (h .number) 0 (operands-of (Take h) e .takes (h .number) refl .own) w))
+          (handed (Take h) (h .number) (n + 1) (held n) (operands-of (Take h) e .takes (h .number) refl .own) (after-it (Take h) e refl) (holder-next n)))
 
     module _ (h : Handle) (e : statement t (p .f .next) ≡ Give h) where
       pub give-refused : (getD (a .owners) (getD (a .values) (valuePlace slot (h .number)) 0) 0 ≡ n + 1 → ⊥) → Stepped t a state n (Refused 17 (Give h))
@@ -370,8 +370,8 @@ module _ (t : Table) (accepted : Accepted t) (a : Arrays) (state : State) (n slo
         where
           blocked : (o : ℕ) → getD (a .owners) (getD (a .values) (valuePlace slot (h .number)) 0) 0 ≡ o
               → operate t state n (thread state n .accumulator) (p .f) (p .older) (Give h) ≡ refused 17
-          blocked zero q = rw (lock-is (h .number) zero (operands-of (Give h) e .own) q)
-          blocked (suc m) q = rw (lock-is (h .number) (suc m) (operands-of (Give h) e .own) q, ne-eqb m n (λ z. w (omega (arith, q, z))))
+          blocked zero q = rw (lock-is (h .number) zero (operands-of (Give h) e .gives (h .number) refl .own) q)
+          blocked (suc m) q = rw (lock-is (h .number) (suc m) (operands-of (Give h) e .gives (h .number) refl .own) q, ne-eqb m n (λ z. w (omega (arith, q, z))))
 
       pub give-step : getD (a .owners) (getD (a .values) (valuePlace slot (h .number)) 0) 0 ≡ n + 1
           → Stepped t (arrays (a .started) (set (a .nexts) slot (next + 1)) (a .values) (a .counts) (a .accumulators) (set (a .owners) (getD (a .values) (valuePlace slot (h .number)) 0) 0) (a .cells)) state n (Ran (Give h))
@@ -380,8 +380,8 @@ module _ (t : Table) (accepted : Accepted t) (a : Arrays) (state : State) (n slo
           rw on
           (ran _ (Give h)
           (with-thread state n (thread state n .accumulator) (going (p .f) (p .f .next + 1) ∷ p .older) (state .cells) (set (state .locks) (refers (p .f) (h .number)) free))
-          e refl (rw (lock-is (h .number) (n + 1) (operands-of (Give h) e .own) w ∙ holder-next n, eq-eqb n n refl))
-          (handed (Give h) (h .number) 0 free (operands-of (Give h) e .own) (after-it (Give h) e) refl))
+          e refl (rw (lock-is (h .number) (n + 1) (operands-of (Give h) e .gives (h .number) refl .own) w ∙ holder-next n, eq-eqb n n refl))
+          (handed (Give h) (h .number) 0 free (operands-of (Give h) e .gives (h .number) refl .own) (after-it (Give h) e refl) refl))
 
     -- ---- POINT
 
@@ -428,13 +428,13 @@ module _ (t : Table) (accepted : Accepted t) (a : Arrays) (state : State) (n slo
 
         value : (k : ℕ) → OwnHandle t (p .f .routine) k → Dec (k ≡ h .number) → getD values′ (valuePlace slot k) 0 ≡ refers pointed k
         value k o (yes q) =
-            let own = operands-of (Point h g) e in
+            let own = operands-of (Point h g) e .points (h .number) refl in
             let here : valuePlace slot (h .number) < length (a .values) = omega (arith, s .lengths .values, s .most, p .slot-is, p .few) in
             subst (λ (i : ℕ). getD values′ (valuePlace slot i) 0 ≡ refers pointed i) (sym q)
             (getD-set-same (a .values) (valuePlace slot (h .number)) to 0 here ∙ own-value (g .number) (own .1)
             ∙ sym (getD-set-same (p .f .values) (h .number) (refers (p .f) (g .number)) 0 (omega (arith, own .0 .there, p .shown .long))))
         value k o (no q) =
-            let own = operands-of (Point h g) e in
+            let own = operands-of (Point h g) e .points (h .number) refl in
             getD-set-other (a .values) (valuePlace slot (h .number)) (valuePlace slot k) to 0
             (λ same. q (own-apart t accepted (p .f .routine) k (h .number) (p .shown .there) o (own .0) (omega (arith, same))))
             ∙ own-value k o ∙ sym (getD-set-other (p .f .values) (h .number) k (refers (p .f) (g .number)) 0 q)
@@ -443,24 +443,41 @@ module _ (t : Table) (accepted : Accepted t) (a : Arrays) (state : State) (n slo
         shown =
             record {
               there = p .shown .there;
-              inside = after-it (Point h g) e;
-              next-is = going-shown (p .f .next + 1) (after-it (Point h g) e) .next-is;
+              inside = after-it (Point h g) e refl;
+              next-is = going-shown (p .f .next + 1) (after-it (Point h g) e refl) .next-is;
               long = length-set (p .f .values) (h .number) (refers (p .f) (g .number)) ∙ p .shown .long;
               value-is = λ k o. value k o (ℕ-discrete k (h .number));
             }
 
-    -- ---- CALL
+    -- ---- CALL and START: the frame goes on, and a new frame of the named routine stands in another slot
+
+    abbrev going-on : List ℕ
+    going-on = set (a .nexts) slot (p .f .next + 1)
 
     module _ (q : ℕ) (arguments : Arguments) (first from end : ℕ) (first-is : first ≡ routine t q .first) (from-is : from ≡ routine t q .handle)
         (end-is : end ≡ routine t q .handle + routine t q .handles) where
-      -- a new frame of the named routine in another slot
-      new-frame : (nexts values : List ℕ) (there : ℕ) → Passes t (p .f .routine) q arguments → getD nexts there 0 ≡ first
-          → Entered t (a .values) values there slot from end arguments → ShowsFrame t nexts values there (opened t q (p .f .values) arguments)
-      new-frame nexts values there passes x y =
-          opened-shown t accepted nexts (a .values) values (p .f .values) there slot q arguments (passes .there) (x ∙ first-is)
-          (subst (λ (i : ℕ). Entered t (a .values) values there slot (routine t q .handle) i arguments) end-is
-          (subst (λ (i : ℕ). Entered t (a .values) values there slot i end arguments) from-is y))
-          (λ k l. own-value (getD (passed arguments) k 0) (passes .argument k l .own))
+      module _ (values : List ℕ) (there : ℕ) (entered : Entered t (a .values) values there slot from end arguments) where
+        moved-on : (there ≡ slot → ⊥) → set (set (a .nexts) there first) slot (next + 1) ≡ set going-on there first
+        moved-on apart = set-comm (a .nexts) there slot first (next + 1) apart ∙ ap (λ (i : ℕ). set (set (a .nexts) slot (i + 1)) there first) next-is
+
+        nexts-long : length (set going-on there first) ≡ 512
+        nexts-long = length-set going-on there first ∙ length-set (a .nexts) slot (p .f .next + 1) ∙ s .lengths .nexts
+
+        new-frame : there < 512 → Passes t (p .f .routine) q arguments → ShowsFrame t (set going-on there first) values there (opened t q (p .f .values) arguments)
+        new-frame l passes =
+            opened-shown t accepted (set going-on there first) (a .values) values (p .f .values) there slot q arguments (passes .there)
+            (getD-set-same going-on there first 0 (omega (arith, nexts-long, length-set going-on there first)) ∙ first-is)
+            (subst (λ (i : ℕ). Entered t (a .values) values there slot (routine t q .handle) i arguments) end-is
+            (subst (λ (i : ℕ). Entered t (a .values) values there slot i end arguments) from-is entered))
+            (λ k l. own-value (getD (passed arguments) k 0) (passes .argument k l .own))
+
+        opening : (low high : ℕ) → ((i : ℕ) → low ≤ i → i < high → i ≡ there → ⊥) → Kept going-on (set going-on there first) (a .values) values low high
+        opening low high out =
+            kept-both going-on (set going-on there first) (set going-on there first) (a .values) (a .values) values low high
+            (kept-next going-on (a .values) there first low high out)
+            (kept-entered t (set going-on there first) (a .values) values there slot from end low high arguments entered out)
+
+      -- ---- CALL
 
       pub call-refused : statement t (p .f .next) ≡ Call q arguments → 32 ≤ getD (a .counts) n 0 → Stepped t a state n (Refused 19 (Call q arguments))
       call-refused e w =
@@ -472,13 +489,13 @@ module _ (t : Table) (accepted : Accepted t) (a : Arrays) (state : State) (n slo
           state n (Ran (Call q arguments))
       unfolding operate
       call-step values e w entered =
-          rw moved-on
+          rw (moved-on values (slot + 1) entered (λ z. omega arith))
           (ran _ (Call q arguments) _ e (rw (lt-leb 32 (suc (length (p .older))) (omega (arith, w, p .count-is)))) refl
           (one-thread t a (arrays (a .started) nexts′ values counts′ (a .accumulators) (a .owners) (a .cells)) n
           (record {
             lengths =
                 record {
-                  nexts = length-set going-on (slot + 1) first ∙ length-set (a .nexts) slot (p .f .next + 1) ∙ s .lengths .nexts;
+                  nexts = nexts-long values (slot + 1) entered;
                   values = entered .long ∙ s .lengths .values;
                   counts = length-set (a .counts) n (getD (a .counts) n 0 + 1) ∙ s .lengths .counts;
                   accumulators = s .lengths .accumulators;
@@ -498,43 +515,31 @@ module _ (t : Table) (accepted : Accepted t) (a : Arrays) (state : State) (n slo
             accumulator-is = p .accumulator-is;
             frames = (
               subst (λ (i : ℕ). ShowsFrame t nexts′ values i (opened t q (p .f .values) arguments)) above
-                  (new-frame nexts′ values (slot + 1) (operands-of (Call q arguments) e)
-                  (getD-set-same going-on (slot + 1) first 0 (omega (arith, length-set (a .nexts) slot (p .f .next + 1), s .lengths .nexts, s .most, p .slot-is, p .count-is, w)))
-                  (entered)),
+                  (new-frame values (slot + 1) entered (omega (arith, s .most, p .slot-is, p .count-is, w)) (operands-of (Call q arguments) e .passes q refl)),
               (
                 subst (λ (i : ℕ). ShowsFrame t nexts′ values i (going (p .f) (p .f .next + 1))) (p .slot-is)
-                    (frame-kept t going-on nexts′ (a .values) values slot (going (p .f) (p .f .next + 1)) (going-shown (p .f .next + 1) (after-it (Call q arguments) e))
-                    (opening slot (slot + 1) (λ i v u z. omega arith))),
+                    (frame-kept t going-on nexts′ (a .values) values slot (going (p .f) (p .f .next + 1)) (going-shown (p .f .next + 1) (after-it (Call q arguments) e refl))
+                    (opening values (slot + 1) entered slot (slot + 1) (λ i v u z. omega arith))),
                 rest-kept nexts′ values (kept (n * 32) slot (λ i v u z. omega arith) (λ i v u z. omega arith)),
               ),
             );
           })
           (s .cells-are) (s .locks-are)))
         where
-          going-on : List ℕ
-          going-on = set (a .nexts) slot (p .f .next + 1)
-
           nexts′ : List ℕ
           nexts′ = set going-on (slot + 1) first
 
           counts′ : List ℕ
           counts′ = set (a .counts) n (getD (a .counts) n 0 + 1)
 
-          moved-on : set (set (a .nexts) (slot + 1) first) slot (next + 1) ≡ set (set (a .nexts) slot (p .f .next + 1)) (slot + 1) first
-          moved-on = set-comm (a .nexts) (slot + 1) slot first (next + 1) (λ z. omega arith) ∙ ap (λ (i : ℕ). set (set (a .nexts) slot (i + 1)) (slot + 1) first) next-is
-
           above : slot + 1 ≡ n * 32 + suc (length (p .older))
           above = omega (arith, p .slot-is)
-
-          opening : (low high : ℕ) → ((i : ℕ) → low ≤ i → i < high → i ≡ slot + 1 → ⊥) → Kept going-on nexts′ (a .values) values low high
-          opening low high out =
-              kept-both going-on nexts′ nexts′ (a .values) (a .values) values low high (kept-next going-on (a .values) (slot + 1) first low high out)
-              (kept-entered t nexts′ (a .values) values (slot + 1) slot from end low high arguments (entered) out)
 
           kept : (low high : ℕ) → ((i : ℕ) → low ≤ i → i < high → i ≡ slot → ⊥) → ((i : ℕ) → low ≤ i → i < high → i ≡ slot + 1 → ⊥)
               → Kept (a .nexts) nexts′ (a .values) values low high
           kept low high out out′ =
-              kept-both (a .nexts) going-on nexts′ (a .values) (a .values) values low high (kept-next (a .nexts) (a .values) slot (p .f .next + 1) low high out) (opening low high out′)
+              kept-both (a .nexts) going-on nexts′ (a .values) (a .values) values low high (kept-next (a .nexts) (a .values) slot (p .f .next + 1) low high out)
+              (opening values (slot + 1) entered low high out′)
 
       -- ---- START
 
@@ -549,61 +554,45 @@ module _ (t : Table) (accepted : Accepted t) (a : Arrays) (state : State) (n slo
           state n (Ran (Start q arguments))
       unfolding operate
       start-step values e w entered =
-          rw moved-on
+          rw (moved-on values (a .started * 32) entered (λ z. omega (arith, p .slot-is, p .few)))
           (ran _ (Start q arguments) _ e (rw (lt-leb 16 (length (state .threads)) (omega (arith, w, s .started-is)))) refl
           (added t mid new (a .started)
           (record {
             lengths =
                 record {
-                  nexts = length-set going-on (a .started * 32) first ∙ length-set (a .nexts) slot (p .f .next + 1) ∙ s .lengths .nexts;
+                  nexts = nexts-long values (a .started * 32) entered;
                   values = entered .long ∙ s .lengths .values;
                   counts = length-set (a .counts) (a .started) 1 ∙ s .lengths .counts;
                   accumulators = length-set (a .accumulators) (a .started) (pos 0) ∙ s .lengths .accumulators;
                   cells = s .lengths .cells;
                 };
-            slots = λ m apart. opening (m * 32) (m * 32 + 32) (λ i v u z. omega (arith, apart));
+            slots = λ m apart. opening values (a .started * 32) entered (m * 32) (m * 32 + 32) (λ i v u z. omega (arith, apart));
             counts = λ m apart. getD-set-other (a .counts) (a .started) m 1 0 apart;
             accumulators = λ m apart. getD-set-other (a .accumulators) (a .started) m (pos 0) (pos 0) apart;
           })
           (with-thread state n (thread state n .accumulator) (going (p .f) (p .f .next + 1) ∷ p .older) (state .cells) (state .locks))
           (record { accumulator = pos 0; frames = opened t q (p .f .values) arguments ∷ [] })
-          (goes (p .f .next + 1) _ (a .accumulators) (a .owners) (a .cells) (state .cells) (state .locks) (after-it (Start q arguments) e) accumulated-same refl (s .cells-are) (s .locks-are))
+          (goes (p .f .next + 1) _ (a .accumulators) (a .owners) (a .cells) (state .cells) (state .locks) (after-it (Start q arguments) e refl) accumulated-same refl (s .cells-are) (s .locks-are))
           refl (w) refl
-          (record {
-            count-is = getD-set-same (a .counts) (a .started) 1 0 (omega (arith, s .lengths .counts, w));
-            few = omega (arith, getD-set-same (a .counts) (a .started) 1 0 (omega (arith, s .lengths .counts, w)));
+          (let c = getD-set-same (a .counts) (a .started) 1 0 (omega (arith, s .lengths .counts, w)) in
+          record {
+            count-is = c;
+            few = omega (arith, c);
             accumulator-is = getD-set-same (a .accumulators) (a .started) (pos 0) (pos 0) (omega (arith, s .lengths .accumulators, w));
             frames = (
-              subst (λ (i : ℕ). ShowsFrame t nexts′ values i (opened t q (p .f .values) arguments)) above
-                  (new-frame nexts′ values (a .started * 32) (operands-of (Start q arguments) e)
-                  (getD-set-same going-on (a .started * 32) first 0 (omega (arith, length-set (a .nexts) slot (p .f .next + 1), s .lengths .nexts, w)))
-                  (entered)),
+              subst (λ (i : ℕ). ShowsFrame t (new .nexts) values i (opened t q (p .f .values) arguments)) above
+                  (new-frame values (a .started * 32) entered (omega (arith, w)) (operands-of (Start q arguments) e .passes q refl)),
               tt,
             );
           })
           refl refl))
         where
-          going-on : List ℕ
-          going-on = set (a .nexts) slot (p .f .next + 1)
-
-          nexts′ : List ℕ
-          nexts′ = set going-on (a .started * 32) first
-
           mid : Arrays
           mid = arrays (a .started) going-on (a .values) (a .counts) (a .accumulators) (a .owners) (a .cells)
 
           new : Arrays
-          new = arrays (a .started + 1) nexts′ values (set (a .counts) (a .started) 1) (set (a .accumulators) (a .started) (pos 0)) (a .owners) (a .cells)
+          new =
+              arrays (a .started + 1) (set going-on (a .started * 32) first) values (set (a .counts) (a .started) 1) (set (a .accumulators) (a .started) (pos 0)) (a .owners) (a .cells)
 
           above : a .started * 32 ≡ a .started * 32 + 0
           above = omega arith
-
-          moved-on : set (set (a .nexts) (a .started * 32) first) slot (next + 1) ≡ set (set (a .nexts) slot (p .f .next + 1)) (a .started * 32) first
-          moved-on =
-              set-comm (a .nexts) (a .started * 32) slot first (next + 1) (λ z. omega (arith, p .slot-is, p .few))
-              ∙ ap (λ (i : ℕ). set (set (a .nexts) slot (i + 1)) (a .started * 32) first) next-is
-
-          opening : (low high : ℕ) → ((i : ℕ) → low ≤ i → i < high → i ≡ a .started * 32 → ⊥) → Kept going-on nexts′ (a .values) values low high
-          opening low high out =
-              kept-both going-on nexts′ nexts′ (a .values) (a .values) values low high (kept-next going-on (a .values) (a .started * 32) first low high out)
-              (kept-entered t nexts′ (a .values) values (a .started * 32) slot from end low high arguments (entered) out)

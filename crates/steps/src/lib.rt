@@ -4,7 +4,7 @@ ghost use Prim.Native.Nat.{_<_, _≤_};
 ghost use lib.ListN.{length};
 ghost use Rattle.table.specs.Table.{tableOf};
 ghost use Rattle.run_state.specs.Shown.{Standing};
-ghost use Rattle.operations.specs.Step.{numberOf, answeredAt};
+ghost use Rattle.operations.specs.Step.{numberOf};
 ghost use Rattle.steps.specs.Stepped.{Steps, Follows, Here, Operated};
 use operations::Move;
 use operations::Place;
@@ -28,17 +28,6 @@ pub fn answer_byte(answer: Step) -> u8
     }
 }
 
-// The answer to a step at a statement.
-fn answered(number: u32, statement: Statement) -> Step
-    ensures { λ r. ⌜ r ≡ answeredAt number statement ⌝ }
-{
-    if number == 0 {
-        Step::Ran(statement)
-    } else {
-        Step::Refused { number, statement }
-    }
-}
-
 // Runs a thread's next statement once, by its operation; the frame's next statement is left to be stored.
 fn operate(
     numbers: &[i32],
@@ -47,7 +36,7 @@ fn operate(
     sizes: Sizes,
     statement: Statement,
     at: Place,
-    words: &mut [u16; 545],
+    words: &mut [u32; 545],
     values: &mut [u8; 4096],
     registers: &mut [i32; 80],
 ) -> Move
@@ -67,27 +56,28 @@ fn operate(
             at,
             values,
         ),
-        Statement::Call {
-            routine,
-            arguments: _,
-        } => operations::call(numbers, first, handle, routine, at, words, values),
-        Statement::Start {
-            routine,
-            arguments: _,
-        } => operations::start(
+        Statement::Call { routine, arguments } => operations::call(
             numbers,
             first,
             handle,
             routine,
+            arguments,
+            at,
+            words,
+            values,
+        ),
+        Statement::Start { routine, arguments } => operations::start(
+            numbers,
+            first,
+            handle,
+            routine,
+            arguments,
             at,
             words,
             values,
             registers,
         ),
-        Statement::Jump(target) => Move {
-            number: 0,
-            next: target.statement,
-        },
+        Statement::Jump(target) => Move::To(target.statement),
         Statement::JumpZero(target) => operations::jump_zero(target.statement, at, registers),
         Statement::Return => operations::close(at, words),
     }
@@ -101,7 +91,7 @@ pub fn step(
     handle: &[usize; 33],
     sizes: Sizes,
     n: usize,
-    words: &mut [u16; 545],
+    words: &mut [u32; 545],
     values: &mut [u8; 4096],
     registers: &mut [i32; 80],
 ) -> Step
@@ -117,13 +107,11 @@ pub fn step(
     }
     let slot = n * 32 + count - 1;
     let next = places::next_of(words, slot);
-    let line = sizes.base + next;
-    let statement = table::statement_at(numbers, line);
+    let statement = table::statement_at(numbers, sizes.base + next);
     let at = Place {
         thread: n,
         slot,
         next,
-        line,
     };
     let done = operate(
         numbers,
@@ -136,8 +124,14 @@ pub fn step(
         values,
         registers,
     );
-    places::go_to(words, slot, done.next);
-    answered(done.number, statement)
+    match done {
+        Move::To(s) => {
+            places::go_to(words, slot, s);
+            Step::Ran(statement)
+        }
+        Move::Closed => Step::Ran(statement),
+        Move::Stopped(number) => Step::Refused { number, statement },
+    }
 }
 
 // The steps of a schedule, each byte a thread number, in order, with one answer for each in the first places of `answers`.
@@ -148,7 +142,7 @@ pub fn follow(
     sizes: Sizes,
     schedule: &[u8],
     answers: &mut [u8],
-    words: &mut [u16; 545],
+    words: &mut [u32; 545],
     values: &mut [u8; 4096],
     registers: &mut [i32; 80],
 )

@@ -1,8 +1,8 @@
 -- Which routines name which, by CALL or START, and which reach themselves so. A set of routines is a number (crate `sets`). Assumes nothing.
 use Prim.Native.Nat.{ℕ, zero, suc, _+_, _-_}
 use mathlib.Core.List.{List}
-use mathlib.Core.Bool.{Bool, cond, not, _||_}
-use lib.Dec.{eqb, ltb}
+use mathlib.Core.Bool.{Bool, cond, not}
+use lib.Dec.{ltb}
 use lib.IntN.{ℤ}
 use lib.ListN.{getD}
 use Rattle.sets.specs.Set.{has, one, union, minus, with, lowest}
@@ -11,11 +11,12 @@ use Rattle.sets.specs.declared.Which.the-variants.{Element, Nothing}
 use Rattle.table.specs.Tabulate.{tabulate}
 use Rattle.table.specs.Header.{routines}
 use Rattle.table.specs.Routines.{firstOf}
-use Rattle.table.specs.Statements.{operation, operand}
+use Rattle.table.specs.Table.{statementOf}
+use Rattle.table.specs.View.{view, setOn}
 
 -- what statement s names: one routine if it is a CALL or a START, else none
 unfoldable pub namedBy : List ℤ → ℕ → ℕ
-namedBy f s = cond (eqb (operation f s) 8 || eqb (operation f s) 9) (one (operand f s 0)) 0
+namedBy f s = setOn (view (statementOf f s) .names) one
 
 -- acc, and the sets that g gives for the n numbers from i on
 unfoldable pub gather : (ℕ → ℕ) → ℕ → ℕ → ℕ → ℕ

@@ -16,6 +16,11 @@ unfolding statementOf
 statement-in f s h = statement-is f s h
 
 -- so what its line's view is, the statement's view is
+pub view-line : (f : List ℤ) (s : ℕ) {line : ℕ} → line ≡ statementLine f s → {v : View} → v ≡ view (statementIn f line (field f line 1))
+    → v ≡ view (statementOf f s)
+unfolding statementOf
+view-line f s e p = p ∙ ap (λ (k : ℕ). view (statementIn f k (field f k 1))) e
+
 pub view-here : (f : List ℤ) (s : ℕ) {line : ℕ} → s < statements f → line ≡ statementLine f s → {v : View} → v ≡ view (statementIn f line (field f line 1))
     → v ≡ view (statement (tableOf f) s)
-view-here f s b e p = p ∙ ap (λ (k : ℕ). view (statementIn f k (field f k 1))) e ∙ ap view (sym (statement-in f s b))
+view-here f s b e p = view-line f s e p ∙ ap view (sym (statement-is f s b))

@@ -10,7 +10,7 @@ use lib.Dec.{eqb, leb, ltb}
 use lib.ListN.{getD}
 use lib.IntN.{ℤ}
 use borrow.Author.Tests.{ltb-true, lt-ltb, leb-true, eqb-true, eqb-false, eq-eqb, ne-eqb, not-true}
-use Rattle.sets.specs.Set.{has, one}
+use Rattle.sets.specs.Set.{one}
 use Rattle.sets.specs.SetLaws.{has-one}
 use Rattle.table.specs.Fields.{unused}
 use Rattle.table.specs.Header.{handles, routines, statementLine}
@@ -22,7 +22,7 @@ use Rattle.table.specs.Naming.{namedBy}
 use Rattle.table.specs.ReachLaws.{In}
 use Rattle.table.specs.LookupLaws.{handles-length, routines-length, declaration-says, routine-says, in-routine}
 use Rattle.table.specs.Table.{tableOf, declaration, routine, passed, argumentsIn, statementOf, InRoutine, OwnHandle}
-use Rattle.table.specs.View.{noArguments, view, setOn}
+use Rattle.table.specs.View.{noArguments, view}
 use Rattle.table.specs.ViewLaws.{to-if, set-has, set-from, isEarly, firstIf, viewIn, view-in}
 use Rattle.table.specs.Accepted.{OwnOfKind, Passes, Operands, GoesOn, Names}
 use Rattle.table.specs.declared.Reference.{Reference}
@@ -100,24 +100,17 @@ named-there f r s e =
 pub names-there : (f : List ℤ) (r s q : ℕ) → statementOk f r s ≡ true → Names (statementOf f s) q → q < routines f
 names-there f r s q ok n = let p = naming f r s q ok n in let l = named-there f r s (p .0) in omega arith
 
--- the set of what a statement names, by its view
-named-set : (f : List ℤ) (s : ℕ) → namedBy f s ≡ setOn (view (statementOf f s) .names) one
-unfolding namedBy
-named-set f s = rw (said f s) (go (eqb (operation f s) 8 || eqb (operation f s) 9))
-  where
-    go : (b : Bool) → cond b (one (operand f s 0)) 0 ≡ setOn (firstIf f (statementLine f s) b) one
-    go true = refl
-    go false = refl
-
 -- a statement names a routine just if its set has it
 pub names-has : (f : List ℤ) (r s q : ℕ) → routines f ≤ 32 → statementOk f r s ≡ true → Names (statementOf f s) q → In (namedBy f s) q
+unfolding namedBy
 names-has f r s q few ok n =
     let l = names-there f r s q ok n in
-    rw (named-set f s) (set-has (view (statementOf f s) .names) one q n (has-one q q (omega arith) ∙ eq-eqb q q refl))
+    set-has (view (statementOf f s) .names) one q n (has-one q q (omega arith) ∙ eq-eqb q q refl)
 
 pub has-names : (f : List ℤ) (r s q : ℕ) → routines f ≤ 32 → statementOk f r s ≡ true → In (namedBy f s) q → Names (statementOf f s) q
+unfolding namedBy
 has-names f r s q few ok h =
-    let o = set-from (view (statementOf f s) .names) one q (ap (λ (x : ℕ). has x q) (sym (named-set f s)) ∙ h) in
+    let o = set-from (view (statementOf f s) .names) one q h in
     let l = names-there f r s (o .0) ok (o .1) in
     subst (Names (statementOf f s)) (sym (eqb-true q (o .0) (sym (has-one (o .0) q (omega arith)) ∙ o .2))) (o .1)
 

@@ -1,16 +1,19 @@
 -- `findings::shared_at` meets its contract. Assumes nothing.
 use denote.Ref.{now}
-use Rattle.findings.specs.LineLaws.{start-shares, other-shares}
 use mathlib.Core.Path.{sym, _∙_}
+use Rattle.findings.specs.LineLaws.{start-shares, other-shares}
 use borrow.Author.Needs.{needs}
 use Rattle.findings.proofs.shared_at.Statement.{statement}
 use Rattle.findings.proofs.shared_at.Tie as tie
 
-field-of-requires : tie.Need-field-of-requires
-field-of-requires c κs = search needs
+view-at-requires : tie.Need-view-at-requires
+view-at-requires c κs = search needs
 
-field-of-requires-2 : tie.Need-field-of-requires-2
-field-of-requires-2 c κs = search needs
+started-requires : tie.Need-started-requires
+started-requires c κs = search needs
+
+enum-known-q : tie.Need-enum-known-q
+enum-known-q c = search needs
 
 set-at-requires : tie.Need-set-at-requires
 set-at-requires c κs = search needs
@@ -30,25 +33,30 @@ set-at-requires-4 c κs = search needs
 clash-requires : tie.Need-clash-requires
 clash-requires c κs = search needs
 
+enum-told : tie.Need-enum-told
+enum-told c = search needs
+
 returns : tie.Need-returns
-returns c = let a = c .before .before .before .before .before .before .before .before .before .before .before .args in
-    rw (c .clash .ensures, c .before .set-at4 .ensures, c .before .before .set-at3 .ensures, c .before .before .before .set-at2 .ensures, c .before .before .before .before .set-at .ensures, c .before .before .before .before .before .field-of2 .ensures .0) (sym (start-shares (now (a .numbers)) (a .s) (a .line) (c .before .before .before .before .before .before .before .before .before .before .before .pre .0) (now (a .reads)) (now (a .writes)) (now (a .later)) (a .half) (sym (c .before .before .before .before .before .before .before .field-of .ensures .0) ∙ c .before .before .before .before .before .before .if1 .taken)))
+returns c = let a = c .before .before .before .before .before .before .before .before .before .before .before .before .before .args in
+    rw (c .clash .ensures, c .before .set-at4 .ensures, c .before .before .set-at3 .ensures, c .before .before .before .set-at2 .ensures, c .before .before .before .before .set-at .ensures) (sym (start-shares (now (a .numbers)) (a .s) (a .line) (c .before .before .before .before .before .before .before .before .before .before .before .before .before .pre .0) (c .before .before .before .before .before .before .before .before .before .view-at .ensures) (now (a .reads)) (now (a .writes)) (now (a .later)) (a .half) _ (sym (c .before .before .before .before .before .before .before .before .started .ensures) ∙ c .before .before .before .before .before .before .q .given .1)))
 
 returns-2 : tie.Need-returns-2
-returns-2 c = let a = c .before .before .before .before .before .args in
-    sym (other-shares (now (a .numbers)) (a .s) (a .line) (c .before .before .before .before .before .pre .0) (now (a .reads)) (now (a .writes)) (now (a .later)) (a .half) (λ e. c .if1 .left (c .before .field-of .ensures .0 ∙ e)))
+returns-2 c = let a = c .before .before .before .before .before .before .before .args in
+    sym (other-shares (now (a .numbers)) (a .s) (a .line) (c .before .before .before .before .before .before .before .pre .0) (c .before .before .before .view-at .ensures) (now (a .reads)) (now (a .writes)) (now (a .later)) (a .half) (sym (c .before .before .started .ensures) ∙ c .enum-told .given .1))
 
 pub shared-at-spec : {M : Type 1} → statement M
 shared-at-spec =
     tie.close
     (tie.spec
-    field-of-requires
-    field-of-requires-2
+    view-at-requires
+    started-requires
+    enum-known-q
     set-at-requires
     set-at-requires-2
     set-at-requires-3
     add-set-at
     set-at-requires-4
     clash-requires
+    enum-told
     returns
     returns-2)

@@ -2,15 +2,13 @@
 use mathlib.Core.Path.{refl}
 use mathlib.Core.Logic.{inl, inr}
 use native.Mathlib.Omega.{arith}
+use Rattle.operations.proofs.Counts.{one-more}
 use borrow.Author.Needs.{needs}
 use Rattle.operations.proofs.call.Statement.{statement}
 use Rattle.operations.proofs.call.Tie as tie
 
-count-of-requires : tie.Need-count-of-requires
-count-of-requires c κs = search needs
-
 returns : tie.Need-returns
-returns c = inl (record { full = rw (c .before .count-of .ensures) at (c .if1 .taken); answer-is = refl; words-are = refl; values-are = refl })
+returns c = inl (record { full = omega (arith, one-more _ _ (c .before .pre .2), c .if1 .taken); answer-is = refl; words-are = refl; values-are = refl })
 
 mul-enter : tie.Need-mul-enter
 mul-enter c = search needs
@@ -31,7 +29,7 @@ add-enter-2 : tie.Need-add-enter-2
 add-enter-2 c = search needs
 
 enter-requires : tie.Need-enter-requires
-enter-requires c κs = let p = c .before .before .before .before .before .before .pre in (record { accepted = p .0 .accepted; few = p .0 .few; there = p .0 .there; slot-low = omega arith; caller-low = p .1 .slot-low; apart = λ e. omega arith }, p .3, p .4)
+enter-requires c κs = let p = c .before .before .before .before .pre in (record { accepted = p .0 .accepted; few = p .0 .few; there = p .0 .there; slot-low = omega arith; caller-low = p .1 .slot-low; apart = λ e. omega arith }, p .3, p .4)
 
 add-go-to : tie.Need-add-go-to
 add-go-to c = search needs
@@ -55,13 +53,12 @@ going-on-requires : tie.Need-going-on-requires
 going-on-requires c κs = search needs
 
 returns-2 : tie.Need-returns-2
-returns-2 c = inr (record { free = rw (c .before .before .before .before .before .before .before .before .before .before .before .count-of .ensures) at (c .before .before .before .before .before .before .before .before .before .before .if1 .left); answer-is = c .going-on .ensures; words-are = rw (c .before .put-count .ensures, c .before .before .before .go-to .ensures, c .before .before .before .before .before .before .before .before .before .before .before .count-of .ensures); entered = c .before .before .before .before .before .before .enter .ensures })
+returns-2 c = let newest = one-more _ _ (c .before .before .before .before .before .before .before .before .before .before .before .pre .2) in inr (record { free = omega (arith, newest, c .before .before .before .before .before .before .before .before .before .before .if1 .left); answer-is = c .going-on .ensures; words-are = rw (c .before .put-count .ensures, c .before .before .before .go-to .ensures, newest); entered = c .before .before .before .before .before .before .enter .ensures })
 
 pub call-spec : {M : Type 1} → statement M
 call-spec =
     tie.close
     (tie.spec
-    count-of-requires
     returns
     mul-enter
     element-copy-out-enter

@@ -2,10 +2,11 @@
 use mathlib.Core.Path.{sym, _∙_}
 use Prim.Native.Nat.{ℕ, _≤_}
 use native.Mathlib.Omega.{arith}
+use lib.ListN.{length-replicate}
 use denote.Ref.{now}
 use Rattle.table.specs.Table.{tableOf}
 use Rattle.table.specs.CutLaws.{cut-long}
-use Rattle.stages.specs.SetsLaws.{routines-few, given-known, held-known, front-fits, front-is, front-long}
+use Rattle.stages.specs.SetsLaws.{routines-few, given-known, held-known, front-fits, front-is, front-long, also-fits, edges-fit}
 use borrow.Author.Needs.{needs}
 use Rattle.stages.proofs.find_held.Statement.{statement}
 use Rattle.stages.proofs.find_held.Tie as tie
@@ -40,8 +41,12 @@ slice-aggregate-held-sets c = let f = now (c .before .before .before .before .be
     let long = c .before .before .before .before .given-sets .kept .1 .1 .1 .1 .0 ∙ sym (cut-long {A = ℕ} _ 32 0 r) in
     front-long 32 (c .before .before .before .before .given-sets .last .1 .1 .1 .1 .0) long
 
+slice-aggregate-held-sets-2 : tie.Need-slice-aggregate-held-sets-2
+slice-aggregate-held-sets-2 c = search needs
+
 held-sets-requires : tie.Need-held-sets-requires
-held-sets-requires c κs = (c .before .before .before .before .before .before .before .before .before .before .before .before .before .pre .0, (c .before .before .before .before .before .before .before .before .before .before .before .before .before .pre .1 .0, c .before .before .before .before .before .before .before .before .before .before .before .before .before .pre .1 .1 .1 .0))
+held-sets-requires c κs = let f = now (c .before .before .before .before .before .before .before .before .before .before .before .before .before .before .before .args .numbers) in
+    (c .before .before .before .before .before .before .before .before .before .before .before .before .before .before .before .pre .0, (c .before .before .before .before .before .before .before .before .before .before .before .before .before .before .before .pre .1 .0, ((edges-fit f (c .before .before .before .before .before .before .before .before .before .before .before .before .before .before .before .pre .0) _ (omega (arith, c .before .before .before .before .before .before .before .before .before .before .before .before .before .before .before .pre .1 .1 .1 .1, c .before .before .before .before .before .before .before .given-sets .kept .1 .1 .1 .0)), omega (arith, also-fits f (c .before .before .before .before .before .before .before .before .before .before .before .before .before .before .before .pre .0), length-replicate {A = ℕ} 1537 0)), c .before .before .before .before .before .before .before .before .before .before .before .before .before .before .before .pre .1 .1 .1 .0)))
 
 same-length : tie.Need-same-length
 same-length c = search needs
@@ -50,12 +55,12 @@ same-length-2 : tie.Need-same-length-2
 same-length-2 c = search needs
 
 returns : tie.Need-returns
-returns c = let f = now (c .before .before .before .before .before .before .before .before .before .before .before .before .before .before .before .before .args .numbers) in
-    let r : c .before .before .before .before .before .before .before .before .before .before .before .field-of .result ≤ 32 = omega (arith, c .before .before .before .before .before .before .before .before .before .before .before .field-of .ensures .0, routines-few f (c .before .before .before .before .before .before .before .before .before .before .before .before .before .before .before .before .pre .0)) in
-    let long = c .before .before .before .before .before .before .before .before .given-sets .kept .1 .1 .1 .1 .0 ∙ sym (cut-long {A = ℕ} _ 32 0 r) in
+returns c = let f = now (c .before .before .before .before .before .before .before .before .before .before .before .before .before .before .before .before .before .before .before .before .before .args .numbers) in
+    let r : c .before .before .before .before .before .before .before .before .before .before .before .before .before .before .before .before .field-of .result ≤ 32 = omega (arith, c .before .before .before .before .before .before .before .before .before .before .before .before .before .before .before .before .field-of .ensures .0, routines-few f (c .before .before .before .before .before .before .before .before .before .before .before .before .before .before .before .before .before .before .before .before .before .pre .0)) in
+    let long = c .before .before .before .before .before .before .before .before .before .before .before .before .before .given-sets .kept .1 .1 .1 .1 .0 ∙ sym (cut-long {A = ℕ} _ 32 0 r) in
     let t = tableOf f in
-    let flow = c .before .before .before .before .before .before .before .before .before .before .before .before .before .before .before .before .pre .1 .1 .0 in
-    held-known t _ flow _ _ (front-is 32 (c .before .before .before .before .before .before .before .before .given-sets .last .1 .1 .1 .1 .0) long ∙ given-known t _ flow _ (c .before .before .before .before .before .before .before .before .given-sets .ensures)) (c .before .before .held-sets .ensures)
+    let flow = c .before .before .before .before .before .before .before .before .before .before .before .before .before .before .before .before .before .before .before .before .before .pre .1 .1 .0 in
+    held-known t _ flow _ _ (front-is 32 (c .before .before .before .before .before .before .before .before .before .before .before .before .before .given-sets .last .1 .1 .1 .1 .0) long ∙ given-known t _ flow _ (c .before .before .before .before .before .before .before .before .before .before .before .before .before .given-sets .ensures)) (c .before .before .before .before .before .held-sets .ensures)
 
 pub find-held-spec : {M : Type 1} → statement M
 find-held-spec =
@@ -67,6 +72,7 @@ find-held-spec =
     given-sets-requires
     array-share-prefix-given
     slice-aggregate-held-sets
+    slice-aggregate-held-sets-2
     held-sets-requires
     same-length
     same-length-2

@@ -2,9 +2,10 @@
 use mathlib.Core.Path.{_≡_, sym, ap, _∙_}
 use Prim.Native.Nat.{ℕ, _+_, _-_, _*_, _≤_}
 use native.Mathlib.Omega.{arith}
-use lib.ListN.{length, replicate, length-take}
+use lib.ListN.{length, replicate, take, length-take}
 use Rattle.table.specs.Header.{statements, routines}
-use Rattle.stages.specs.SetsLaws.{zeros-front, behind-long, held-kept}
+use Rattle.lock_edges.specs.ViewEdges.{basesOf}
+use Rattle.stages.specs.SetsLaws.{zeros-front, behind-long, held-kept, held-count, kept-fits}
 use denote.Ref.{now}
 use borrow.Author.Needs.{needs}
 use Rattle.stages.proofs.with_flow.Statement.{statement}
@@ -28,29 +29,32 @@ mul-end c = search needs
 add-end-2 : tie.Need-add-end-2
 add-end-2 c = search needs
 
+places-of-requires : tie.Need-places-of-requires
+places-of-requires c κs = search needs
+
 slice-aggregate-find-held : tie.Need-slice-aggregate-find-held
 slice-aggregate-find-held c = search needs
 
 slice-relend-prefix-find-held : tie.Need-slice-relend-prefix-find-held
-slice-relend-prefix-find-held c = search needs
+slice-relend-prefix-find-held c = omega (arith, c .before .before .before .before .before .before .before .before .before .pre .1 .1 .places-long, c .before .places-of .ensures)
 
 slice-aggregate-find-held-2 : tie.Need-slice-aggregate-find-held-2
-slice-aggregate-find-held-2 c = let start = c .before .before .before .before .before .before .before .before .before in
-    let f = now (start .args .numbers) in
-    let work = now (start .args .work) in
-    let lent = start .pre .1 .1 in
-    let count : c .before .before .before .field-of .result ≡ statements f = c .before .before .before .field-of .ensures .0 in
-    let fits : c .before .before .before .field-of .result ≤ length work = omega (arith, lent .work-long) in
-    sym (length-take (c .before .before .before .field-of .result) work ∙ omega arith)
+slice-aggregate-find-held-2 c = let f = now (c .before .before .before .before .before .before .before .before .before .before .args .numbers) in
+    let work = now (c .before .before .before .before .before .before .before .before .before .before .args .work) in
+    let lent = c .before .before .before .before .before .before .before .before .before .before .pre .1 .1 in
+    let count : c .before .before .before .before .field-of .result ≡ statements f = c .before .before .before .before .field-of .ensures .0 in
+    let many : c .before .before .places-of .result ≡ basesOf f .every + 1 = c .before .before .places-of .ensures in
+    let fits : c .before .before .places-of .result ≤ length work = omega (arith, lent .places-long) in
+    sym (length-take (c .before .before .places-of .result) work ∙ omega arith)
 
 find-held-requires : tie.Need-find-held-requires
-find-held-requires c κs = let start = c .before .before .before .before .before .before .before .before .before .before in
-    let f = now (start .args .numbers) in
-    let work = now (start .args .work) in
-    let lent = start .pre .1 .1 in
-    let count : c .before .before .before .before .field-of .result ≡ statements f = c .before .before .before .before .field-of .ensures .0 in
-    let fits : c .before .before .before .before .field-of .result ≤ length work = omega (arith, lent .work-long) in
-    (start .pre .0, (c .before .before .before .before .before .first-statements .ensures, (start .pre .1 .0, (zeros-front _ work (lent .zeros) fits ∙ ap (λ (n : ℕ). replicate {A = ℕ} n 0) count, lent .edges-long))))
+find-held-requires c κs = let f = now (c .before .before .before .before .before .before .before .before .before .before .before .args .numbers) in
+    let work = now (c .before .before .before .before .before .before .before .before .before .before .before .args .work) in
+    let lent = c .before .before .before .before .before .before .before .before .before .before .before .pre .1 .1 in
+    let count : c .before .before .before .before .before .field-of .result ≡ statements f = c .before .before .before .before .before .field-of .ensures .0 in
+    let many : c .before .before .before .places-of .result ≡ basesOf f .every + 1 = c .before .before .before .places-of .ensures in
+    let fits : c .before .before .before .places-of .result ≤ length work = omega (arith, lent .places-long) in
+    (c .before .before .before .before .before .before .before .before .before .before .before .pre .0, (c .before .before .before .before .before .before .first-statements .ensures, (c .before .before .before .before .before .before .before .before .before .before .before .pre .1 .0, (zeros-front _ work (lent .zeros) fits ∙ ap (λ (n : ℕ). replicate {A = ℕ} n 0) many, lent .edges-long))))
 
 slice-aggregate-find-shared : tie.Need-slice-aggregate-find-shared
 slice-aggregate-find-shared c = search needs
@@ -68,36 +72,45 @@ part-find-shared-end : tie.Need-part-find-shared-end
 part-find-shared-end c = search needs
 
 find-shared-requires : tie.Need-find-shared-requires
-find-shared-requires c κs = let start = c .before .before .before .before .before .before .before .before .before .before .before .before .before .before .before .before .before .before in
-    let f = now (start .args .numbers) in
-    let work = now (start .args .work) in
-    let lent = start .pre .1 .1 in
-    let count : c .before .before .before .before .before .before .before .before .before .before .before .before .field-of .result ≡ statements f = c .before .before .before .before .before .before .before .before .before .before .before .before .field-of .ensures .0 in
-    let fits : c .before .before .before .before .before .before .before .before .before .before .before .before .field-of .result ≤ length work = omega (arith, lent .work-long) in
-    let routines-are : c .before .before .before .before .before .before .before .before .before .before .before .field-of2 .result ≡ routines f = c .before .before .before .before .before .before .before .before .before .before .before .field-of2 .ensures .0 in
-    (start .pre .0, (c .before .before .before .before .before .before .before .before .before .before .before .before .before .first-statements .ensures, (start .pre .1 .0, (behind-long _ work (c .before .before .before .before .before .before .before .find-held .last .1 .1 .1 .0) fits (c .before .before .before .before .before .before .before .find-held .kept .1 .1 .1 .0) _ (omega arith) (omega (arith, lent .work-long)) ∙ omega arith, omega (arith, lent .edges-long, c .before .before .before .before .before .before .before .find-held .kept .1 .1 .1 .1 .0)))))
+find-shared-requires c κs = let f = now (c .before .before .before .before .before .before .before .before .before .before .before .before .before .before .before .before .before .before .before .args .numbers) in
+    let work = now (c .before .before .before .before .before .before .before .before .before .before .before .before .before .before .before .before .before .before .before .args .work) in
+    let lent = c .before .before .before .before .before .before .before .before .before .before .before .before .before .before .before .before .before .before .before .pre .1 .1 in
+    let count : c .before .before .before .before .before .before .before .before .before .before .before .before .before .field-of .result ≡ statements f = c .before .before .before .before .before .before .before .before .before .before .before .before .before .field-of .ensures .0 in
+    let many : c .before .before .before .before .before .before .before .before .before .before .before .places-of .result ≡ basesOf f .every + 1 = c .before .before .before .before .before .before .before .before .before .before .before .places-of .ensures in
+    let fits : c .before .before .before .before .before .before .before .before .before .before .before .places-of .result ≤ length work = omega (arith, lent .places-long) in
+    let among : c .before .before .before .before .before .before .before .before .before .before .before .before .before .field-of .result ≤ c .before .before .before .before .before .before .before .before .before .before .before .places-of .result = omega arith in
+    let routines-are : c .before .before .before .before .before .before .before .before .before .before .before .before .field-of2 .result ≡ routines f = c .before .before .before .before .before .before .before .before .before .before .before .before .field-of2 .ensures .0 in
+    (c .before .before .before .before .before .before .before .before .before .before .before .before .before .before .before .before .before .before .before .pre .0, (c .before .before .before .before .before .before .before .before .before .before .before .before .before .before .first-statements .ensures, (c .before .before .before .before .before .before .before .before .before .before .before .before .before .before .before .before .before .before .before .pre .1 .0, (behind-long _ _ work (c .before .before .before .before .before .before .before .find-held .last .1 .1 .1 .0) fits among (c .before .before .before .before .before .before .before .find-held .kept .1 .1 .1 .0) _ (omega arith) (omega (arith, lent .work-long)) ∙ omega arith, omega (arith, lent .edges-long, c .before .before .before .before .before .before .before .find-held .kept .1 .1 .1 .1 .0)))))
 
 slice-reshare-prefix-print-found : tie.Need-slice-reshare-prefix-print-found
-slice-reshare-prefix-print-found c = search needs
+slice-reshare-prefix-print-found c = let f = now (c .before .before .before .before .before .before .before .before .before .before .before .before .before .before .before .before .before .before .before .before .before .before .before .before .args .numbers) in
+    let work = now (c .before .before .before .before .before .before .before .before .before .before .before .before .before .before .before .before .before .before .before .before .before .before .before .before .args .work) in
+    let lent = c .before .before .before .before .before .before .before .before .before .before .before .before .before .before .before .before .before .before .before .before .before .before .before .before .pre .1 .1 in
+    let count : c .before .before .before .before .before .before .before .before .before .before .before .before .before .before .before .before .before .before .field-of .result ≡ statements f = c .before .before .before .before .before .before .before .before .before .before .before .before .before .before .before .before .before .before .field-of .ensures .0 in
+    let many : c .before .before .before .before .before .before .before .before .before .before .before .before .before .before .before .before .places-of .result ≡ basesOf f .every + 1 = c .before .before .before .before .before .before .before .before .before .before .before .before .before .before .before .before .places-of .ensures in
+    let fits : c .before .before .before .before .before .before .before .before .before .before .before .before .before .before .before .before .places-of .result ≤ length work = omega (arith, lent .places-long) in
+    let among : c .before .before .before .before .before .before .before .before .before .before .before .before .before .before .before .before .before .before .field-of .result ≤ c .before .before .before .before .before .before .before .before .before .before .before .before .before .before .before .before .places-of .result = omega arith in
+    kept-fits _ _ work (c .before .before .before .before .before .before .before .before .before .before .before .before .find-held .last .1 .1 .1 .0) fits among (c .before .before .before .before .before .before .before .before .before .before .before .before .find-held .kept .1 .1 .1 .0) (c .before .before .before .before .before .before .before .before .before .before .before .before .before .before .before .before .before .before .field-of .result + 2 * (c .before .before .before .before .before .before .before .before .before .before .before .before .before .before .before .before .before .before .field-of .result + c .before .before .before .before .before .before .before .before .before .before .before .before .before .before .before .before .before .field-of2 .result) - c .before .before .before .before .before .before .before .before .before .before .before .before .before .before .before .before .before .before .field-of .result) (c .before .before .before .before .find-shared .last .1 .1 .1 .0)
 
 slice-aggregate-print-found : tie.Need-slice-aggregate-print-found
-slice-aggregate-print-found c = let start = c .before .before .before .before .before .before .before .before .before .before .before .before .before .before .before .before .before .before .before .before .before .before .before .before in
-    let f = now (start .args .numbers) in
-    let work = now (start .args .work) in
-    let lent = start .pre .1 .1 in
-    let count : c .before .before .before .before .before .before .before .before .before .before .before .before .before .before .before .before .before .before .field-of .result ≡ statements f = c .before .before .before .before .before .before .before .before .before .before .before .before .before .before .before .before .before .before .field-of .ensures .0 in
-    let fits : c .before .before .before .before .before .before .before .before .before .before .before .before .before .before .before .before .before .before .field-of .result ≤ length work = omega (arith, lent .work-long) in
-    let kept = c .before .before .before .before .before .before .before .before .before .before .before .before .before .find-held .kept .1 .1 .1 .0 in
-    sym (ap length (held-kept _ work (c .before .before .before .before .before .before .before .before .before .before .before .before .before .find-held .last .1 .1 .1 .0) fits (c .before .before .before .before .before .before .before .before .before .before .before .before .before .find-held .kept .1 .1 .1 .0) (c .before .before .before .before .before .before .before .before .before .before .before .before .before .before .before .before .before .before .field-of .result + 2 * (c .before .before .before .before .before .before .before .before .before .before .before .before .before .before .before .before .before .before .field-of .result + c .before .before .before .before .before .before .before .before .before .before .before .before .before .before .before .before .before .field-of2 .result) - c .before .before .before .before .before .before .before .before .before .before .before .before .before .before .before .before .before .before .field-of .result) (c .before .before .before .before .before .find-shared .last .1 .1 .1 .0)) ∙ kept ∙ length-take (c .before .before .before .before .before .before .before .before .before .before .before .before .before .before .before .before .before .before .field-of .result) work ∙ omega arith)
+slice-aggregate-print-found c = let f = now (c .before .before .before .before .before .before .before .before .before .before .before .before .before .before .before .before .before .before .before .before .before .before .before .before .before .args .numbers) in
+    let work = now (c .before .before .before .before .before .before .before .before .before .before .before .before .before .before .before .before .before .before .before .before .before .before .before .before .before .args .work) in
+    let lent = c .before .before .before .before .before .before .before .before .before .before .before .before .before .before .before .before .before .before .before .before .before .before .before .before .before .pre .1 .1 in
+    let count : c .before .before .before .before .before .before .before .before .before .before .before .before .before .before .before .before .before .before .before .field-of .result ≡ statements f = c .before .before .before .before .before .before .before .before .before .before .before .before .before .before .before .before .before .before .before .field-of .ensures .0 in
+    let many : c .before .before .before .before .before .before .before .before .before .before .before .before .before .before .before .before .before .places-of .result ≡ basesOf f .every + 1 = c .before .before .before .before .before .before .before .before .before .before .before .before .before .before .before .before .before .places-of .ensures in
+    let fits : c .before .before .before .before .before .before .before .before .before .before .before .before .before .before .before .before .before .places-of .result ≤ length work = omega (arith, lent .places-long) in
+    let among : c .before .before .before .before .before .before .before .before .before .before .before .before .before .before .before .before .before .before .before .field-of .result ≤ c .before .before .before .before .before .before .before .before .before .before .before .before .before .before .before .before .before .places-of .result = omega arith in
+    held-count _ _ work (c .before .before .before .before .before .before .before .before .before .before .before .before .before .find-held .last .1 .1 .1 .0) fits among (c .before .before .before .before .before .before .before .before .before .before .before .before .before .find-held .kept .1 .1 .1 .0) ∙ sym (ap length (held-kept _ _ work (c .before .before .before .before .before .before .before .before .before .before .before .before .before .find-held .last .1 .1 .1 .0) fits among (c .before .before .before .before .before .before .before .before .before .before .before .before .before .find-held .kept .1 .1 .1 .0) (c .before .before .before .before .before .before .before .before .before .before .before .before .before .before .before .before .before .before .before .field-of .result + 2 * (c .before .before .before .before .before .before .before .before .before .before .before .before .before .before .before .before .before .before .before .field-of .result + c .before .before .before .before .before .before .before .before .before .before .before .before .before .before .before .before .before .before .field-of2 .result) - c .before .before .before .before .before .before .before .before .before .before .before .before .before .before .before .before .before .before .before .field-of .result) (c .before .before .before .before .before .find-shared .last .1 .1 .1 .0)))
 
 print-found-requires : tie.Need-print-found-requires
-print-found-requires c κs = let start = c .before .before .before .before .before .before .before .before .before .before .before .before .before .before .before .before .before .before .before .before .before .before .before .before .before in
-    let f = now (start .args .numbers) in
-    let work = now (start .args .work) in
-    let lent = start .pre .1 .1 in
-    let count : c .before .before .before .before .before .before .before .before .before .before .before .before .before .before .before .before .before .before .before .field-of .result ≡ statements f = c .before .before .before .before .before .before .before .before .before .before .before .before .before .before .before .before .before .before .before .field-of .ensures .0 in
-    let fits : c .before .before .before .before .before .before .before .before .before .before .before .before .before .before .before .before .before .before .before .field-of .result ≤ length work = omega (arith, lent .work-long) in
-    (start .pre .0, (start .pre .1 .0, (held-kept _ work (c .before .before .before .before .before .before .before .before .before .before .before .before .before .before .find-held .last .1 .1 .1 .0) fits (c .before .before .before .before .before .before .before .before .before .before .before .before .before .before .find-held .kept .1 .1 .1 .0) (c .before .before .before .before .before .before .before .before .before .before .before .before .before .before .before .before .before .before .before .field-of .result + 2 * (c .before .before .before .before .before .before .before .before .before .before .before .before .before .before .before .before .before .before .before .field-of .result + c .before .before .before .before .before .before .before .before .before .before .before .before .before .before .before .before .before .before .field-of2 .result) - c .before .before .before .before .before .before .before .before .before .before .before .before .before .before .before .before .before .before .before .field-of .result) (c .before .before .before .before .before .before .find-shared .last .1 .1 .1 .0) ∙ c .before .before .before .before .before .before .before .before .before .before .before .before .before .before .find-held .ensures, c .before .before .before .before .before .before .find-shared .ensures)))
+print-found-requires c κs = let f = now (c .before .before .before .before .before .before .before .before .before .before .before .before .before .before .before .before .before .before .before .before .before .before .before .before .before .before .args .numbers) in
+    let work = now (c .before .before .before .before .before .before .before .before .before .before .before .before .before .before .before .before .before .before .before .before .before .before .before .before .before .before .args .work) in
+    let lent = c .before .before .before .before .before .before .before .before .before .before .before .before .before .before .before .before .before .before .before .before .before .before .before .before .before .before .pre .1 .1 in
+    let count : c .before .before .before .before .before .before .before .before .before .before .before .before .before .before .before .before .before .before .before .before .field-of .result ≡ statements f = c .before .before .before .before .before .before .before .before .before .before .before .before .before .before .before .before .before .before .before .before .field-of .ensures .0 in
+    let many : c .before .before .before .before .before .before .before .before .before .before .before .before .before .before .before .before .before .before .places-of .result ≡ basesOf f .every + 1 = c .before .before .before .before .before .before .before .before .before .before .before .before .before .before .before .before .before .before .places-of .ensures in
+    let fits : c .before .before .before .before .before .before .before .before .before .before .before .before .before .before .before .before .before .before .places-of .result ≤ length work = omega (arith, lent .places-long) in
+    let among : c .before .before .before .before .before .before .before .before .before .before .before .before .before .before .before .before .before .before .before .before .field-of .result ≤ c .before .before .before .before .before .before .before .before .before .before .before .before .before .before .before .before .before .before .places-of .result = omega arith in
+    (c .before .before .before .before .before .before .before .before .before .before .before .before .before .before .before .before .before .before .before .before .before .before .before .before .before .before .pre .0, (c .before .before .before .before .before .before .before .before .before .before .before .before .before .before .before .before .before .before .before .before .before .before .before .before .before .before .pre .1 .0, (held-kept _ _ work (c .before .before .before .before .before .before .before .before .before .before .before .before .before .before .find-held .last .1 .1 .1 .0) fits among (c .before .before .before .before .before .before .before .before .before .before .before .before .before .before .find-held .kept .1 .1 .1 .0) (c .before .before .before .before .before .before .before .before .before .before .before .before .before .before .before .before .before .before .before .before .field-of .result + 2 * (c .before .before .before .before .before .before .before .before .before .before .before .before .before .before .before .before .before .before .before .before .field-of .result + c .before .before .before .before .before .before .before .before .before .before .before .before .before .before .before .before .before .before .before .field-of2 .result) - c .before .before .before .before .before .before .before .before .before .before .before .before .before .before .before .before .before .before .before .before .field-of .result) (c .before .before .before .before .before .before .find-shared .last .1 .1 .1 .0) ∙ ap (λ (n : ℕ). take n (c .before .before .before .before .before .before .before .before .before .before .before .before .before .before .find-held .last .1 .1 .1 .0)) count ∙ c .before .before .before .before .before .before .before .before .before .before .before .before .before .before .find-held .ensures, c .before .before .before .before .before .before .find-shared .ensures)))
 
 same-length : tie.Need-same-length
 same-length c = search needs
@@ -121,6 +134,7 @@ with-flow-spec =
     add-end
     mul-end
     add-end-2
+    places-of-requires
     slice-aggregate-find-held
     slice-relend-prefix-find-held
     slice-aggregate-find-held-2

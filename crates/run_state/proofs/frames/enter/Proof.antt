@@ -3,16 +3,16 @@ use mathlib.Core.Path.{_∙_}
 use Prim.Native.Nat.{_-_}
 use native.Mathlib.Omega.{arith}
 use borrow.Author.Needs.{needs}
-use Rattle.table.specs.Table.{tableOf, argumentsIn}
+use Rattle.table.specs.Table.{tableOf}
 use Rattle.run_state.proofs.Filling.{Setting, setting-none, setting-next, setting-all, value-kept}
 use Rattle.run_state.proofs.frames.enter.Statement.{statement}
 use Rattle.run_state.proofs.frames.enter.Tie as tie
 
 abbrev Inv-loop : tie.InvT-loop
-Inv-loop numbers from end line values₀ slot caller h₀ values h = Setting (tableOf numbers) values₀ values slot caller from end h (argumentsIn numbers line)
+Inv-loop numbers from end arguments values₀ slot caller h₀ values h = Setting (tableOf numbers) values₀ values slot caller from end h arguments
 
 abbrev μ-loop : tie.MeasureT-loop
-μ-loop numbers from end line values₀ slot caller h₀ values h = end - h
+μ-loop numbers from end arguments values₀ slot caller h₀ values h = end - h
 
 loop-holds : tie.Need-loop-holds Inv-loop μ-loop
 loop-holds c = setting-none _ _ _ _ _ _ _ (c .pre .1)

@@ -4,7 +4,6 @@ use mathlib.Core.Path.{_≡_, sym, _∙_}
 use native.Mathlib.Omega.{arith}
 use Prim.Native.Nat.{_+_}
 use Rattle.table.specs.Fields.{field}
-use Rattle.table.specs.Table.{argumentsIn}
 use Rattle.run_state.specs.TableLaws.{argument-value, local-value, local-small}
 use borrow.Author.Needs.{needs}
 use Rattle.run_state.proofs.frames.entry_value.Statement.{statement}
@@ -32,11 +31,11 @@ field-in-requires-2 : tie.Need-field-in-requires-2
 field-in-requires-2 c κs = search needs
 
 returns : tie.Need-returns
-returns c = let a = c .before .before .before .before .args in (argument-value (now (a .numbers)) (now (a .values)) (a .caller) (a .from) (argumentsIn (now (a .numbers)) (a .line)) (a .h) (c .before .before .before .before .pre .2) _ _ (sym (c .before .before .before .field-in .ensures .0) ∙ c .before .before .if1 .taken) (c .before .argument-of .ensures) (c .value-of .ensures .0), c .value-of .ensures .1)
+returns c = let a = c .before .before .before .before .args in (argument-value (now (a .numbers)) (now (a .values)) (a .caller) (a .from) (a .arguments) (a .h) (c .before .before .before .before .pre .2) _ _ (sym (c .before .before .before .field-in .ensures .0) ∙ c .before .before .if1 .taken) (c .before .argument-of .ensures) (c .value-of .ensures .0), c .value-of .ensures .1)
 
 returns-2 : tie.Need-returns-2
 returns-2 c = let a = c .before .before .before .args in
-    let arguments = argumentsIn (now (a .numbers)) (a .line) in
+    let arguments = a .arguments in
     let there = c .before .before .before .pre .2 in
     let local : field (now (a .numbers)) (1 + a .h) 3 ≡ 0 → ⊥ = λ e. c .before .if1 .left (c .before .before .field-in .ensures .0 ∙ e) in
     (c .field-in2 .ensures .0 ∙ local-value (now (a .numbers)) (now (a .values)) (a .caller) (a .from) arguments (a .h) there local, omega (arith, c .field-in2 .ensures .0, local-small (now (a .numbers)) (now (a .values)) (a .caller) (a .from) arguments (a .h) there (c .before .before .before .pre .3) local))

@@ -18,7 +18,7 @@ wide-requires : tie.Need-wide-requires
 wide-requires c κs = search needs
 
 returns : tie.Need-returns
-returns c = c .wide .ensures .0 ∙ part-at 512 16 _ _ _ 0 (search needs) refl
+returns c = c .wide .ensures ∙ part-at 512 16 _ _ _ 0 (search needs) refl
 
 pub count-of-spec : {M : Type 1} → statement M
 count-of-spec = tie.close (tie.spec add-wide mul-wide element-copy-out-wide wide-requires returns)

@@ -16,7 +16,7 @@ wide-requires : tie.Need-wide-requires
 wide-requires c κs = search needs
 
 returns : tie.Need-returns
-returns c = c .wide .ensures .0 ∙ part-at 0 512 _ _ _ 0 (search needs) (omega arith)
+returns c = c .wide .ensures ∙ part-at 0 512 _ _ _ 0 (search needs) (omega arith)
 
 pub next-of-spec : {M : Type 1} → statement M
 next-of-spec = tie.close (tie.spec mul-wide element-copy-out-wide wide-requires returns)

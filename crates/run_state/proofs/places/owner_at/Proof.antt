@@ -18,7 +18,7 @@ wide-requires : tie.Need-wide-requires
 wide-requires c κs = search needs
 
 returns : tie.Need-returns
-returns c = c .wide .ensures .0 ∙ part-at 529 _ _ _ _ 0 (c .before .before .if1 .taken) refl
+returns c = c .wide .ensures ∙ part-at 529 _ _ _ _ 0 (c .before .before .if1 .taken) refl
 
 returns-2 : tie.Need-returns-2
 returns-2 c = part-past 529 _ _ _ 0 (c .if1 .left)

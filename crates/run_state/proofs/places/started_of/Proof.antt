@@ -12,7 +12,7 @@ wide-requires c κs = search needs
 
 returns : tie.Need-returns
 unfolding startedIn
-returns c = c .wide .ensures .0
+returns c = c .wide .ensures
 
 pub started-of-spec : {M : Type 1} → statement M
 started-of-spec = tie.close (tie.spec element-copy-out-wide wide-requires returns)

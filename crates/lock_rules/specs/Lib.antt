@@ -1,7 +1,0 @@
-pub mod Steps
-pub mod Rules
-pub mod StepLaws
-pub mod MoveLaws
-pub mod RuleLaws
-pub mod NumberLaws
-pub mod ClosedLaws
