@@ -1,7 +1,7 @@
 // The handle values of frames. Frame d of thread n, the oldest 0, stands in slot n * 32 + d, and the value of its routine's handle h in `values` at
 // slot * 8 + h % 8 (a routine has at most eight handles, in a row).
 ghost use mathlib.Core.Path.{_≡_};
-ghost use Prim.Native.Nat.{_+_, _*_, _<_, _≤_};
+ghost use Prim.Native.Nat.{_+_, _*_, _<_};
 ghost use lib.ListN.{getD, set, length};
 ghost use Rattle.table.specs.Table.{tableOf};
 ghost use Rattle.table.specs.Accepted.{Accepted};
