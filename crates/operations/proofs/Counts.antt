@@ -1,5 +1,5 @@
 -- How many frames a thread has open, by its newest frame's slot. Assumes nothing.
-use Prim.Native.Nat.{ℕ, _+_, _-_, _%_, _<_, _≤_}
+use Prim.Native.Nat.{ℕ, _+_, _-_, _%_}
 use mathlib.Core.Path.{_≡_}
 use native.Mathlib.Omega.{arith}
 use Rattle.operations.specs.declared.Place.{Place}

@@ -116,6 +116,10 @@ unfoldable pub startValue : Table → List ℕ → ℕ → ℕ → Arguments →
 startValue t values caller from arguments h =
     cond (eqb (declaration t h .origin) 0) (getD values (valuePlace caller (getD (passed arguments) (h - from) 0)) 0) (declaration t h .start)
 
+-- the arguments behind the first
+abbrev pub argumentsBehind : Arguments → Arguments
+argumentsBehind a = record { first = a .second; second = a .third; third = a .fourth; fourth = 0 }
+
 -- the handles `from` to `end` are at most eight of an accepted table, and their slot is not the caller's
 pub record Entering (t : Table) (from end slot caller : ℕ) : Type 0 where
   pub accepted : Accepted t

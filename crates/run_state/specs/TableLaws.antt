@@ -1,6 +1,6 @@
 -- The parts of a table as its numbers give them, and what the two lists of routines give. Assumes nothing.
-use Prim.Native.Nat.{ℕ, zero, suc, _+_, _-_, _*_, _<_, _≤_}
-use mathlib.Core.Path.{_≡_, refl, sym, ap, _∙_}
+use Prim.Native.Nat.{ℕ, _+_, _-_, _*_, _<_, _≤_}
+use mathlib.Core.Path.{_≡_, sym, ap, _∙_}
 use mathlib.Core.List.{List}
 use mathlib.Core.Logic.{_⊎_, inl, inr}
 use borrow.Author.Tests.{eq-eqb, ne-eqb}
@@ -16,7 +16,7 @@ use Rattle.table.specs.TabulateLaws.{length-tabulate, getD-tabulate}
 use Rattle.table.specs.ExtentLaws.{handles-next, first-at, handle-at}
 use Rattle.table.specs.LookupLaws.{routines-length}
 use Rattle.table.specs.UntilLaws.{until-range}
-use Rattle.table.specs.Table.{Table, tableOf, declaration, routine, statement, passed, argumentsIn, declarationOf, routineAt, statementOf}
+use Rattle.table.specs.Table.{Table, tableOf, declaration, routine, statement, passed, declarationOf, routineAt, statementOf}
 use Rattle.table.specs.Accepted.{Accepted, HandleFacts}
 use Rattle.table.specs.declared.Arguments.{Arguments}
 use Rattle.run_state.specs.Shown.{HandlesThere, Naming, valuePlace, startValue}

@@ -1,11 +1,11 @@
 // The handle values of frames. Frame d of thread n, the oldest 0, stands in slot n * 32 + d, and the value of its routine's handle h in `values` at
 // slot * 8 + h % 8 (a routine has at most eight handles, in a row).
 ghost use mathlib.Core.Path.{_≡_};
-ghost use Prim.Native.Nat.{_+_, _*_, _<_, _≤_};
+ghost use Prim.Native.Nat.{_+_, _*_, _<_};
 ghost use lib.ListN.{getD, set, length};
-ghost use Rattle.table.specs.Table.{tableOf, passed};
+ghost use Rattle.table.specs.Table.{tableOf};
 ghost use Rattle.table.specs.Accepted.{Accepted};
-ghost use Rattle.run_state.specs.Shown.{valuePlace, HandlesThere, Entering, Entered, startValue};
+ghost use Rattle.run_state.specs.Shown.{valuePlace, HandlesThere, Entering, Entered, startValue, argumentsBehind};
 use table::Arguments;
 
 // What handle `h` refers to in the frame in `slot`.
@@ -24,41 +24,33 @@ pub fn put_value(values: &mut [u8; 4096], slot: usize, h: usize, v: usize)
     values[slot * 8 + h % 8] = (v % 256) as u8;
 }
 
-// The handle that is passed for parameter `k`; 0 where there is none.
-fn argument_of(arguments: Arguments, k: usize) -> usize
-    ensures { λ r. ⌜ r ≡ getD (passed arguments) k 0 ⌝ }
-{
-    if k == 0 {
-        return arguments.first;
-    }
-    if k == 1 {
-        return arguments.second;
-    }
-    if k == 2 {
-        return arguments.third;
-    }
-    if k == 3 {
-        return arguments.fourth;
-    }
-    0
-}
-
-// What handle `h` of a routine whose handles begin at `from` refers to in a new frame, with arguments from the frame in slot `caller`.
+// What handle `h` refers to in a new frame, with arguments from the frame in slot `caller`: the first of them is the one for `h`.
 fn entry_value(
     numbers: &[i32],
-    from: usize,
     h: usize,
-    arguments: Arguments,
+    left: Arguments,
     values: &[u8; 4096],
     caller: usize,
 ) -> usize
-    requires { ⌜ (caller < 512) × (from ≤ h) × (h < length (tableOf (now numbers) .handles)) × Accepted (tableOf (now numbers)) × HandlesThere (now numbers) ⌝ }
-    ensures { λ r. ⌜ (r ≡ startValue (tableOf (now (numbers .entry))) (now (values .entry)) caller from arguments h) × (r < 256) ⌝ }
+    requires { ⌜ (caller < 512) × (h < length (tableOf (now numbers) .handles)) × Accepted (tableOf (now numbers)) × HandlesThere (now numbers) ⌝ }
+    ensures { λ r. ⌜ (r ≡ startValue (tableOf (now (numbers .entry))) (now (values .entry)) caller h left h) × (r < 256) ⌝ }
 {
     if table::field_in(numbers, 1 + h, 3) == 0 {
-        value_of(values, caller, argument_of(arguments, h - from))
+        value_of(values, caller, left.first)
     } else {
         table::field_in(numbers, 1 + h, 4)
+    }
+}
+
+// The arguments behind the first.
+fn behind(left: Arguments) -> Arguments
+    ensures { λ r. ⌜ r ≡ argumentsBehind left ⌝ }
+{
+    Arguments {
+        first: left.second,
+        second: left.third,
+        third: left.fourth,
+        fourth: 0,
     }
 }
 
@@ -77,9 +69,11 @@ pub fn enter(
     ensures { λ _. ⌜ Entered (tableOf (now (numbers .entry))) (now (values .entry)) (now (values .exit)) slot caller from end arguments ⌝ }
 {
     let mut h = from;
+    let mut left = arguments;
     while h < end {
-        let v = entry_value(numbers, from, h, arguments, values, caller);
+        let v = entry_value(numbers, h, left, values, caller);
         put_value(values, slot, h, v);
+        left = behind(left);
         h += 1;
     }
 }

@@ -1,6 +1,5 @@
 -- `steps_vectors::in_turn` meets its contract. Assumes nothing.
 use mathlib.Core.Path.{refl}
-use denote.Ref.{now}
 use Rattle.table.specs.Table.{countsOf}
 use Rattle.engine.specs.OutcomeLaws.{read-facts}
 use borrow.Author.Needs.{needs}

@@ -2,7 +2,8 @@
 use denote.Ref.{now}
 use mathlib.Core.Path.{_≡_, sym, _∙_}
 use native.Mathlib.Omega.{arith}
-use Prim.Native.Nat.{_+_}
+use Prim.Native.Nat.{_+_, _-_}
+use Rattle.run_state.proofs.Filling.{argument-at}
 use Rattle.table.specs.Fields.{field}
 use Rattle.run_state.specs.TableLaws.{argument-value, local-value, local-small}
 use borrow.Author.Needs.{needs}
@@ -15,12 +16,6 @@ add-field-in c = search needs
 field-in-requires : tie.Need-field-in-requires
 field-in-requires c κs = search needs
 
-sub-argument-of : tie.Need-sub-argument-of
-sub-argument-of c = search needs
-
-argument-of-requires : tie.Need-argument-of-requires
-argument-of-requires c κs = search needs
-
 value-of-requires : tie.Need-value-of-requires
 value-of-requires c κs = search needs
 
@@ -31,14 +26,13 @@ field-in-requires-2 : tie.Need-field-in-requires-2
 field-in-requires-2 c κs = search needs
 
 returns : tie.Need-returns
-returns c = let a = c .before .before .before .before .args in (argument-value (now (a .numbers)) (now (a .values)) (a .caller) (a .from) (a .arguments) (a .h) (c .before .before .before .before .pre .2) _ _ (sym (c .before .before .before .field-in .ensures .0) ∙ c .before .before .if1 .taken) (c .before .argument-of .ensures) (c .value-of .ensures .0), c .value-of .ensures .1)
+returns c = let a = c .before .before .before .args in (argument-value (now (a .numbers)) (now (a .values)) (a .caller) (a .h) (a .left) (a .h) (c .before .before .before .pre .1) _ _ (sym (c .before .before .field-in .ensures .0) ∙ c .before .if1 .taken) (argument-at (a .left) 0 (a .h - a .h) (omega arith)) (c .value-of .ensures .0), c .value-of .ensures .1)
 
 returns-2 : tie.Need-returns-2
 returns-2 c = let a = c .before .before .before .args in
-    let arguments = a .arguments in
-    let there = c .before .before .before .pre .2 in
+    let there = c .before .before .before .pre .1 in
     let local : field (now (a .numbers)) (1 + a .h) 3 ≡ 0 → ⊥ = λ e. c .before .if1 .left (c .before .before .field-in .ensures .0 ∙ e) in
-    (c .field-in2 .ensures .0 ∙ local-value (now (a .numbers)) (now (a .values)) (a .caller) (a .from) arguments (a .h) there local, omega (arith, c .field-in2 .ensures .0, local-small (now (a .numbers)) (now (a .values)) (a .caller) (a .from) arguments (a .h) there (c .before .before .before .pre .3) local))
+    (c .field-in2 .ensures .0 ∙ local-value (now (a .numbers)) (now (a .values)) (a .caller) (a .h) (a .left) (a .h) there local, omega (arith, c .field-in2 .ensures .0, local-small (now (a .numbers)) (now (a .values)) (a .caller) (a .h) (a .left) (a .h) there (c .before .before .before .pre .2) local))
 
 pub entry-value-spec : {M : Type 1} → statement M
 entry-value-spec =
@@ -46,8 +40,6 @@ entry-value-spec =
     (tie.spec
     add-field-in
     field-in-requires
-    sub-argument-of
-    argument-of-requires
     value-of-requires
     add-field-in-2
     field-in-requires-2
