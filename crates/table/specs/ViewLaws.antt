@@ -1,5 +1,5 @@
 -- Laws of the connectives over a reference, and each attribute of a statement by the number of its operation. Assumes nothing.
-use mathlib.Core.Path.{_≡_, refl, sym, _∙_}
+use mathlib.Core.Path.{_≡_, refl, sym, _∙_, ap}
 use mathlib.Core.Bool.{Bool, true, false, cond, not, _&&_, _||_}
 use mathlib.Core.Logic.{_⊎_, inl, inr}
 use mathlib.Core.List.{List, map, List·Memᴰ}
@@ -7,7 +7,7 @@ use Prim.Native.Nat.{ℕ, zero, suc, _^_, _<_}
 use native.Mathlib.Omega.{arith}
 use lib.Dec.{eqb, ltb}
 use lib.IntN.{ℤ}
-use borrow.Author.Tests.{ne-eqb, lt-ltb, le-ltb}
+use borrow.Author.Tests.{ne-eqb, lt-ltb, le-ltb, eqb-true}
 use Rattle.sets.specs.Set.{has}
 use Rattle.sets.specs.SetLaws.{has-empty}
 use Rattle.table.specs.Fields.{field}
@@ -212,3 +212,26 @@ view-in f line (suc (suc (suc (suc (suc (suc (suc (suc (suc (suc (suc (suc n))))
       ne-eqb op 10 (omega arith),
       ne-eqb op 11 (omega arith),
     )
+
+-- CALL and START by their numbers
+pub calls-in : (f : List ℤ) (line op : ℕ) → calls (view (statementIn f line op)) ≡ firstIf f line (eqb op 8)
+calls-in f line op = ap calls (view-in f line op) ∙ go (eqb op 9) refl
+  where
+    go : (b : Bool) → eqb op 9 ≡ b → cond b Nothing (firstIf f line (eqb op 8 || b)) ≡ firstIf f line (eqb op 8)
+    go true e = let u : op ≡ 9 = eqb-true op 9 e in rw u
+    go false e = at (eqb op 8)
+      where
+        at : (c : Bool) → firstIf f line (c || false) ≡ firstIf f line c
+        at true = refl
+        at false = refl
+
+pub starts-in : (f : List ℤ) (line op : ℕ) → starts (view (statementIn f line op)) ≡ firstIf f line (eqb op 9)
+starts-in f line op = ap starts (view-in f line op) ∙ go (eqb op 9) refl
+  where
+    go : (b : Bool) → eqb op 9 ≡ b → cond b (firstIf f line (eqb op 8 || b)) Nothing ≡ firstIf f line b
+    go true e = at (eqb op 8)
+      where
+        at : (c : Bool) → firstIf f line (c || true) ≡ To (field f line 2)
+        at true = refl
+        at false = refl
+    go false e = refl

@@ -308,26 +308,87 @@ pub fn view_at(numbers: &[i32], line: usize) -> View
     }
 }
 
-// The routine that a statement CALLs.
-pub fn called(view: View) -> Reference
-    ensures { λ r. ⌜ r ≡ calls view ⌝ }
+// The attributes one by one, for code that asks for few of them: the whole view costs more than it.
+
+// Whether the statement in `line` may go on to the next one.
+pub fn onward_at(numbers: &[i32], line: usize) -> bool
+    ensures { λ r. ⌜ r ≡ view (statementIn (now (numbers .entry)) line (field (now (numbers .entry)) line 1)) .onward ⌝ }
 {
-    if view.starting {
-        Reference::Nothing
-    } else {
-        view.names
-    }
+    let op = field_of(numbers, line, 1);
+    (0 < op) & (op < 12) & !(op == 10)
 }
 
-// The routine that a statement STARTs.
-pub fn started(view: View) -> Reference
-    ensures { λ r. ⌜ r ≡ starts view ⌝ }
+// The statement that the one in `line` may jump to.
+pub fn target_at(numbers: &[i32], line: usize) -> Reference
+    ensures { λ r. ⌜ r ≡ view (statementIn (now (numbers .entry)) line (field (now (numbers .entry)) line 1)) .target ⌝ }
 {
-    if view.starting {
-        view.names
-    } else {
-        Reference::Nothing
-    }
+    let op = field_of(numbers, line, 1);
+    first_if(numbers, line, (op == 10) | (op == 11))
+}
+
+// The handle whose cell the statement in `line` reads.
+pub fn reads_at(numbers: &[i32], line: usize) -> Reference
+    ensures { λ r. ⌜ r ≡ view (statementIn (now (numbers .entry)) line (field (now (numbers .entry)) line 1)) .reads ⌝ }
+{
+    first_if(numbers, line, field_of(numbers, line, 1) == 1)
+}
+
+// The handle whose cell the statement in `line` writes.
+pub fn writes_at(numbers: &[i32], line: usize) -> Reference
+    ensures { λ r. ⌜ r ≡ view (statementIn (now (numbers .entry)) line (field (now (numbers .entry)) line 1)) .writes ⌝ }
+{
+    first_if(numbers, line, field_of(numbers, line, 1) == 2)
+}
+
+// The handle whose lock the statement in `line` gives up.
+pub fn gives_at(numbers: &[i32], line: usize) -> Reference
+    ensures { λ r. ⌜ r ≡ view (statementIn (now (numbers .entry)) line (field (now (numbers .entry)) line 1)) .gives ⌝ }
+{
+    first_if(numbers, line, field_of(numbers, line, 1) == 6)
+}
+
+// The handle that the statement in `line` makes refer elsewhere.
+pub fn points_at(numbers: &[i32], line: usize) -> Reference
+    ensures { λ r. ⌜ r ≡ view (statementIn (now (numbers .entry)) line (field (now (numbers .entry)) line 1)) .points ⌝ }
+{
+    first_if(numbers, line, field_of(numbers, line, 1) == 7)
+}
+
+// The handle whose reference that becomes.
+pub fn source_at(numbers: &[i32], line: usize) -> usize
+    ensures { λ r. ⌜ r ≡ view (statementIn (now (numbers .entry)) line (field (now (numbers .entry)) line 1)) .source ⌝ }
+{
+    second_if(numbers, line, field_of(numbers, line, 1) == 7)
+}
+
+// The routine that the statement in `line` names, by CALL or START.
+pub fn names_at(numbers: &[i32], line: usize) -> Reference
+    ensures { λ r. ⌜ r ≡ view (statementIn (now (numbers .entry)) line (field (now (numbers .entry)) line 1)) .names ⌝ }
+{
+    let op = field_of(numbers, line, 1);
+    first_if(numbers, line, (op == 8) | (op == 9))
+}
+
+// What the statement in `line` passes.
+pub fn arguments_at(numbers: &[i32], line: usize) -> Arguments
+    ensures { λ r. ⌜ r ≡ view (statementIn (now (numbers .entry)) line (field (now (numbers .entry)) line 1)) .arguments ⌝ }
+{
+    let op = field_of(numbers, line, 1);
+    arguments_if(numbers, line, (op == 8) | (op == 9))
+}
+
+// The routine that the statement in `line` CALLs.
+pub fn calls_at(numbers: &[i32], line: usize) -> Reference
+    ensures { λ r. ⌜ r ≡ calls (view (statementIn (now (numbers .entry)) line (field (now (numbers .entry)) line 1))) ⌝ }
+{
+    first_if(numbers, line, field_of(numbers, line, 1) == 8)
+}
+
+// The routine that the statement in `line` STARTs.
+pub fn starts_at(numbers: &[i32], line: usize) -> Reference
+    ensures { λ r. ⌜ r ≡ starts (view (statementIn (now (numbers .entry)) line (field (now (numbers .entry)) line 1))) ⌝ }
+{
+    first_if(numbers, line, field_of(numbers, line, 1) == 9)
 }
 
 // The handle that is passed for parameter `k`; 0 where there is none.
