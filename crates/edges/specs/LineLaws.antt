@@ -92,10 +92,10 @@ module _ (t : Table) (s : ℕ) (σ : Statement) {v : View} (is : v ≡ view σ) 
       sym (append-nil (pointed v)) ∙ ap {B = List Edge} (λ r. pointed v ++ listOn r (λ (q : ℕ). passing t (oneEach t) 0 0 q (v .arguments))) (sym e) ∙ flow-parts
 
   -- CALL, and START
-  pub up-all : (c : ℕ) {b : Bool} → b ≡ true → listOn (v .names) (λ (q : ℕ). edge q c ∷ []) ≡ upEdges b c σ
+  pub up-all : (c : ℕ) {b : Bool} → b ≡ true → {r : Reference} → r ≡ v .names → listOn r (λ (q : ℕ). edge q c ∷ []) ≡ upEdges b c σ
   unfolding upEdges named
-  up-all c e =
-      ap {B = List Edge} (λ v. listOn (v .names) (λ (q : ℕ). edge q c ∷ [])) is ∙ rw e (sym (on-number (view σ .names) (λ (q : ℕ). edge q c ∷ []) []))
+  up-all c e h =
+      ap {B = List Edge} (λ r. listOn r (λ (q : ℕ). edge q c ∷ [])) (h ∙ ap (λ (v : View). v .names) is) ∙ rw e (sym (on-number (view σ .names) (λ (q : ℕ). edge q c ∷ []) []))
 
   pub up-calls : (c : ℕ) {b : Bool} → b ≡ false → {r : Reference} → r ≡ calls v → listOn r (λ (q : ℕ). edge q c ∷ []) ≡ upEdges b c σ
   unfolding upEdges named
@@ -132,10 +132,11 @@ up-at true t s c e = ap {B = List Edge} (λ (x : ℕ). upEdges true x (statement
 up-at false t s c e = ap {B = List Edge} (λ (x : ℕ). upEdges false x (statement t s)) e
 
 -- to statement s from what may come next
-pub next-at : (t : Table) (s : ℕ) {v : View} → v ≡ view (statement t s)
-    → (listOn (v .target) (λ (n : ℕ). edge n s ∷ []) ++ when (v .onward) (edge (s + 1) s ∷ [])) ≡ edgesAt Nexts t s
+pub next-at : (t : Table) (s : ℕ) {v : View} → v ≡ view (statement t s) → {r : Reference} {b : Bool} → r ≡ v .target → b ≡ v .onward
+    → (listOn r (λ (n : ℕ). edge n s ∷ []) ++ when b (edge (s + 1) s ∷ [])) ≡ edgesAt Nexts t s
 unfolding edgesAt
-next-at t s is = next-parts t s (statement t s) is
+next-at t s is p q =
+    ap₂ {C = List Edge} (λ (r : Reference) (b : Bool). listOn r (λ (n : ℕ). edge n s ∷ []) ++ when b (edge (s + 1) s ∷ [])) p q ∙ next-parts t s (statement t s) is
 
 -- from statement s of routine c, if it is a CALL, and from the CALLs of its routine, to those of the routine that it names
 pub caller-at : (f : List ℤ) (s end c : ℕ) {v : View} → v ≡ view (statement (tableOf f) s) → end ≡ statements f → c ≡ ownerOf (tableOf f) s → {r : Reference}

@@ -107,13 +107,13 @@ fn append_flow(
     requires { ⌜ Lined (now numbers) base × (s < statements (now numbers)) ⌝ }
     ensures { λ r. ⌜ Appended (now (edges .entry)) n (now (edges .exit)) r (edgesAt Flow (tableOf (now (numbers .entry))) s) ⌝ }
 {
-    let v = table::view_at(numbers, base + s);
-    let points = v.points;
-    let names = v.names;
-    let arguments = v.arguments;
-    let m = append_to(v.source, 0, points, edges, n);
+    let line = base + s;
+    let points = table::points_at(numbers, line);
+    let m = append_to(table::source_at(numbers, line), 0, points, edges, n);
+    let names = table::names_at(numbers, line);
     match names {
         Reference::To(q) => {
+            let arguments = table::arguments_at(numbers, line);
             let begin = lists::number_at(handle, q);
             append_passing(arguments, begin, lists::number_at(counts, q), edges, m)
         }
@@ -151,12 +151,11 @@ fn append_naming(
     requires { ⌜ Lined (now numbers) base × (s < statements (now numbers)) ⌝ }
     ensures { λ r. ⌜ Appended (now (edges .entry)) n (now (edges .exit)) r (upEdges starts c (statement (tableOf (now (numbers .entry))) s)) ⌝ }
 {
-    let v = table::view_at(numbers, base + s);
+    let line = base + s;
     if starts {
-        let names = v.names;
-        return append_from(names, c, edges, n);
+        return append_from(table::names_at(numbers, line), c, edges, n);
     }
-    append_from(table::called(v), c, edges, n)
+    append_from(table::calls_at(numbers, line), c, edges, n)
 }
 
 // Fills the list with the edges up CALLs, or also up STARTs, and returns how many there are.
@@ -194,10 +193,9 @@ fn append_nexts(numbers: &[i32], base: usize, s: usize, edges: &mut [u32], n: us
     requires { ⌜ Lined (now numbers) base × (s < statements (now numbers)) ⌝ }
     ensures { λ r. ⌜ Appended (now (edges .entry)) n (now (edges .exit)) r (edgesAt Nexts (tableOf (now (numbers .entry))) s) ⌝ }
 {
-    let v = table::view_at(numbers, base + s);
-    let target = v.target;
-    let m = append_from(target, s, edges, n);
-    append_next(v.onward, s, edges, m)
+    let line = base + s;
+    let m = append_from(table::target_at(numbers, line), s, edges, n);
+    append_next(table::onward_at(numbers, line), s, edges, m)
 }
 
 // Fills the list with the edges to each statement from what may come next, and returns how many there are.
@@ -231,7 +229,7 @@ fn append_callers(
     requires { ⌜ (end ≡ statements (now numbers)) × (c ≡ ownerOf (tableOf (now numbers)) s) × (c < 2 ^ 32) ⌝ }
     ensures { λ r. ⌜ Appended (now (edges .entry)) n (now (edges .exit)) r (edgesAt Callers (tableOf (now (numbers .entry))) s) ⌝ }
 {
-    let called = table::called(table::view_at(numbers, base + s));
+    let called = table::calls_at(numbers, base + s);
     let m = append_to(s, end, called, edges, n);
     append_to(end + c, end, called, edges, m)
 }

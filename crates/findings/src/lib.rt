@@ -65,11 +65,10 @@ fn note_access(
     requires { ⌜ ((i : ℕ) → 64 ≤ i → getD (now noted) i 0 < 2 ^ 32) ⌝ }
     ensures { λ _. ⌜ NotedAt (λ w. ownBy (now (numbers .entry)) (now (flow .entry)) w s) held (now (noted .entry)) (now (noted .exit)) ⌝ }
 {
-    let v = table::view_at(numbers, line);
-    let reads = v.reads;
-    let writes = v.writes;
-    note(table::set_on(reads, flow), held, 64, noted);
-    note(table::set_on(writes, flow), held, 128, noted);
+    let reads = table::set_on(table::reads_at(numbers, line), flow);
+    note(reads, held, 64, noted);
+    let writes = table::set_on(table::writes_at(numbers, line), flow);
+    note(writes, held, 128, noted);
 }
 
 // Puts a set into the first 64 places of a list of zeros.
@@ -125,7 +124,7 @@ fn shared_at(
     requires { ⌜ half + s < 2 ^ 40 ⌝ }
     ensures { λ x. ⌜ x ≡ sharedBy (now (numbers .entry)) (now (reads .entry)) (now (writes .entry)) (now (later .entry)) half s ⌝ }
 {
-    match table::started(table::view_at(numbers, line)) {
+    match table::starts_at(numbers, line) {
         Reference::To(q) => clash(
             lists::set_at(reads, q),
             lists::set_at(writes, q),
@@ -159,8 +158,7 @@ pub fn is_stray(numbers: &[i32], s: usize, line: usize, flow: &[u64], held: u64)
     requires { ⌜ line ≡ statementLine (now numbers) s ⌝ }
     ensures { λ b. ⌜ b ≡ strayBy (λ h. getD (now (flow .entry)) h 0) held (statementOf (now (numbers .entry)) s) ⌝ }
 {
-    let v = table::view_at(numbers, line);
-    let gives = v.gives;
+    let gives = table::gives_at(numbers, line);
     match gives {
         Reference::To(h) => {
             let locks = lists::set_at(flow, h);

@@ -40,16 +40,16 @@ pub fn fill_flow(numbers: &[i32], out: &mut [u64])
 }
 
 // The handle through which a statement gives up a lock, or reads or writes a cell.
-fn touched(v: View, locks: bool, writes: bool) -> Reference
-    ensures { λ r. ⌜ r ≡ touched locks writes v ⌝ }
+fn touched(numbers: &[i32], line: usize, locks: bool, writes: bool) -> Reference
+    ensures { λ r. ⌜ r ≡ touched locks writes (view (statementIn (now (numbers .entry)) line (field (now (numbers .entry)) line 1))) ⌝ }
 {
     if locks {
-        return v.gives;
+        return table::gives_at(numbers, line);
     }
     if writes {
-        return v.writes;
+        return table::writes_at(numbers, line);
     }
-    v.reads
+    table::reads_at(numbers, line)
 }
 
 // The locks that statement `s` itself may give up, or the cells that it reads or writes; `base` is the line of statement 0.
@@ -57,8 +57,7 @@ fn own_set(numbers: &[i32], base: usize, flow: &[u64], locks: bool, writes: bool
     requires { ⌜ Lined (now numbers) base × (s < statements (now numbers)) ⌝ }
     ensures { λ r. ⌜ r ≡ ownSet locks writes (now (flow .entry)) (statement (tableOf (now (numbers .entry))) s) ⌝ }
 {
-    let v = table::view_at(numbers, base + s);
-    table::set_on(touched(v, locks, writes), flow)
+    table::set_on(touched(numbers, base + s, locks, writes), flow)
 }
 
 // The union of these over the statements of routine `r`.
@@ -124,10 +123,9 @@ fn effect_at(
     if end <= s {
         return 0;
     }
-    let v = table::view_at(numbers, base + s);
-    let names = v.names;
-    let own = table::set_on(touched(v, false, writes), flow);
-    sets::union(own, table::set_on(names, effect))
+    let line = base + s;
+    let own = table::set_on(touched(numbers, line, false, writes), flow);
+    sets::union(own, table::set_on(table::names_at(numbers, line), effect))
 }
 
 // The effect of the statement that is referred to, if one is.
@@ -162,10 +160,10 @@ fn nexts_effect(
     requires { ⌜ Lined (now numbers) base × (end ≡ statements (now numbers)) × (s < statements (now numbers)) ⌝ }
     ensures { λ r. ⌜ r ≡ nextsEffect writes (now (flow .entry)) (now (effect .entry)) (tableOf (now (numbers .entry))) s ⌝ }
 {
-    let v = table::view_at(numbers, base + s);
-    let target = v.target;
+    let line = base + s;
+    let target = table::target_at(numbers, line);
     let there = effect_on(numbers, base, end, flow, effect, writes, target);
-    if v.onward {
+    if table::onward_at(numbers, line) {
         let next = effect_at(numbers, base, end, flow, effect, writes, s + 1);
         return sets::union(there, next);
     }

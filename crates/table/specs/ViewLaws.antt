@@ -235,3 +235,25 @@ starts-in f line op = ap starts (view-in f line op) ∙ go (eqb op 9) refl
         at true = refl
         at false = refl
     go false e = refl
+
+-- the view with what flow asks of it in other words
+abbrev pub flowing : View → Reference → ℕ → Reference → Arguments → View
+flowing v points source names arguments =
+    record {
+      onward = v .onward;
+      ends = v .ends;
+      target = v .target;
+      reads = v .reads;
+      writes = v .writes;
+      takes = v .takes;
+      writing = v .writing;
+      gives = v .gives;
+      points = points;
+      source = source;
+      names = names;
+      starting = v .starting;
+      arguments = arguments;
+    }
+
+pub flowing-is : (v : View) {p n : Reference} {s : ℕ} {a : Arguments} → p ≡ v .points → s ≡ v .source → n ≡ v .names → a ≡ v .arguments → flowing v p s n a ≡ v
+flowing-is v e f g h = rw (e, f, g, h)

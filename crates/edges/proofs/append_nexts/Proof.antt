@@ -1,18 +1,22 @@
 -- `edges::append_nexts` meets its contract. Assumes nothing.
+use mathlib.Core.Path.{refl}
 use Rattle.edges.specs.EdgeLaws.{appended-same, appended-both}
 use Rattle.edges.specs.LineLaws.{viewed, next-at}
 use borrow.Author.Needs.{needs}
 use Rattle.edges.proofs.append_nexts.Statement.{statement}
 use Rattle.edges.proofs.append_nexts.Tie as tie
 
-add-view-at : tie.Need-add-view-at
-add-view-at c = search needs
+add-line : tie.Need-add-line
+add-line c = search needs
 
-view-at-requires : tie.Need-view-at-requires
-view-at-requires c κs = search needs
+target-at-requires : tie.Need-target-at-requires
+target-at-requires c κs = search needs
 
 append-from-requires : tie.Need-append-from-requires
 append-from-requires c κs = search needs
+
+onward-at-requires : tie.Need-onward-at-requires
+onward-at-requires c κs = search needs
 
 append-next-requires : tie.Need-append-next-requires
 append-next-requires c κs = search needs
@@ -21,15 +25,16 @@ same-length : tie.Need-same-length
 same-length c = search needs
 
 returns : tie.Need-returns
-returns c = appended-same _ _ (next-at _ _ (viewed _ _ (c .before .before .before .before .before .before .before .before .before .before .pre .0) _ (c .before .before .before .before .before .before .before .before .before .before .pre .1) (c .before .before .before .before .before .before .before .before .view-at .ensures))) (appended-both (c .before .before .before .before .before .before .append-from .ensures) (c .before .before .append-next .ensures))
+returns c = appended-same _ _ (next-at _ _ (viewed _ _ (c .before .before .before .before .before .before .before .before .before .before .before .pre .0) _ (c .before .before .before .before .before .before .before .before .before .before .before .pre .1) refl) (c .before .before .before .before .before .before .before .before .before .target-at .ensures) (c .before .before .before .before .onward-at .ensures)) (appended-both (c .before .before .before .before .before .before .before .append-from .ensures) (c .before .before .append-next .ensures))
 
 pub append-nexts-spec : {M : Type 1} → statement M
 append-nexts-spec =
     tie.close
     (tie.spec
-    add-view-at
-    view-at-requires
+    add-line
+    target-at-requires
     append-from-requires
+    onward-at-requires
     append-next-requires
     same-length
     returns)

@@ -1,6 +1,6 @@
 -- `naming::named_by` meets its contract. Assumes nothing.
 use Prim.Native.Nat.{ℕ, _+_}
-use mathlib.Core.Path.{_≡_, sym, ap, _∙_}
+use mathlib.Core.Path.{_≡_, refl, sym, ap, _∙_}
 use mathlib.Core.List.{List}
 use denote.Ref.{now}
 use lib.IntN.{ℤ}
@@ -21,11 +21,11 @@ use Rattle.naming.proofs.named_by.Tie as tie
 first-line-requires : tie.Need-first-line-requires
 first-line-requires c κs = search needs
 
-add-view-at : tie.Need-add-view-at
-add-view-at c = search needs
+add-names-at : tie.Need-add-names-at
+add-names-at c = search needs
 
-view-at-requires : tie.Need-view-at-requires
-view-at-requires c κs = search needs
+names-at-requires : tie.Need-names-at-requires
+names-at-requires c κs = search needs
 
 enum-known-names : tie.Need-enum-known-names
 enum-known-names c = search needs
@@ -41,24 +41,24 @@ line-is : (c : tie.After-first-line) → c .first-line .result + c .before .args
 line-is c = ap (λ (n : ℕ). n + c .before .args .s) (c .first-line .ensures .0) ∙ statement-line (now (c .before .args .numbers)) (c .before .args .s)
 
 -- so what it names is what the line's view does
-named : (f : List ℤ) (s : ℕ) {line : ℕ} → line ≡ statementLine f s → {v : View} → v ≡ view (statementIn f line (field f line 1)) → {r : Reference} → v .names ≡ r
+named : (f : List ℤ) (s : ℕ) {line : ℕ} → line ≡ statementLine f s → {n r : Reference} → n ≡ view (statementIn f line (field f line 1)) .names → n ≡ r
     → setOn r one ≡ namedBy f s
 unfolding namedBy
-named f s e is at = ap {B = ℕ} (λ r. setOn r one) (sym at ∙ ap (λ v. v .names) (view-line f s e is))
+named f s e is at = ap {B = ℕ} (λ r. setOn r one) (sym at ∙ is ∙ ap (λ (v : View). v .names) (view-line f s e refl))
 
 returns : tie.Need-returns
-returns c = c .one .ensures ∙ named _ _ (line-is (c .before .before .before .before .before)) (c .before .before .before .before .view-at .ensures) (c .before .before .names .given .1)
+returns c = c .one .ensures ∙ named _ _ (line-is (c .before .before .before .before .before)) (c .before .before .before .before .names-at .ensures) (c .before .before .names .given .1)
 
 returns-2 : tie.Need-returns-2
-returns-2 c = named _ _ (line-is (c .before .before .before)) (c .before .before .view-at .ensures) (c .enum-told .given .1)
+returns-2 c = named _ _ (line-is (c .before .before .before)) (c .before .before .names-at .ensures) (c .enum-told .given .1)
 
 pub named-by-spec : {M : Type 1} → statement M
 named-by-spec =
     tie.close
     (tie.spec
     first-line-requires
-    add-view-at
-    view-at-requires
+    add-names-at
+    names-at-requires
     enum-known-names
     one-requires
     enum-told
