@@ -12,6 +12,7 @@ use Rattle.table.specs.Table.{statementIn, statementOf}
 use Rattle.table.specs.OperationLaws.{view-line}
 use Rattle.table.specs.View.{view, setOn, testOn, starts, accesses}
 use Rattle.table.specs.ViewLaws.{starts-names, set-is}
+use Rattle.table.specs.declared.Reference.{Reference}
 use Rattle.table.specs.declared.Reference.the-variants.{To, Nothing}
 use Rattle.table.specs.declared.Statement.{Statement}
 use Rattle.table.specs.declared.View.{View}
@@ -28,9 +29,9 @@ module _ (f : List ℤ) (s line : ℕ) (e : line ≡ statementLine f s) {v : Vie
   here = view-line f s e is
 
   -- READ and WRITE
-  pub own-is : (flow : List ℕ) (w : Bool) → ownBy f flow w s ≡ setOn (accesses w v) (λ h. getD flow h 0)
+  pub own-is : (flow : List ℕ) (w : Bool) {r : Reference} → r ≡ accesses w v → ownBy f flow w s ≡ setOn r (λ h. getD flow h 0)
   unfolding ownBy accessed
-  own-is flow w = ap {B = ℕ} (λ v. setOn (accesses w v) (λ h. getD flow h 0)) (sym here)
+  own-is flow w p = ap {B = ℕ} (λ r. setOn r (λ h. getD flow h 0)) (ap (accesses w) (sym here) ∙ sym p)
 
   -- START
   module _ (reads writes later : List ℕ) (half : ℕ) where

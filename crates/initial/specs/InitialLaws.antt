@@ -44,12 +44,12 @@ module _ (t : Table) (s : ℕ) {v : View} (is : v ≡ view (statement t s)) wher
   own-is locks w flow e = ap {B = ℕ} (λ r. setOn r (λ (h : ℕ). getD flow h 0)) (e ∙ ap (touched locks w) is)
 
   -- with the routine that it names
-  pub effect-is : (w : Bool) (flow effect : List ℕ) {r : Reference} → r ≡ touched false w v
-      → union (setOn r (λ (h : ℕ). getD flow h 0)) (setOn (v .names) (λ (q : ℕ). getD effect q 0)) ≡ effectAt w flow effect t s
+  pub effect-is : (w : Bool) (flow effect : List ℕ) {r n : Reference} → r ≡ touched false w v → n ≡ v .names
+      → union (setOn r (λ (h : ℕ). getD flow h 0)) (setOn n (λ (q : ℕ). getD effect q 0)) ≡ effectAt w flow effect t s
   unfolding effectAt named
-  effect-is w flow effect e =
+  effect-is w flow effect e p =
       ap₂ {C = ℕ} (λ (a b : ℕ). union a b) (own-is false w flow e)
-      (ap {B = ℕ} (λ v. setOn (v .names) (λ (q : ℕ). getD effect q 0)) is ∙ sym (on-number (view (statement t s) .names) (λ (q : ℕ). getD effect q 0) 0))
+      (ap {B = ℕ} (λ n. setOn n (λ (q : ℕ). getD effect q 0)) (p ∙ ap (λ (v : View). v .names) is) ∙ sym (on-number (view (statement t s) .names) (λ (q : ℕ). getD effect q 0) 0))
 
   -- and what may come next
   module _ (w : Bool) (flow effect : List ℕ) where
@@ -63,12 +63,13 @@ module _ (t : Table) (s : ℕ) {v : View} (is : v ≡ view (statement t s)) wher
         ∙ ap {B = ℕ} (λ v. union (setOn (v .target) g) (cond (v .onward) (g (s + 1)) 0)) is
         ∙ next-union s g (view (statement t s) .target) (view (statement t s) .onward)
 
-    pub later-both : v .onward ≡ true → union (setOn (v .target) g) (g (s + 1)) ≡ nextsEffect w flow effect t s
-    later-both e = later-is e
+    module _ {r : Reference} (p : r ≡ v .target) {b : Bool} (q : b ≡ v .onward) where
+      pub later-both : b ≡ true → union (setOn r g) (g (s + 1)) ≡ nextsEffect w flow effect t s
+      later-both e = ap {B = ℕ} (λ r. union (setOn r g) (g (s + 1))) p ∙ later-is (sym q ∙ e)
 
-    pub later-there : v .onward ≡ false → setOn (v .target) g ≡ nextsEffect w flow effect t s
-    unfolding union
-    later-there e = sym (or-zero-r (setOn (v .target) g)) ∙ later-is e
+      pub later-there : b ≡ false → setOn r g ≡ nextsEffect w flow effect t s
+      unfolding union
+      later-there e = ap {B = ℕ} (λ r. setOn r g) p ∙ sym (or-zero-r (setOn (v .target) g)) ∙ later-is (sym q ∙ e)
 
 -- ---- past the last statement
 

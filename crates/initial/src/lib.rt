@@ -3,16 +3,16 @@ ghost use mathlib.Core.Path.{_≡_};
 ghost use Prim.Native.Nat.{_<_, _≤_};
 ghost use lib.ListN.{length};
 ghost use Rattle.table.specs.Header.{handles, routines, statements};
-ghost use Rattle.table.specs.Table.{tableOf, statement};
+ghost use Rattle.table.specs.Fields.{field};
+ghost use Rattle.table.specs.Table.{tableOf, statement, statementIn};
 ghost use Rattle.table.specs.Tabulate.{tabulate};
 ghost use Rattle.table.specs.Extents.{firstStatements};
 ghost use Rattle.table.specs.Accepted.{Accepted};
 ghost use Rattle.report.specs.Flow.{startOf};
 ghost use Rattle.edges.specs.Equations.{touched, ownSet, inRoutine, effectAt, nextsEffect, futureInitial};
-ghost use Rattle.table.specs.View.{setOn};
+ghost use Rattle.table.specs.View.{view, setOn};
 ghost use Rattle.edges.specs.LineLaws.{Lined};
 use table::Reference;
-use table::View;
 
 // What the set of handle `h` begins with: a local's start.
 fn flow_initial(numbers: &[i32], h: usize) -> u64

@@ -1,13 +1,13 @@
 -- `findings::is_stray` meets its contract. Assumes nothing.
 use denote.Ref.{now}
-use mathlib.Core.Path.{sym}
+use mathlib.Core.Path.{sym, refl, _∙_}
 use Rattle.findings.specs.LineLaws.{give-strays, other-strays}
 use borrow.Author.Needs.{needs}
 use Rattle.findings.proofs.is_stray.Statement.{statement}
 use Rattle.findings.proofs.is_stray.Tie as tie
 
-view-at-requires : tie.Need-view-at-requires
-view-at-requires c κs = search needs
+gives-at-requires : tie.Need-gives-at-requires
+gives-at-requires c κs = search needs
 
 enum-known-gives : tie.Need-enum-known-gives
 enum-known-gives c = search needs
@@ -26,17 +26,17 @@ enum-told c = search needs
 
 returns : tie.Need-returns
 returns c = let a = c .before .before .before .before .before .before .before .before .args in
-    rw (c .subset .ensures, c .before .is-single .ensures, c .before .before .set-at .ensures) (sym (give-strays (now (a .numbers)) (a .s) (a .line) (c .before .before .before .before .before .before .before .before .pre) (c .before .before .before .before .before .before .view-at .ensures) (now (a .flow)) (a .held) _ (c .before .before .before .before .gives .given .1)))
+    rw (c .subset .ensures, c .before .is-single .ensures, c .before .before .set-at .ensures) (sym (give-strays (now (a .numbers)) (a .s) (a .line) (c .before .before .before .before .before .before .before .before .pre) refl (now (a .flow)) (a .held) _ (sym (c .before .before .before .before .before .before .gives-at .ensures) ∙ c .before .before .before .before .gives .given .1)))
 
 returns-2 : tie.Need-returns-2
 returns-2 c = let a = c .before .before .before .before .args in
-    sym (other-strays (now (a .numbers)) (a .s) (a .line) (c .before .before .before .before .pre) (c .before .before .view-at .ensures) (now (a .flow)) (a .held) (c .enum-told .given .1))
+    sym (other-strays (now (a .numbers)) (a .s) (a .line) (c .before .before .before .before .pre) refl (now (a .flow)) (a .held) (sym (c .before .before .gives-at .ensures) ∙ c .enum-told .given .1))
 
 pub is-stray-spec : {M : Type 1} → statement M
 is-stray-spec =
     tie.close
     (tie.spec
-    view-at-requires
+    gives-at-requires
     enum-known-gives
     set-at-requires
     is-single-requires

@@ -1,16 +1,13 @@
 -- `findings::shared_at` meets its contract. Assumes nothing.
 use denote.Ref.{now}
-use mathlib.Core.Path.{sym, _∙_}
+use mathlib.Core.Path.{refl, sym, _∙_}
 use Rattle.findings.specs.LineLaws.{start-shares, other-shares}
 use borrow.Author.Needs.{needs}
 use Rattle.findings.proofs.shared_at.Statement.{statement}
 use Rattle.findings.proofs.shared_at.Tie as tie
 
-view-at-requires : tie.Need-view-at-requires
-view-at-requires c κs = search needs
-
-started-requires : tie.Need-started-requires
-started-requires c κs = search needs
+starts-at-requires : tie.Need-starts-at-requires
+starts-at-requires c κs = search needs
 
 enum-known-q : tie.Need-enum-known-q
 enum-known-q c = search needs
@@ -37,19 +34,18 @@ enum-told : tie.Need-enum-told
 enum-told c = search needs
 
 returns : tie.Need-returns
-returns c = let a = c .before .before .before .before .before .before .before .before .before .before .before .before .before .args in
-    rw (c .clash .ensures, c .before .set-at4 .ensures, c .before .before .set-at3 .ensures, c .before .before .before .set-at2 .ensures, c .before .before .before .before .set-at .ensures) (sym (start-shares (now (a .numbers)) (a .s) (a .line) (c .before .before .before .before .before .before .before .before .before .before .before .before .before .pre .0) (c .before .before .before .before .before .before .before .before .before .view-at .ensures) (now (a .reads)) (now (a .writes)) (now (a .later)) (a .half) _ (sym (c .before .before .before .before .before .before .before .before .started .ensures) ∙ c .before .before .before .before .before .before .q .given .1)))
+returns c = let a = c .before .before .before .before .before .before .before .before .before .before .before .before .args in
+    rw (c .clash .ensures, c .before .set-at4 .ensures, c .before .before .set-at3 .ensures, c .before .before .before .set-at2 .ensures, c .before .before .before .before .set-at .ensures) (sym (start-shares (now (a .numbers)) (a .s) (a .line) (c .before .before .before .before .before .before .before .before .before .before .before .before .pre .0) refl (now (a .reads)) (now (a .writes)) (now (a .later)) (a .half) _ (sym (c .before .before .before .before .before .before .before .before .starts-at .ensures) ∙ c .before .before .before .before .before .before .q .given .1)))
 
 returns-2 : tie.Need-returns-2
-returns-2 c = let a = c .before .before .before .before .before .before .before .args in
-    sym (other-shares (now (a .numbers)) (a .s) (a .line) (c .before .before .before .before .before .before .before .pre .0) (c .before .before .before .view-at .ensures) (now (a .reads)) (now (a .writes)) (now (a .later)) (a .half) (sym (c .before .before .started .ensures) ∙ c .enum-told .given .1))
+returns-2 c = let a = c .before .before .before .before .before .before .args in
+    sym (other-shares (now (a .numbers)) (a .s) (a .line) (c .before .before .before .before .before .before .pre .0) refl (now (a .reads)) (now (a .writes)) (now (a .later)) (a .half) (sym (c .before .before .starts-at .ensures) ∙ c .enum-told .given .1))
 
 pub shared-at-spec : {M : Type 1} → statement M
 shared-at-spec =
     tie.close
     (tie.spec
-    view-at-requires
-    started-requires
+    starts-at-requires
     enum-known-q
     set-at-requires
     set-at-requires-2
