@@ -1,5 +1,6 @@
 pub mod Field
 pub mod FieldLoops
+pub mod QuickFields
 pub mod Lowest
 pub mod LowestLaws
 pub mod Line

@@ -1,10 +1,14 @@
 // A line of a table text: eight fields of six characters and a line feed, read.
 ghost use mathlib.Core.Path.{_≡_};
-ghost use Prim.Native.Nat.{_*_, _≤_};
+ghost use Prim.Native.Nat.{_*_, _+_, _≤_};
+ghost use mathlib.Core.Bool.{true};
 ghost use mathlib.Core.Option.{none};
+ghost use mathlib.Core.List.{[], _∷_};
 ghost use lib.ListN.{length, take, drop};
 ghost use Rattle.lines.specs.Field.{fieldOf, decimalOf, digitsFrom, fieldAnswer, decimalAnswer, fieldAt};
 ghost use Rattle.lines.specs.FieldLoops.{PastSpaces};
+ghost use Rattle.lines.specs.QuickFields.{Four, Quick, ZeroField, ZeroTail};
+ghost use Rattle.lines.specs.LineLoops.{Put};
 ghost use Rattle.lines.specs.Line.{lineOf, lineCount, firstBad, numbersOf, lineAnswer, badAnswer, pageOf};
 
 // What six characters say: a number, or nothing.
@@ -122,6 +126,143 @@ fn field_of(cs: &[u8]) -> Field
     }
 }
 
+// Four bytes as one number, the first lowest.
+fn four(a: u8, b: u8, c: u8, d: u8) -> u32
+    ensures { λ r. ⌜ Four a b c d r ⌝ }
+{
+    a as u32 + 256 * (b as u32) + 65536 * (c as u32) + 16777216 * (d as u32)
+}
+
+// The number below 1,000 that six characters say, or 1,000.
+fn quick(a: u8, b: u8, c: u8, d: u8, e: u8, f: u8) -> u32
+    ensures { λ r. ⌜ Quick (a ∷ b ∷ c ∷ d ∷ e ∷ f ∷ []) r ⌝ }
+{
+    if f < b'0' {
+        return 1000;
+    }
+    if b'9' < f {
+        return 1000;
+    }
+    let ones = (f - b'0') as u32;
+    let head = four(a, b, c, d);
+    if head == 0x20202020 {
+        if e == b' ' {
+            return ones;
+        }
+        if e <= b'0' {
+            return 1000;
+        }
+        if b'9' < e {
+            return 1000;
+        }
+        return 10 * (e - b'0') as u32 + ones;
+    }
+    if head % 0x1000000 != 0x202020 {
+        return 1000;
+    }
+    if d <= b'0' {
+        return 1000;
+    }
+    if b'9' < d {
+        return 1000;
+    }
+    if e < b'0' {
+        return 1000;
+    }
+    if b'9' < e {
+        return 1000;
+    }
+    100 * (d - b'0') as u32 + 10 * (e - b'0') as u32 + ones
+}
+
+// The number that the six characters at a place say.
+fn field_in(text: &[u8], at: usize) -> Field
+    requires { ⌜ at + 6 ≤ length (now text) ⌝ }
+    ensures { λ r. ⌜ r ≡ fieldAt (now (text .entry)) at ⌝ }
+{
+    let n = quick(
+        text[at],
+        text[at + 1],
+        text[at + 2],
+        text[at + 3],
+        text[at + 4],
+        text[at + 5],
+    );
+    if n < 1000 {
+        return Field::Number(n as i32);
+    }
+    field_of(&text[at..at + 6])
+}
+
+// Whether the six characters at a place are a zero.
+fn zero_at(text: &[u8], at: usize) -> bool
+    requires { ⌜ at + 6 ≤ length (now text) ⌝ }
+    ensures { λ b. ⌜ (b ≡ true → ZeroField (now (text .entry)) at) ⌝ }
+{
+    (four(text[at], text[at + 1], text[at + 2], text[at + 3]) == 0x20202020)
+        & (text[at + 4] == b' ')
+        & (text[at + 5] == b'0')
+}
+
+// Whether the last five fields of the line at a place are zeros.
+fn ends_in_zeros(text: &[u8], at: usize) -> bool
+    requires { ⌜ at + 49 ≤ length (now text) ⌝ }
+    ensures { λ b. ⌜ (b ≡ true → ZeroTail (now (text .entry)) at) ⌝ }
+{
+    zero_at(text, at + 18)
+        & zero_at(text, at + 24)
+        & zero_at(text, at + 30)
+        & zero_at(text, at + 36)
+        & zero_at(text, at + 42)
+}
+
+// Puts the eight numbers of the line at a place, whose last five are zeros, into `numbers` from `base` on; whether it is a line.
+fn three_into(text: &[u8], at: usize, numbers: &mut [i32], base: usize) -> bool
+    requires { ⌜ at + 49 ≤ length (now text) ⌝ }
+    requires { ⌜ base + 8 ≤ length (now numbers) ⌝ }
+    requires { ⌜ ZeroTail (now text) at ⌝ }
+    ensures { λ b. ⌜ Put (take 49 (drop at (now (text .entry)))) base (now (numbers .entry)) (now (numbers .exit)) b ⌝ }
+{
+    let Field::Number(x) = field_in(text, at) else {
+        return false;
+    };
+    let Field::Number(y) = field_in(text, at + 6) else {
+        return false;
+    };
+    let Field::Number(z) = field_in(text, at + 12) else {
+        return false;
+    };
+    numbers[base] = x;
+    numbers[base + 1] = y;
+    numbers[base + 2] = z;
+    numbers[base + 3] = 0;
+    numbers[base + 4] = 0;
+    numbers[base + 5] = 0;
+    numbers[base + 6] = 0;
+    numbers[base + 7] = 0;
+    text[at + 48] == b'\n'
+}
+
+// Puts the eight numbers of the line at a place into `numbers` from `base` on; whether it is a line.
+fn line_into(text: &[u8], at: usize, numbers: &mut [i32], base: usize) -> bool
+    requires { ⌜ at + 49 ≤ length (now text) ⌝ }
+    requires { ⌜ base + 8 ≤ length (now numbers) ⌝ }
+    ensures { λ b. ⌜ Put (take 49 (drop at (now (text .entry)))) base (now (numbers .entry)) (now (numbers .exit)) b ⌝ }
+{
+    if ends_in_zeros(text, at) {
+        return three_into(text, at, numbers, base);
+    }
+    let mut j = 0;
+    while j < 8 {
+        let Field::Number(z) = field_in(text, at + 6 * j) else {
+            return false;
+        };
+        numbers[base + j] = z;
+        j += 1;
+    }
+    text[at + 48] == b'\n'
+}
+
 // The number that the six characters at a place say; Bad too where fewer stand there.
 pub fn read_field(text: &[u8], at: usize) -> Field
     ensures { λ r. ⌜ r ≡ fieldAt (now (text .entry)) at ⌝ }
@@ -150,15 +291,7 @@ pub fn read_line(text: &[u8], at: usize) -> Line
         return bad;
     }
     let mut numbers = [0i32; 8];
-    let mut j = 0;
-    while j < 8 {
-        let Field::Number(z) = read_field(text, at + 6 * j) else {
-            return bad;
-        };
-        numbers[j] = z;
-        j += 1;
-    }
-    if text[at + 48] != b'\n' {
+    if !line_into(text, at, &mut numbers[..], 0) {
         return bad;
     }
     Line {
@@ -186,22 +319,11 @@ pub fn read_numbers(text: &[u8], numbers: &mut [i32]) -> FirstBad
 {
     let lines = line_count(text);
     let mut i = 0;
-    'lines: while i < lines {
-        let mut j = 0;
-        while j < 8 {
-            let Field::Number(z) = read_field(text, 49 * i + 6 * j) else {
-                break 'lines;
-            };
-            numbers[8 * i + j] = z;
-            j += 1;
-        }
-        if text[49 * i + 48] != b'\n' {
-            break 'lines;
+    while i < lines {
+        if !line_into(text, 49 * i, numbers, 8 * i) {
+            return FirstBad::Line(i);
         }
         i += 1;
-    }
-    if i < lines {
-        return FirstBad::Line(i);
     }
     FirstBad::Nothing
 }
