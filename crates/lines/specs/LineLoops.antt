@@ -1,6 +1,6 @@
 -- What the loops over fields and lines need of the definitions: pieces one after the other, and what is left to read.
 -- Assumes nothing.
-use mathlib.Core.Path.{_≡_, refl, sym, ap, _∙_}
+use mathlib.Core.Path.{_≡_, refl, sym, ap, _∙_, subst}
 use Prim.Native.Nat.{ℕ, zero, suc, _+_, _*_, _-_, _≤_, _<_}
 use native.Mathlib.Omega.{arith}
 use native.Mathlib.Numerals.{add-one}
@@ -226,6 +226,9 @@ module _ {b : List ℕ} {base : ℕ} {before after : List ℤ} {good : Bool} (p 
       go none e = let u : _≡_ {A = ℕ} 0 1 = cc in absurd (omega arith)
       go (some zs) e = refl
 
+pub put-from : {b : List ℕ} {base : ℕ} {before other after : List ℤ} {good : Bool} → other ≡ before → Put b base other after good → Put b base before after good
+put-from {b} {base} {before} {other} {after} {good} e p = subst (λ (l : List ℤ). Put b base l after good) e p
+
 -- eight numbers, and a line put there
 pub put-alone : {b : List ℕ} {before after : List ℤ} {good : Bool} → Put b 0 before after good → length before ≡ 8 → good ≡ true → after ≡ lineNumbers b
 put-alone {b} {before} {after} p l h =
@@ -280,30 +283,37 @@ module _ {t : List ℕ} {at base : ℕ} {before : List ℤ} {j : ℕ} {numbers :
           record { told = rw l; sized = r .reading .sized; kept = λ i. rw l (reading-kept (r .reading) h w) }
       go false e = put-none (reading-no-end (r .reading) h w (λ u. eqb-false _ 10 e (sym (line-last t at) ∙ u))) (r .reading .sized)
 
--- a line whose last five numbers are zeros
+-- a line that is put whole, or nothing is
 
-pub set-room : (l : List ℤ) (i k : ℕ) (z : ℤ) → k < length l → k < length (set l i z)
-set-room l i k z h = rw length-set h
+pub record Tried (b : List ℕ) (base : ℕ) (before after : List ℤ) (good : Bool) : Type 0 where
+  pub put : good ≡ true → Put b base before after true
+  pub same : good ≡ false → after ≡ before
 
-abbrev pub three : List ℤ → ℕ → ℤ → ℤ → ℤ → List ℤ
-three l base x y z = set (set (set (set (set (set (set (set l base x) (base + 1) y) (base + 2) z) (base + 3) (pos 0)) (base + 4) (pos 0)) (base + 5) (pos 0)) (base + 6) (pos 0)) (base + 7) (pos 0)
+pub tried-put : {b : List ℕ} {base : ℕ} {before after : List ℤ} → Put b base before after true → Tried b base before after true
+tried-put p = record { put = λ e. p; same = λ e. let u : _≡_ {A = ℕ} 0 1 = cc in absurd (omega arith) }
 
-module _ (t : List ℕ) (at base : ℕ) (before : List ℤ) (room : base + 8 ≤ length before) where
-  pub first-put : (x : ℤ) → fieldOf (take 6 (drop at t)) ≡ some x → Putting t at base before 1 (set before base x)
-  first-put x e = rw add-zero at (putting-next (putting-start t at base before) x room (omega arith) (rw add-zero e))
+pub tried-none : {b : List ℕ} {base : ℕ} {before : List ℤ} → Tried b base before before false
+tried-none = record { put = λ e. let u : _≡_ {A = ℕ} 0 1 = cc in absurd (omega arith); same = λ e. refl }
 
-  pub second-put : (x y : ℤ) → fieldOf (take 6 (drop at t)) ≡ some x → fieldOf (take 6 (drop (at + 6) t)) ≡ some y → Putting t at base before 2 (set (set before base x) (base + 1) y)
-  second-put x y e f = putting-next (first-put x e) y room (omega arith) f
+-- a line of three quick fields and five zeros
 
-  pub three-put : (x y z : ℤ) → fieldOf (take 6 (drop at t)) ≡ some x → fieldOf (take 6 (drop (at + 6) t)) ≡ some y → fieldOf (take 6 (drop (at + 12) t)) ≡ some z
-      → ZeroTail t at → Putting t at base before 8 (three before base x y z)
-  three-put x y z e f g o =
-      let c = putting-next (second-put x y e f) z room (omega arith) g in
-      let d = putting-next c (pos 0) room (omega arith) (o .fourth .zero) in
-      let m = putting-next d (pos 0) room (omega arith) (o .fifth .zero) in
-      let n = putting-next m (pos 0) room (omega arith) (o .sixth .zero) in
-      let p = putting-next n (pos 0) room (omega arith) (o .seventh .zero) in
-      putting-next p (pos 0) room (omega arith) (o .eighth .zero)
+abbrev pub three : List ℤ → ℕ → ℕ → ℕ → ℕ → List ℤ
+three l base x y z =
+    set (set (set (set (set (set (set (set l base (pos x)) (base + 1) (pos y)) (base + 2) (pos z)) (base + 3) (pos 0)) (base + 4) (pos 0)) (base + 5) (pos 0)) (base + 6) (pos 0)) (base + 7) (pos 0)
+
+pub three-put : (t : List ℕ) (at base : ℕ) (before : List ℤ) (x y z : ℕ) → at + 49 ≤ length t → base + 8 ≤ length before → ZeroTail t at
+    → fieldOf (take 6 (drop at t)) ≡ some (pos x) → fieldOf (take 6 (drop (at + 6) t)) ≡ some (pos y) → fieldOf (take 6 (drop (at + 12) t)) ≡ some (pos z)
+    → Put (take 49 (drop at t)) base before (three before base x y z) true
+three-put t at base before x y z inside room o e f g =
+    let a : Putting t at base before 1 (set before base (pos x)) = rw add-zero at (putting-next (putting-start t at base before) (pos x) room (omega arith) (rw add-zero e)) in
+    let b = putting-next a (pos y) room (omega arith) f in
+    let c = putting-next b (pos z) room (omega arith) g in
+    let d = putting-next c (pos 0) room (omega arith) (o .fourth .zero) in
+    let m = putting-next d (pos 0) room (omega arith) (o .fifth .zero) in
+    let n = putting-next m (pos 0) room (omega arith) (o .sixth .zero) in
+    let p = putting-next n (pos 0) room (omega arith) (o .seventh .zero) in
+    let q = putting-next p (pos 0) room (omega arith) (o .eighth .zero) in
+    rw (eq-eqb _ 10 (o .feed)) at (putting-end q inside (omega arith))
 
 -- the lines of a text, from the first
 

@@ -26,16 +26,17 @@ pub record Quick (cs : List ℕ) (r : ℕ) : Type 0 where
 pub record ZeroField (t : List ℕ) (at : ℕ) : Type 0 where
   pub zero : fieldOf (take 6 (drop at t)) ≡ some (pos 0)
 
--- so do the last five fields of the line at a place
+-- so do the last five fields of the line at a place, and a line feed ends it
 pub record ZeroTail (t : List ℕ) (at : ℕ) : Type 0 where
   pub fourth : ZeroField t (at + 18)
   pub fifth : ZeroField t (at + 24)
   pub sixth : ZeroField t (at + 30)
   pub seventh : ZeroField t (at + 36)
   pub eighth : ZeroField t (at + 42)
+  pub feed : getD t (at + 48) 0 ≡ 10
 
 -- the six characters at a place, one by one
-pub six-at : (t : List ℕ) (at : ℕ) → at + 6 ≤ length t
+six-at : (t : List ℕ) (at : ℕ) → at + 6 ≤ length t
     → take 6 (drop at t) ≡ getD t at 0 ∷ getD t (at + 1) 0 ∷ getD t (at + 2) 0 ∷ getD t (at + 3) 0 ∷ getD t (at + 4) 0 ∷ getD t (at + 5) 0 ∷ []
 six-at t at h =
     let u : at + 1 ≡ suc at = omega arith in
@@ -56,6 +57,10 @@ six-at t at h =
       drop-cons t (suc (suc (suc (suc at)))) 0 (omega arith),
       drop-cons t (suc (suc (suc (suc (suc at))))) 0 (omega arith),
     )
+
+pub quick-at : (t : List ℕ) (at r : ℕ) → at + 6 ≤ length t
+    → Quick (getD t at 0 ∷ getD t (at + 1) 0 ∷ getD t (at + 2) 0 ∷ getD t (at + 3) 0 ∷ getD t (at + 4) 0 ∷ getD t (at + 5) 0 ∷ []) r → Quick (take 6 (drop at t)) r
+quick-at t at r h q = record { said = λ k. ap fieldOf (six-at t at h) ∙ q .said k }
 
 -- none of the quick forms
 pub quick-none : (cs : List ℕ) → Quick cs 1000
@@ -142,10 +147,11 @@ zero-field t at {r} h w e =
     record { zero = ap fieldOf (six-at t at h) ∙ q .said (omega (arith, n)) ∙ rw n }
 
 pub zero-tail : {t : List ℕ} {at : ℕ} {a b c d e : Bool} → (a ≡ true → ZeroField t (at + 18)) → (b ≡ true → ZeroField t (at + 24)) → (c ≡ true → ZeroField t (at + 30))
-    → (d ≡ true → ZeroField t (at + 36)) → (e ≡ true → ZeroField t (at + 42)) → (a && b && c && d && e) ≡ true → ZeroTail t at
+    → (d ≡ true → ZeroField t (at + 36)) → (e ≡ true → ZeroField t (at + 42)) → (a && b && c && d && e && eqb (getD t (at + 48) 0) 10) ≡ true → ZeroTail t at
 zero-tail {t} {at} {a} {b} {c} {d} {e} f g h i j p =
-    let u : ((a && b && c && d) ≡ true) × (e ≡ true) = both _ e p in
+    let n : ((a && b && c && d && e) ≡ true) × (eqb (getD t (at + 48) 0) 10 ≡ true) = both _ _ p in
+    let u : ((a && b && c && d) ≡ true) × (e ≡ true) = both _ e (n .0) in
     let v : ((a && b && c) ≡ true) × (d ≡ true) = both _ d (u .0) in
     let w : ((a && b) ≡ true) × (c ≡ true) = both _ c (v .0) in
     let x : (a ≡ true) × (b ≡ true) = both a b (w .0) in
-    record { fourth = f (x .0); fifth = g (x .1); sixth = h (w .1); seventh = i (v .1); eighth = j (u .1) }
+    record { fourth = f (x .0); fifth = g (x .1); sixth = h (w .1); seventh = i (v .1); eighth = j (u .1); feed = eqb-true _ 10 (n .1) }

@@ -8,7 +8,7 @@ ghost use lib.ListN.{length, take, drop};
 ghost use Rattle.lines.specs.Field.{fieldOf, decimalOf, digitsFrom, fieldAnswer, decimalAnswer, fieldAt};
 ghost use Rattle.lines.specs.FieldLoops.{PastSpaces};
 ghost use Rattle.lines.specs.QuickFields.{Four, Quick, ZeroField, ZeroTail};
-ghost use Rattle.lines.specs.LineLoops.{Put};
+ghost use Rattle.lines.specs.LineLoops.{Put, Tried};
 ghost use Rattle.lines.specs.Line.{lineOf, lineCount, firstBad, numbersOf, lineAnswer, badAnswer, pageOf};
 
 // What six characters say: a number, or nothing.
@@ -175,19 +175,27 @@ fn quick(a: u8, b: u8, c: u8, d: u8, e: u8, f: u8) -> u32
     100 * (d - b'0') as u32 + 10 * (e - b'0') as u32 + ones
 }
 
-// The number that the six characters at a place say.
-fn field_in(text: &[u8], at: usize) -> Field
+// The number below 1,000 that the six characters at a place say, or 1,000.
+fn quick_at(text: &[u8], at: usize) -> u32
     requires { ⌜ at + 6 ≤ length (now text) ⌝ }
-    ensures { λ r. ⌜ r ≡ fieldAt (now (text .entry)) at ⌝ }
+    ensures { λ r. ⌜ Quick (take 6 (drop at (now (text .entry)))) r ⌝ }
 {
-    let n = quick(
+    quick(
         text[at],
         text[at + 1],
         text[at + 2],
         text[at + 3],
         text[at + 4],
         text[at + 5],
-    );
+    )
+}
+
+// The number that the six characters at a place say.
+fn field_in(text: &[u8], at: usize) -> Field
+    requires { ⌜ at + 6 ≤ length (now text) ⌝ }
+    ensures { λ r. ⌜ r ≡ fieldAt (now (text .entry)) at ⌝ }
+{
+    let n = quick_at(text, at);
     if n < 1000 {
         return Field::Number(n as i32);
     }
@@ -204,7 +212,7 @@ fn zero_at(text: &[u8], at: usize) -> bool
         & (text[at + 5] == b'0')
 }
 
-// Whether the last five fields of the line at a place are zeros.
+// Whether the last five fields of the line at a place are zeros, with a line feed behind them.
 fn ends_in_zeros(text: &[u8], at: usize) -> bool
     requires { ⌜ at + 49 ≤ length (now text) ⌝ }
     ensures { λ b. ⌜ (b ≡ true → ZeroTail (now (text .entry)) at) ⌝ }
@@ -214,33 +222,39 @@ fn ends_in_zeros(text: &[u8], at: usize) -> bool
         & zero_at(text, at + 30)
         & zero_at(text, at + 36)
         & zero_at(text, at + 42)
+        & (text[at + 48] == b'\n')
 }
 
-// Puts the eight numbers of the line at a place, whose last five are zeros, into `numbers` from `base` on; whether it is a line.
+// Puts the eight numbers of the line at a place into `numbers` from `base` on if three are below 1,000 and five are zeros; whether they are.
 fn three_into(text: &[u8], at: usize, numbers: &mut [i32], base: usize) -> bool
     requires { ⌜ at + 49 ≤ length (now text) ⌝ }
     requires { ⌜ base + 8 ≤ length (now numbers) ⌝ }
-    requires { ⌜ ZeroTail (now text) at ⌝ }
-    ensures { λ b. ⌜ Put (take 49 (drop at (now (text .entry)))) base (now (numbers .entry)) (now (numbers .exit)) b ⌝ }
+    ensures { λ b. ⌜ Tried (take 49 (drop at (now (text .entry)))) base (now (numbers .entry)) (now (numbers .exit)) b ⌝ }
 {
-    let Field::Number(x) = field_in(text, at) else {
+    if !ends_in_zeros(text, at) {
         return false;
-    };
-    let Field::Number(y) = field_in(text, at + 6) else {
+    }
+    let x = quick_at(text, at);
+    if 999 < x {
         return false;
-    };
-    let Field::Number(z) = field_in(text, at + 12) else {
+    }
+    let y = quick_at(text, at + 6);
+    if 999 < y {
         return false;
-    };
-    numbers[base] = x;
-    numbers[base + 1] = y;
-    numbers[base + 2] = z;
+    }
+    let z = quick_at(text, at + 12);
+    if 999 < z {
+        return false;
+    }
+    numbers[base] = x as i32;
+    numbers[base + 1] = y as i32;
+    numbers[base + 2] = z as i32;
     numbers[base + 3] = 0;
     numbers[base + 4] = 0;
     numbers[base + 5] = 0;
     numbers[base + 6] = 0;
     numbers[base + 7] = 0;
-    text[at + 48] == b'\n'
+    true
 }
 
 // Puts the eight numbers of the line at a place into `numbers` from `base` on; whether it is a line.
@@ -249,8 +263,8 @@ fn line_into(text: &[u8], at: usize, numbers: &mut [i32], base: usize) -> bool
     requires { ⌜ base + 8 ≤ length (now numbers) ⌝ }
     ensures { λ b. ⌜ Put (take 49 (drop at (now (text .entry)))) base (now (numbers .entry)) (now (numbers .exit)) b ⌝ }
 {
-    if ends_in_zeros(text, at) {
-        return three_into(text, at, numbers, base);
+    if three_into(text, at, numbers, base) {
+        return true;
     }
     let mut j = 0;
     while j < 8 {
