@@ -120,14 +120,15 @@ module _ {a b c d r : ℕ} (w : Four a b c d r) where
             ∙ spaced-digit e (f ∷ []) (omega arith) ∙ ap positive (two-digits e f p q lo hi);
       }
 
-  pub quick-three : (e f : ℕ) → r % 16777216 ≡ 2105376 → 48 < d → d ≤ 57 → 48 ≤ e → e ≤ 57 → 48 ≤ f → f ≤ 57
-      → Quick (a ∷ b ∷ c ∷ d ∷ e ∷ f ∷ []) (100 * (d - 48) + 10 * (e - 48) + (f - 48))
+  pub quick-three : (e f : ℕ) → r % 16777216 ≡ 2105376 → 48 < r / 16777216 → r / 16777216 ≤ 57 → 48 ≤ e → e ≤ 57 → 48 ≤ f → f ≤ 57
+      → Quick (a ∷ b ∷ c ∷ d ∷ e ∷ f ∷ []) (100 * (r / 16777216 - 48) + 10 * (e - 48) + (f - 48))
   quick-three e f h m n p q lo hi =
       let u : (a ≡ 32) × (b ≡ 32) × (c ≡ 32) = three-spaces w h in
+      let v : r / 16777216 ≡ d = omega (arith, w .whole, u) in
       record {
         said = λ k. field-six _ refl
             ∙ spaced-space a _ (u .0) ∙ spaced-space b _ (u .1) ∙ spaced-space c _ (u .2)
-            ∙ spaced-digit d (e ∷ f ∷ []) (omega arith) ∙ ap positive (three-digits d e f m n p q lo hi);
+            ∙ spaced-digit d (e ∷ f ∷ []) (omega arith) ∙ ap positive (three-digits d e f (omega arith) (omega arith) p q lo hi) ∙ rw v;
       }
 
 -- zeros
@@ -136,14 +137,15 @@ both : (a b : Bool) → (a && b) ≡ true → (a ≡ true) × (b ≡ true)
 both true b h = (refl, h)
 both false b h = let z : _≡_ {A = ℕ} 0 1 = cc in absurd (omega arith)
 
-pub zero-field : (t : List ℕ) (at : ℕ) {r : ℕ} → at + 6 ≤ length t → Four (getD t at 0) (getD t (at + 1) 0) (getD t (at + 2) 0) (getD t (at + 3) 0) r
-    → (eqb r 538976288 && eqb (getD t (at + 4) 0) 32 && eqb (getD t (at + 5) 0) 48) ≡ true → ZeroField t at
-zero-field t at {r} h w e =
-    let u : ((eqb r 538976288 && eqb (getD t (at + 4) 0) 32) ≡ true) × (eqb (getD t (at + 5) 0) 48 ≡ true) = both _ _ e in
-    let v : (eqb r 538976288 ≡ true) × (eqb (getD t (at + 4) 0) 32 ≡ true) = both _ _ (u .0) in
-    let f : getD t (at + 5) 0 ≡ 48 = eqb-true _ 48 (u .1) in
+pub zero-field : (t : List ℕ) (at : ℕ) {r s : ℕ} → at + 6 ≤ length t → Four (getD t at 0) (getD t (at + 1) 0) (getD t (at + 2) 0) (getD t (at + 3) 0) r
+    → Four (getD t (at + 4) 0) (getD t (at + 5) 0) 0 0 s → (eqb r 538976288 && eqb s 12320) ≡ true → ZeroField t at
+zero-field t at {r} {s} h w v e =
+    let u : (eqb r 538976288 ≡ true) × (eqb s 12320 ≡ true) = both _ _ e in
+    let k : s ≡ 12320 = eqb-true s 12320 (u .1) in
+    let f : getD t (at + 5) 0 ≡ 48 = omega (arith, v .whole, v .bytes, k) in
+    let g : getD t (at + 4) 0 ≡ 32 = omega (arith, v .whole, v .bytes, k) in
     let n : getD t (at + 5) 0 - 48 ≡ 0 = omega (arith, f) in
-    let q : Quick _ (getD t (at + 5) 0 - 48) = quick-one w (getD t (at + 4) 0) (getD t (at + 5) 0) (eqb-true r 538976288 (v .0)) (eqb-true _ 32 (v .1)) (omega (arith, f)) (omega (arith, f)) in
+    let q : Quick _ (getD t (at + 5) 0 - 48) = quick-one w (getD t (at + 4) 0) (getD t (at + 5) 0) (eqb-true r 538976288 (u .0)) g (omega (arith, f)) (omega (arith, f)) in
     record { zero = ap fieldOf (six-at t at h) ∙ q .said (omega (arith, n)) ∙ rw n }
 
 pub zero-tail : {t : List ℕ} {at : ℕ} {a b c d e : Bool} → (a ≡ true → ZeroField t (at + 18)) → (b ≡ true → ZeroField t (at + 24)) → (c ≡ true → ZeroField t (at + 30))

@@ -160,10 +160,11 @@ fn quick(a: u8, b: u8, c: u8, d: u8, e: u8, f: u8) -> u32
     if head % 0x1000000 != 0x202020 {
         return 1000;
     }
-    if d <= b'0' {
+    let lead = head / 0x1000000;
+    if lead <= 48 {
         return 1000;
     }
-    if b'9' < d {
+    if 57 < lead {
         return 1000;
     }
     if e < b'0' {
@@ -172,7 +173,7 @@ fn quick(a: u8, b: u8, c: u8, d: u8, e: u8, f: u8) -> u32
     if b'9' < e {
         return 1000;
     }
-    100 * (d - b'0') as u32 + 10 * (e - b'0') as u32 + ones
+    100 * (lead - 48) + 10 * (e - b'0') as u32 + ones
 }
 
 // The number below 1,000 that the six characters at a place say, or 1,000.
@@ -208,8 +209,7 @@ fn zero_at(text: &[u8], at: usize) -> bool
     ensures { λ b. ⌜ (b ≡ true → ZeroField (now (text .entry)) at) ⌝ }
 {
     (four(text[at], text[at + 1], text[at + 2], text[at + 3]) == 0x20202020)
-        & (text[at + 4] == b' ')
-        & (text[at + 5] == b'0')
+        & (four(text[at + 4], text[at + 5], 0, 0) == 0x3020)
 }
 
 // Whether the last five fields of the line at a place are zeros, with a line feed behind them.

@@ -58,14 +58,11 @@ returns-11 c = quick-none _
 sub-result-2 : tie.Need-sub-result-2
 sub-result-2 c = search needs
 
-cast-result-2 : tie.Need-cast-result-2
-cast-result-2 c = search needs
-
 mul-result-2 : tie.Need-mul-result-2
 mul-result-2 c = search needs
 
-cast-result-3 : tie.Need-cast-result-3
-cast-result-3 c = search needs
+cast-result-2 : tie.Need-cast-result-2
+cast-result-2 c = search needs
 
 mul-result-3 : tie.Need-mul-result-3
 mul-result-3 c = search needs
@@ -101,9 +98,8 @@ quick-spec =
     returns-10
     returns-11
     sub-result-2
-    cast-result-2
     mul-result-2
-    cast-result-3
+    cast-result-2
     mul-result-3
     add-result-2
     add-result-3

@@ -1,4 +1,4 @@
--- `lines::zero_at` meets its contract. Assumes nothing.
+-- `lines::zero_at` meets its contract: five spaces and a 0. Assumes nothing.
 use borrow.Author.Needs.{needs}
 use Rattle.lines.specs.QuickFields.{zero-field}
 use Rattle.lines.proofs.zero_at.Statement.{statement}
@@ -28,20 +28,23 @@ shared-slice-read-four-4 c = search needs
 four-requires : tie.Need-four-requires
 four-requires c κs = search needs
 
-add-result : tie.Need-add-result
-add-result c = search needs
+add-four-4 : tie.Need-add-four-4
+add-four-4 c = search needs
 
-shared-slice-read-result : tie.Need-shared-slice-read-result
-shared-slice-read-result c = search needs
+shared-slice-read-four-5 : tie.Need-shared-slice-read-four-5
+shared-slice-read-four-5 c = search needs
 
-add-result-2 : tie.Need-add-result-2
-add-result-2 c = search needs
+add-four-5 : tie.Need-add-four-5
+add-four-5 c = search needs
 
-shared-slice-read-result-2 : tie.Need-shared-slice-read-result-2
-shared-slice-read-result-2 c = search needs
+shared-slice-read-four-6 : tie.Need-shared-slice-read-four-6
+shared-slice-read-four-6 c = search needs
+
+four-requires-2 : tie.Need-four-requires-2
+four-requires-2 c κs = search needs
 
 returns : tie.Need-returns
-returns c = zero-field _ _ (c .before .before .before .before .before .before .before .before .pre) (c .before .before .four .ensures)
+returns c = zero-field _ _ (c .before .before .before .before .before .before .before .before .before .pre) (c .before .before .before .four .ensures) (c .four2 .ensures)
 
 pub zero-at-spec : {M : Type 1} → statement M
 zero-at-spec =
@@ -55,8 +58,9 @@ zero-at-spec =
     add-four-3
     shared-slice-read-four-4
     four-requires
-    add-result
-    shared-slice-read-result
-    add-result-2
-    shared-slice-read-result-2
+    add-four-4
+    shared-slice-read-four-5
+    add-four-5
+    shared-slice-read-four-6
+    four-requires-2
     returns)
