@@ -18,6 +18,10 @@ pub record Four (a b c d r : ℕ) : Type 0 where
   pub whole : r ≡ a + 256 * b + 65536 * c + 16777216 * d
   pub bytes : (a < 256) × (b < 256) × (c < 256) × (d < 256)
 
+-- three digits, the first as its character less 32
+pub record Hundreds (lead e ones r : ℕ) : Type 0 where
+  pub form : r < 1000 → (16 < lead) × (lead ≤ 25) × (48 ≤ e) × (e ≤ 57) × (r ≡ 100 * (lead - 16) + 10 * (e - 48) + ones)
+
 -- a number below 1,000 is the one that the characters say
 pub record Quick (cs : List ℕ) (r : ℕ) : Type 0 where
   pub said : r < 1000 → fieldOf cs ≡ some (pos r)
@@ -101,35 +105,39 @@ four-spaces {a} {b} {c} {d} {r} w e =
 
 -- the three quick forms
 
-module _ {a b c d r : ℕ} (w : Four a b c d r) where
-  pub quick-one : (e f : ℕ) → r ≡ 538976288 → e ≡ 32 → 48 ≤ f → f ≤ 57 → Quick (a ∷ b ∷ c ∷ d ∷ e ∷ f ∷ []) (f - 48)
+module _ {a b c d r : ℕ} (w : Four a b c d r) (least : 538976288 ≤ r) where
+  pub quick-one : (e f : ℕ) → r - 538976288 ≡ 0 → e ≡ 32 → 48 ≤ f → f ≤ 57 → Quick (a ∷ b ∷ c ∷ d ∷ e ∷ f ∷ []) (f - 48)
   quick-one e f h s lo hi =
-      let u : (a ≡ 32) × (b ≡ 32) × (c ≡ 32) × (d ≡ 32) = four-spaces w h in
+      let u : (a ≡ 32) × (b ≡ 32) × (c ≡ 32) × (d ≡ 32) = four-spaces w (omega arith) in
       record {
         said = λ k. field-six _ refl
             ∙ spaced-space a _ (u .0) ∙ spaced-space b _ (u .1) ∙ spaced-space c _ (u .2) ∙ spaced-space d _ (u .3) ∙ spaced-space e _ s
             ∙ spaced-digit f [] lo ∙ ap positive (one-digit f lo hi);
       }
 
-  pub quick-two : (e f : ℕ) → r ≡ 538976288 → 48 < e → e ≤ 57 → 48 ≤ f → f ≤ 57 → Quick (a ∷ b ∷ c ∷ d ∷ e ∷ f ∷ []) (10 * (e - 48) + (f - 48))
+  pub quick-two : (e f : ℕ) → r - 538976288 ≡ 0 → 48 < e → e ≤ 57 → 48 ≤ f → f ≤ 57 → Quick (a ∷ b ∷ c ∷ d ∷ e ∷ f ∷ []) (10 * (e - 48) + (f - 48))
   quick-two e f h p q lo hi =
-      let u : (a ≡ 32) × (b ≡ 32) × (c ≡ 32) × (d ≡ 32) = four-spaces w h in
+      let u : (a ≡ 32) × (b ≡ 32) × (c ≡ 32) × (d ≡ 32) = four-spaces w (omega arith) in
       record {
         said = λ k. field-six _ refl
             ∙ spaced-space a _ (u .0) ∙ spaced-space b _ (u .1) ∙ spaced-space c _ (u .2) ∙ spaced-space d _ (u .3)
             ∙ spaced-digit e (f ∷ []) (omega arith) ∙ ap positive (two-digits e f p q lo hi);
       }
 
-  pub quick-three : (e f : ℕ) → r % 16777216 ≡ 2105376 → 48 < r / 16777216 → r / 16777216 ≤ 57 → 48 ≤ e → e ≤ 57 → 48 ≤ f → f ≤ 57
-      → Quick (a ∷ b ∷ c ∷ d ∷ e ∷ f ∷ []) (100 * (r / 16777216 - 48) + 10 * (e - 48) + (f - 48))
-  quick-three e f h m n p q lo hi =
-      let u : (a ≡ 32) × (b ≡ 32) × (c ≡ 32) = three-spaces w h in
-      let v : r / 16777216 ≡ d = omega (arith, w .whole, u) in
-      record {
-        said = λ k. field-six _ refl
-            ∙ spaced-space a _ (u .0) ∙ spaced-space b _ (u .1) ∙ spaced-space c _ (u .2)
-            ∙ spaced-digit d (e ∷ f ∷ []) (omega arith) ∙ ap positive (three-digits d e f (omega arith) (omega arith) p q lo hi) ∙ rw v;
-      }
+  pub quick-three : (e f n : ℕ) → (r - 538976288) % 16777216 ≡ 0 → 48 ≤ f → f ≤ 57 → Hundreds ((r - 538976288) / 16777216) e (f - 48) n → Quick (a ∷ b ∷ c ∷ d ∷ e ∷ f ∷ []) n
+  quick-three e f n h lo hi o = record { said = said }
+    where
+      said : n < 1000 → fieldOf (a ∷ b ∷ c ∷ d ∷ e ∷ f ∷ []) ≡ some (pos n)
+      said k =
+          let m = o .form k in
+          let u : (a ≡ 32) × (b ≡ 32) × (c ≡ 32) = three-spaces w (omega arith) in
+          let v : (r - 538976288) / 16777216 + 32 ≡ d = omega (arith, w .whole, u) in
+          let q : 100 * (d - 48) + 10 * (e - 48) + (f - 48) ≡ n = omega (arith, v, m .4) in
+          field-six _ refl
+          ∙ spaced-space a _ (u .0) ∙ spaced-space b _ (u .1) ∙ spaced-space c _ (u .2)
+          ∙ spaced-digit d (e ∷ f ∷ []) (omega (arith, v, m .0))
+          ∙ ap positive (three-digits d e f (omega (arith, v, m .0)) (omega (arith, v, m .1)) (m .2) (m .3) lo hi)
+          ∙ rw q
 
 -- zeros
 
@@ -141,11 +149,12 @@ pub zero-field : (t : List ℕ) (at : ℕ) {r s : ℕ} → at + 6 ≤ length t �
     → Four (getD t (at + 4) 0) (getD t (at + 5) 0) 0 0 s → (eqb r 538976288 && eqb s 12320) ≡ true → ZeroField t at
 zero-field t at {r} {s} h w v e =
     let u : (eqb r 538976288 ≡ true) × (eqb s 12320 ≡ true) = both _ _ e in
+    let l : r ≡ 538976288 = eqb-true r 538976288 (u .0) in
     let k : s ≡ 12320 = eqb-true s 12320 (u .1) in
     let f : getD t (at + 5) 0 ≡ 48 = omega (arith, v .whole, v .bytes, k) in
     let g : getD t (at + 4) 0 ≡ 32 = omega (arith, v .whole, v .bytes, k) in
     let n : getD t (at + 5) 0 - 48 ≡ 0 = omega (arith, f) in
-    let q : Quick _ (getD t (at + 5) 0 - 48) = quick-one w (getD t (at + 4) 0) (getD t (at + 5) 0) (eqb-true r 538976288 (u .0)) g (omega (arith, f)) (omega (arith, f)) in
+    let q : Quick _ (getD t (at + 5) 0 - 48) = quick-one w (omega (arith, l)) (getD t (at + 4) 0) (getD t (at + 5) 0) (omega (arith, l)) g (omega (arith, f)) (omega (arith, f)) in
     record { zero = ap fieldOf (six-at t at h) ∙ q .said (omega (arith, n)) ∙ rw n }
 
 pub zero-tail : {t : List ℕ} {at : ℕ} {a b c d e : Bool} → (a ≡ true → ZeroField t (at + 18)) → (b ≡ true → ZeroField t (at + 24)) → (c ≡ true → ZeroField t (at + 30))

@@ -7,7 +7,7 @@ ghost use mathlib.Core.List.{[], _∷_};
 ghost use lib.ListN.{length, take, drop};
 ghost use Rattle.lines.specs.Field.{fieldOf, decimalOf, digitsFrom, fieldAnswer, decimalAnswer, fieldAt};
 ghost use Rattle.lines.specs.FieldLoops.{PastSpaces};
-ghost use Rattle.lines.specs.QuickFields.{Four, Quick, ZeroField, ZeroTail};
+ghost use Rattle.lines.specs.QuickFields.{Four, Hundreds, Quick, ZeroField, ZeroTail};
 ghost use Rattle.lines.specs.LineLoops.{Put, Tried};
 ghost use Rattle.lines.specs.Line.{lineOf, lineCount, firstBad, numbersOf, lineAnswer, badAnswer, pageOf};
 
@@ -133,6 +133,26 @@ fn four(a: u8, b: u8, c: u8, d: u8) -> u32
     a as u32 + 256 * (b as u32) + 65536 * (c as u32) + 16777216 * (d as u32)
 }
 
+// The number of three digits: the first, 32 less than its character, the second's character and the third; 1,000 where they are none.
+fn hundreds(lead: u32, e: u8, ones: u32) -> u32
+    requires { ⌜ ones ≤ 9 ⌝ }
+    ensures { λ r. ⌜ Hundreds lead e ones r ⌝ }
+{
+    if lead <= 16 {
+        return 1000;
+    }
+    if 25 < lead {
+        return 1000;
+    }
+    if e < b'0' {
+        return 1000;
+    }
+    if b'9' < e {
+        return 1000;
+    }
+    100 * (lead - 16) + 10 * (e - b'0') as u32 + ones
+}
+
 // The number below 1,000 that six characters say, or 1,000.
 fn quick(a: u8, b: u8, c: u8, d: u8, e: u8, f: u8) -> u32
     ensures { λ r. ⌜ Quick (a ∷ b ∷ c ∷ d ∷ e ∷ f ∷ []) r ⌝ }
@@ -145,7 +165,11 @@ fn quick(a: u8, b: u8, c: u8, d: u8, e: u8, f: u8) -> u32
     }
     let ones = (f - b'0') as u32;
     let head = four(a, b, c, d);
-    if head == 0x20202020 {
+    if head < 0x20202020 {
+        return 1000;
+    }
+    let lead = head - 0x20202020;
+    if lead == 0 {
         if e == b' ' {
             return ones;
         }
@@ -157,23 +181,10 @@ fn quick(a: u8, b: u8, c: u8, d: u8, e: u8, f: u8) -> u32
         }
         return 10 * (e - b'0') as u32 + ones;
     }
-    if head % 0x1000000 != 0x202020 {
+    if lead % 0x1000000 != 0 {
         return 1000;
     }
-    let lead = head / 0x1000000;
-    if lead <= 48 {
-        return 1000;
-    }
-    if 57 < lead {
-        return 1000;
-    }
-    if e < b'0' {
-        return 1000;
-    }
-    if b'9' < e {
-        return 1000;
-    }
-    100 * (lead - 48) + 10 * (e - b'0') as u32 + ones
+    hundreds(lead / 0x1000000, e, ones)
 }
 
 // The number below 1,000 that the six characters at a place say, or 1,000.
