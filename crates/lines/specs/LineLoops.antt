@@ -1,6 +1,6 @@
 -- What the loops over fields and lines need of the definitions: pieces one after the other, and what is left to read.
 -- Assumes nothing.
-use mathlib.Core.Path.{_≡_, refl, sym, ap, _∙_, subst}
+use mathlib.Core.Path.{_≡_, refl, sym, ap, _∙_}
 use Prim.Native.Nat.{ℕ, zero, suc, _+_, _*_, _-_, _≤_, _<_}
 use native.Mathlib.Omega.{arith}
 use native.Mathlib.Numerals.{add-one}
@@ -12,9 +12,9 @@ use lib.Dec.{eqb}
 use lib.IntN.{ℤ, pos}
 use lib.ListN.{length, getD, take, drop, set, replicate, length-append, length-replicate, length-set, length-take, length-drop, drop-of-length-le, List·getD-append}
 use lib.Seq.{drop-cons, drop-drop, take-take, take-all, take-suc-set, getD-append-add, getD-take, getD-drop}
-use borrow.Author.Tests.{eq-eqb, ne-eqb, eqb-true, eqb-false}
+use borrow.Author.Tests.{eq-eqb, ne-eqb, eqb-true}
 use Rattle.lines.specs.Field.{fieldOf}
-use Rattle.lines.specs.Line.{endOf, joined, fieldsOf, lineOf, lineAt, isSome, orZeros, goodLine, lineCount, firstBad, lineNumbers, pieces, numbersOf, padded, badAnswer}
+use Rattle.lines.specs.Line.{endOf, joined, fieldsOf, lineOf, lineAt, orZeros, goodLine, lineCount, firstBad, lineNumbers, pieces, numbersOf, padded, badAnswer}
 use Rattle.lines.specs.declared.FirstBad as B
 use Rattle.lines.specs.QuickFields.{ZeroTail}
 use Rattle.lines.specs.LowestLaws.{Passed, passed-start, passed-next, passed-stop, passed-done}
@@ -205,36 +205,6 @@ module _ {done : List ℤ} {base size : ℕ} {b : List ℕ} {j : ℕ} {numbers :
   pub reading-kept : take (base + 8) numbers ≡ done ++ firstFields 8 b
   reading-kept = rw (← eight) (r .kept)
 
--- what a line leaves behind that is put among numbers: its own eight from `base` on, if it is one, and those before as they were
-pub record Put (b : List ℕ) (base : ℕ) (before after : List ℤ) (good : Bool) : Type 0 where
-  pub told : good ≡ isSome (lineOf b)
-  pub sized : length after ≡ length before
-  pub kept : good ≡ true → take (base + 8) after ≡ take base before ++ lineNumbers b
-
-module _ {b : List ℕ} {base : ℕ} {before after : List ℤ} {good : Bool} (p : Put b base before after good) where
-  pub put-bad : good ≡ false → lineOf b ≡ none
-  put-bad h = go (lineOf b) (sym (p .told) ∙ h)
-    where
-      go : (o : Option (List ℤ)) → isSome o ≡ false → o ≡ none
-      go none e = refl
-      go (some zs) e = let u : _≡_ {A = ℕ} 0 1 = cc in absurd (omega arith)
-
-  pub put-good : good ≡ true → lineOf b ≡ some (lineNumbers b)
-  put-good h = go (lineOf b) (sym (p .told) ∙ h)
-    where
-      go : (o : Option (List ℤ)) → isSome o ≡ true → o ≡ some (orZeros o)
-      go none e = let u : _≡_ {A = ℕ} 0 1 = cc in absurd (omega arith)
-      go (some zs) e = refl
-
-pub put-from : {b : List ℕ} {base : ℕ} {before other after : List ℤ} {good : Bool} → other ≡ before → Put b base other after good → Put b base before after good
-put-from {b} {base} {before} {other} {after} {good} e p = subst (λ (l : List ℤ). Put b base l after good) e p
-
--- eight numbers, and a line put there
-pub put-alone : {b : List ℕ} {before after : List ℤ} {good : Bool} → Put b 0 before after good → length before ≡ 8 → good ≡ true → after ≡ lineNumbers b
-put-alone {b} {before} {after} p l h =
-    let w : length after ≤ 8 = omega (arith, p .sized) in
-    sym (take-all 8 after w) ∙ p .kept h
-
 -- a line as a part of a text
 
 take-drop-take : (k m n : ℕ) (l : List ℕ) → m + k ≤ n → take k (drop m (take n l)) ≡ take k (drop m l)
@@ -252,59 +222,26 @@ line-last t at = getD-take 49 (drop at t) 48 0 (omega arith) ∙ getD-drop at t 
 pub line-whole : (t : List ℕ) (at : ℕ) → at + 49 ≤ length t → length (take 49 (drop at t)) ≡ 49
 line-whole t at h = rw (length-take, length-drop) (omega arith)
 
--- a line of a text, put among numbers
-
-pub put-none : {b : List ℕ} {base : ℕ} {before after : List ℤ} → lineOf b ≡ none → length after ≡ length before → Put b base before after false
-put-none e l = record { told = rw e; sized = l; kept = λ h. let u : _≡_ {A = ℕ} 0 1 = cc in absurd (omega arith) }
-
--- the first j numbers of the line at a place are put
+-- the first j numbers of the line at a place stand from `base` on, and those before are as they were
 pub record Putting (t : List ℕ) (at base : ℕ) (before : List ℤ) (j : ℕ) (numbers : List ℤ) : Type 0 where
   pub reading : Reading (take base before) base (length before) (take 49 (drop at t)) j numbers
 
 pub putting-start : (t : List ℕ) (at base : ℕ) (before : List ℤ) → Putting t at base before 0 before
 putting-start t at base before = record { reading = reading-start (take base before) base (length before) (take 49 (drop at t)) before refl refl }
 
-module _ {t : List ℕ} {at base : ℕ} {before : List ℤ} {j : ℕ} {numbers : List ℤ} (r : Putting t at base before j numbers) where
-  pub putting-next : (z : ℤ) → base + 8 ≤ length before → j < 8 → fieldOf (take 6 (drop (at + 6 * j) t)) ≡ some z → Putting t at base before (j + 1) (set numbers (base + j) z)
-  putting-next z w h e = record { reading = reading-next (r .reading) z h (omega arith) (ap fieldOf (line-field t at j h) ∙ e) }
+putting-next : {t : List ℕ} {at base : ℕ} {before : List ℤ} {j : ℕ} {numbers : List ℤ} → Putting t at base before j numbers
+    → (z : ℤ) → base + 8 ≤ length before → j < 8 → fieldOf (take 6 (drop (at + 6 * j) t)) ≡ some z → Putting t at base before (j + 1) (set numbers (base + j) z)
+putting-next {t} {at} {base} {before} {j} r z w h e = record { reading = reading-next (r .reading) z h (omega arith) (ap fieldOf (line-field t at j h) ∙ e) }
 
-  pub putting-bad : {after : List ℤ} → j < 8 → fieldOf (take 6 (drop (at + 6 * j) t)) ≡ none → length after ≡ length before → Put (take 49 (drop at t)) base before after false
-  putting-bad h e l = put-none (reading-bad (r .reading) h (ap fieldOf (line-field t at j h) ∙ e)) l
-
-  pub putting-end : at + 49 ≤ length t → 8 ≤ j → Put (take 49 (drop at t)) base before numbers (eqb (getD t (at + 48) 0) 10)
-  putting-end i h = go (eqb (getD t (at + 48) 0) 10) refl
-    where
-      w : length (take 49 (drop at t)) ≡ 49
-      w = line-whole t at i
-
-      go : (g : Bool) → eqb (getD t (at + 48) 0) 10 ≡ g → Put (take 49 (drop at t)) base before numbers g
-      go true e =
-          let l = reading-end (r .reading) h w (line-last t at ∙ eqb-true _ 10 e) in
-          record { told = rw l; sized = r .reading .sized; kept = λ i. rw l (reading-kept (r .reading) h w) }
-      go false e = put-none (reading-no-end (r .reading) h w (λ u. eqb-false _ 10 e (sym (line-last t at) ∙ u))) (r .reading .sized)
-
--- a line that is put whole, or nothing is
-
-pub record Tried (b : List ℕ) (base : ℕ) (before after : List ℤ) (good : Bool) : Type 0 where
-  pub put : good ≡ true → Put b base before after true
-  pub same : good ≡ false → after ≡ before
-
-pub tried-put : {b : List ℕ} {base : ℕ} {before after : List ℤ} → Put b base before after true → Tried b base before after true
-tried-put p = record { put = λ e. p; same = λ e. let u : _≡_ {A = ℕ} 0 1 = cc in absurd (omega arith) }
-
-pub tried-none : {b : List ℕ} {base : ℕ} {before : List ℤ} → Tried b base before before false
-tried-none = record { put = λ e. let u : _≡_ {A = ℕ} 0 1 = cc in absurd (omega arith); same = λ e. refl }
-
--- a line of three quick fields and five zeros
-
+-- three numbers and five zeros
 abbrev pub three : List ℤ → ℕ → ℕ → ℕ → ℕ → List ℤ
 three l base x y z =
     set (set (set (set (set (set (set (set l base (pos x)) (base + 1) (pos y)) (base + 2) (pos z)) (base + 3) (pos 0)) (base + 4) (pos 0)) (base + 5) (pos 0)) (base + 6) (pos 0)) (base + 7) (pos 0)
 
-pub three-put : (t : List ℕ) (at base : ℕ) (before : List ℤ) (x y z : ℕ) → at + 49 ≤ length t → base + 8 ≤ length before → ZeroTail t at
+pub three-put : (t : List ℕ) (at base : ℕ) (before : List ℤ) (x y z : ℕ) → base + 8 ≤ length before → ZeroTail t at
     → fieldOf (take 6 (drop at t)) ≡ some (pos x) → fieldOf (take 6 (drop (at + 6) t)) ≡ some (pos y) → fieldOf (take 6 (drop (at + 12) t)) ≡ some (pos z)
-    → Put (take 49 (drop at t)) base before (three before base x y z) true
-three-put t at base before x y z inside room o e f g =
+    → Putting t at base before 8 (three before base x y z)
+three-put t at base before x y z room o e f g =
     let a : Putting t at base before 1 (set before base (pos x)) = rw add-zero at (putting-next (putting-start t at base before) (pos x) room (omega arith) (rw add-zero e)) in
     let b = putting-next a (pos y) room (omega arith) f in
     let c = putting-next b (pos z) room (omega arith) g in
@@ -312,8 +249,7 @@ three-put t at base before x y z inside room o e f g =
     let m = putting-next d (pos 0) room (omega arith) (o .fifth .zero) in
     let n = putting-next m (pos 0) room (omega arith) (o .sixth .zero) in
     let p = putting-next n (pos 0) room (omega arith) (o .seventh .zero) in
-    let q = putting-next p (pos 0) room (omega arith) (o .eighth .zero) in
-    rw (eq-eqb _ 10 (o .feed)) at (putting-end q inside (omega arith))
+    putting-next p (pos 0) room (omega arith) (o .eighth .zero)
 
 -- the lines of a text, from the first
 
@@ -324,6 +260,19 @@ pub record Paging (t : List ℕ) (n i : ℕ) (numbers : List ℤ) : Type 0 where
   pub passed : Passed (goodLine t) n i
   pub kept : take (8 * i) numbers ≡ pieces lineNumbers 49 i t
 
+-- where the lines are left: at a bad one, or behind the last
+pub record Left (t : List ℕ) (n i : ℕ) (numbers : List ℤ) : Type 0 where
+  pub sized : length numbers ≡ 8 * n
+  pub bad : i < n → firstBad t ≡ some i
+  pub good : n ≤ i → (firstBad t ≡ none) × (numbers ≡ numbersOf t)
+
+-- the same, with j fields of line i
+pub record InLine (t : List ℕ) (n i j : ℕ) (numbers : List ℤ) : Type 0 where
+  pub counted : n ≡ lineCount t
+  pub passed : Passed (goodLine t) n i
+  pub more : i < n
+  pub reading : Reading (pieces lineNumbers 49 i t) (8 * i) (8 * n) (lineAt t i) j numbers
+
 pub page-start : (t : List ℕ) (n : ℕ) (numbers : List ℤ) → n ≡ lineCount t → length numbers ≡ 8 * lineCount t → Paging t n 0 numbers
 page-start t n numbers e h = record { counted = e; sized = rw e h; passed = passed-start (goodLine t) n; kept = rw pieces-none }
 
@@ -332,30 +281,70 @@ page-few t n e = rw e (omega arith, omega arith)
 
 module _ {t : List ℕ} {n i : ℕ} {numbers : List ℤ} (p : Paging t n i numbers) where
   -- the line lies inside the text, and its numbers among those of the text
-  pub line-inside : i < n → (49 * i + 49 ≤ length t) × (i < 673)
-  line-inside h = (omega (arith, page-few t n (p .counted)), omega (arith, page-few t n (p .counted)))
+  pub next-inside : i < n → (49 * i + 49 ≤ length t) × (8 * i + 8 ≤ length numbers) × (i < 673)
+  next-inside h = (omega (arith, page-few t n (p .counted)), omega (arith, p .sized), omega (arith, page-few t n (p .counted)))
 
-  pub line-room : i < n → 8 * i + 8 ≤ length numbers
-  line-room h = omega (arith, p .sized)
+  pub page-in : {j : ℕ} {after : List ℤ} → i < n → Putting t (49 * i) (8 * i) numbers j after → InLine t n i j after
+  page-in h q = record {
+    counted = p .counted;
+    passed = p .passed;
+    more = h;
+    reading = rw (p .kept, p .sized) at (q .reading);
+  }
 
-  pub page-line : {after : List ℤ} {good : Bool} → i < n → Put (lineAt t i) (8 * i) numbers after good → good ≡ true → Paging t n (i + 1) after
-  page-line h q g =
-      let u : 8 * suc i ≡ 8 * i + 8 = omega arith in
-      record {
-        counted = p .counted;
-        sized = q .sized ∙ p .sized;
-        passed = passed-next (p .passed) h (sym (q .told) ∙ g);
-        kept = rw (add-one, u, pieces-next lineNumbers 49 i t, q .kept g, p .kept);
-      }
-
-  pub page-stop : {after : List ℤ} {good : Bool} → i < n → Put (lineAt t i) (8 * i) numbers after good → good ≡ false → firstBad t ≡ some i
-  page-stop h q g = rw (← (p .counted)) (passed-stop (p .passed) h (sym (q .told) ∙ g))
-
-  pub page-done : n ≤ i → (firstBad t ≡ none) × (numbers ≡ numbersOf t)
+  pub page-done : n ≤ i → Left t n i numbers
   page-done h =
       let e : i ≡ lineCount t = omega (arith, p .passed .within, p .counted) in
       let w : length numbers ≤ 8 * i = omega (arith, p .sized) in
-      (rw (← (p .counted)) (passed-done (p .passed) h), sym (take-all (8 * i) numbers w) ∙ p .kept ∙ rw e)
+      record {
+        sized = p .sized;
+        bad = λ g. absurd (omega arith);
+        good = λ g. (rw (← (p .counted)) (passed-done (p .passed) h), sym (take-all (8 * i) numbers w) ∙ p .kept ∙ rw e);
+      }
+
+module _ {t : List ℕ} {n i j : ℕ} {numbers : List ℤ} (p : InLine t n i j numbers) where
+  -- the line lies inside the text, and its numbers among those of the text
+  pub line-inside : 49 * i + 49 ≤ length t
+  line-inside = omega (arith, p .more, page-few t n (p .counted) .1)
+
+  pub line-room : 8 * i + 8 ≤ length numbers
+  line-room = omega (arith, p .more, p .reading .sized)
+
+  pub page-field : (z : ℤ) → j < 8 → fieldOf (take 6 (drop (49 * i + 6 * j) t)) ≡ some z → InLine t n i (j + 1) (set numbers (8 * i + j) z)
+  page-field z h e = record {
+    counted = p .counted;
+    passed = p .passed;
+    more = p .more;
+    reading = reading-next (p .reading) z h (omega (arith, p .more)) (ap fieldOf (line-field t (49 * i) j h) ∙ e);
+  }
+
+  page-next : (zs : List ℤ) → lineOf (lineAt t i) ≡ some zs → take (8 * i + 8) numbers ≡ pieces lineNumbers 49 i t ++ zs → Paging t n (i + 1) numbers
+  page-next zs e k =
+      let u : 8 * suc i ≡ 8 * i + 8 = omega arith in
+      record {
+        counted = p .counted;
+        sized = p .reading .sized;
+        passed = passed-next (p .passed) (p .more) (rw e);
+        kept = rw (add-one, u, pieces-next lineNumbers 49 i t, e) k;
+      }
+
+  pub page-feed : 8 ≤ j → getD t (49 * i + 48) 0 ≡ 10 → Paging t n (i + 1) numbers
+  page-feed h e =
+      let w : length (lineAt t i) ≡ 49 = line-whole t (49 * i) line-inside in
+      page-next (firstFields 8 (lineAt t i)) (reading-end (p .reading) h w (line-last t (49 * i) ∙ e)) (reading-kept (p .reading) h w)
+
+  page-bad : lineOf (lineAt t i) ≡ none → Left t n i numbers
+  page-bad e = record {
+    sized = p .reading .sized;
+    bad = λ g. rw (← (p .counted)) (passed-stop (p .passed) (p .more) (rw e));
+    good = λ g. absurd (omega (arith, p .more));
+  }
+
+  pub page-bad-field : j < 8 → fieldOf (take 6 (drop (49 * i + 6 * j) t)) ≡ none → Left t n i numbers
+  page-bad-field h e = page-bad (reading-bad (p .reading) h (ap fieldOf (line-field t (49 * i) j h) ∙ e))
+
+  pub page-bad-feed : 8 ≤ j → (getD t (49 * i + 48) 0 ≡ 10 → ⊥) → Left t n i numbers
+  page-bad-feed h e = page-bad (reading-no-end (p .reading) h (line-whole t (49 * i) line-inside) (λ u. e (sym (line-last t (49 * i)) ∙ u)))
 
 -- the answers of the reader
 

@@ -30,14 +30,13 @@ pub record Quick (cs : List ℕ) (r : ℕ) : Type 0 where
 pub record ZeroField (t : List ℕ) (at : ℕ) : Type 0 where
   pub zero : fieldOf (take 6 (drop at t)) ≡ some (pos 0)
 
--- so do the last five fields of the line at a place, and a line feed ends it
+-- so do the last five fields of the line at a place
 pub record ZeroTail (t : List ℕ) (at : ℕ) : Type 0 where
   pub fourth : ZeroField t (at + 18)
   pub fifth : ZeroField t (at + 24)
   pub sixth : ZeroField t (at + 30)
   pub seventh : ZeroField t (at + 36)
   pub eighth : ZeroField t (at + 42)
-  pub feed : getD t (at + 48) 0 ≡ 10
 
 -- the six characters at a place, one by one
 six-at : (t : List ℕ) (at : ℕ) → at + 6 ≤ length t
@@ -158,11 +157,10 @@ zero-field t at {r} {s} h w v e =
     record { zero = ap fieldOf (six-at t at h) ∙ q .said (omega (arith, n)) ∙ rw n }
 
 pub zero-tail : {t : List ℕ} {at : ℕ} {a b c d e : Bool} → (a ≡ true → ZeroField t (at + 18)) → (b ≡ true → ZeroField t (at + 24)) → (c ≡ true → ZeroField t (at + 30))
-    → (d ≡ true → ZeroField t (at + 36)) → (e ≡ true → ZeroField t (at + 42)) → (a && b && c && d && e && eqb (getD t (at + 48) 0) 10) ≡ true → ZeroTail t at
+    → (d ≡ true → ZeroField t (at + 36)) → (e ≡ true → ZeroField t (at + 42)) → (a && b && c && d && e) ≡ true → ZeroTail t at
 zero-tail {t} {at} {a} {b} {c} {d} {e} f g h i j p =
-    let n : ((a && b && c && d && e) ≡ true) × (eqb (getD t (at + 48) 0) 10 ≡ true) = both _ _ p in
-    let u : ((a && b && c && d) ≡ true) × (e ≡ true) = both _ e (n .0) in
+    let u : ((a && b && c && d) ≡ true) × (e ≡ true) = both _ e p in
     let v : ((a && b && c) ≡ true) × (d ≡ true) = both _ d (u .0) in
     let w : ((a && b) ≡ true) × (c ≡ true) = both _ c (v .0) in
     let x : (a ≡ true) × (b ≡ true) = both a b (w .0) in
-    record { fourth = f (x .0); fifth = g (x .1); sixth = h (w .1); seventh = i (v .1); eighth = j (u .1); feed = eqb-true _ 10 (n .1) }
+    record { fourth = f (x .0); fifth = g (x .1); sixth = h (w .1); seventh = i (v .1); eighth = j (u .1) }

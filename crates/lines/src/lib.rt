@@ -8,7 +8,7 @@ ghost use lib.ListN.{length, take, drop};
 ghost use Rattle.lines.specs.Field.{fieldOf, decimalOf, digitsFrom, fieldAnswer, decimalAnswer, fieldAt};
 ghost use Rattle.lines.specs.FieldLoops.{PastSpaces};
 ghost use Rattle.lines.specs.QuickFields.{Four, Hundreds, Quick, ZeroField, ZeroTail};
-ghost use Rattle.lines.specs.LineLoops.{Put, Tried};
+ghost use Rattle.lines.specs.LineLoops.{Putting};
 ghost use Rattle.lines.specs.Line.{lineOf, lineCount, firstBad, numbersOf, lineAnswer, badAnswer, pageOf};
 
 // What six characters say: a number, or nothing.
@@ -223,7 +223,7 @@ fn zero_at(text: &[u8], at: usize) -> bool
         & (four(text[at + 4], text[at + 5], 0, 0) == 0x3020)
 }
 
-// Whether the last five fields of the line at a place are zeros, with a line feed behind them.
+// Whether the last five fields of the line at a place are zeros.
 fn ends_in_zeros(text: &[u8], at: usize) -> bool
     requires { ⌜ at + 49 ≤ length (now text) ⌝ }
     ensures { λ b. ⌜ (b ≡ true → ZeroTail (now (text .entry)) at) ⌝ }
@@ -233,29 +233,28 @@ fn ends_in_zeros(text: &[u8], at: usize) -> bool
         & zero_at(text, at + 30)
         & zero_at(text, at + 36)
         & zero_at(text, at + 42)
-        & (text[at + 48] == b'\n')
 }
 
-// Puts the eight numbers of the line at a place into `numbers` from `base` on if three are below 1,000 and five are zeros; whether they are.
-fn three_into(text: &[u8], at: usize, numbers: &mut [i32], base: usize) -> bool
+// Puts the eight numbers of the line at a place into `numbers` from `base` on if three are below 1,000 and five are zeros; how many it put, eight or none.
+fn quick_fields(text: &[u8], at: usize, numbers: &mut [i32], base: usize) -> usize
     requires { ⌜ at + 49 ≤ length (now text) ⌝ }
     requires { ⌜ base + 8 ≤ length (now numbers) ⌝ }
-    ensures { λ b. ⌜ Tried (take 49 (drop at (now (text .entry)))) base (now (numbers .entry)) (now (numbers .exit)) b ⌝ }
+    ensures { λ j. ⌜ Putting (now (text .entry)) at base (now (numbers .entry)) j (now (numbers .exit)) ⌝ }
 {
     if !ends_in_zeros(text, at) {
-        return false;
+        return 0;
     }
     let x = quick_at(text, at);
     if 999 < x {
-        return false;
+        return 0;
     }
     let y = quick_at(text, at + 6);
     if 999 < y {
-        return false;
+        return 0;
     }
     let z = quick_at(text, at + 12);
     if 999 < z {
-        return false;
+        return 0;
     }
     numbers[base] = x as i32;
     numbers[base + 1] = y as i32;
@@ -265,27 +264,7 @@ fn three_into(text: &[u8], at: usize, numbers: &mut [i32], base: usize) -> bool
     numbers[base + 5] = 0;
     numbers[base + 6] = 0;
     numbers[base + 7] = 0;
-    true
-}
-
-// Puts the eight numbers of the line at a place into `numbers` from `base` on; whether it is a line.
-fn line_into(text: &[u8], at: usize, numbers: &mut [i32], base: usize) -> bool
-    requires { ⌜ at + 49 ≤ length (now text) ⌝ }
-    requires { ⌜ base + 8 ≤ length (now numbers) ⌝ }
-    ensures { λ b. ⌜ Put (take 49 (drop at (now (text .entry)))) base (now (numbers .entry)) (now (numbers .exit)) b ⌝ }
-{
-    if three_into(text, at, numbers, base) {
-        return true;
-    }
-    let mut j = 0;
-    while j < 8 {
-        let Field::Number(z) = field_in(text, at + 6 * j) else {
-            return false;
-        };
-        numbers[base + j] = z;
-        j += 1;
-    }
-    text[at + 48] == b'\n'
+    8
 }
 
 // The number that the six characters at a place say; Bad too where fewer stand there.
@@ -316,7 +295,15 @@ pub fn read_line(text: &[u8], at: usize) -> Line
         return bad;
     }
     let mut numbers = [0i32; 8];
-    if !line_into(text, at, &mut numbers[..], 0) {
+    let mut j = 0;
+    while j < 8 {
+        let Field::Number(z) = read_field(text, at + 6 * j) else {
+            return bad;
+        };
+        numbers[j] = z;
+        j += 1;
+    }
+    if text[at + 48] != b'\n' {
         return bad;
     }
     Line {
@@ -344,11 +331,22 @@ pub fn read_numbers(text: &[u8], numbers: &mut [i32]) -> FirstBad
 {
     let lines = line_count(text);
     let mut i = 0;
-    while i < lines {
-        if !line_into(text, 49 * i, numbers, 8 * i) {
-            return FirstBad::Line(i);
+    'lines: while i < lines {
+        let mut j = quick_fields(text, 49 * i, numbers, 8 * i);
+        while j < 8 {
+            let Field::Number(z) = field_in(text, 49 * i + 6 * j) else {
+                break 'lines;
+            };
+            numbers[8 * i + j] = z;
+            j += 1;
+        }
+        if text[49 * i + 48] != b'\n' {
+            break 'lines;
         }
         i += 1;
+    }
+    if i < lines {
+        return FirstBad::Line(i);
     }
     FirstBad::Nothing
 }

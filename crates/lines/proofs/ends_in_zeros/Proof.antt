@@ -1,4 +1,4 @@
--- `lines::ends_in_zeros` meets its contract: five zeros and a line feed. Assumes nothing.
+-- `lines::ends_in_zeros` meets its contract: five zeros. Assumes nothing.
 use borrow.Author.Needs.{needs}
 use Rattle.lines.specs.QuickFields.{zero-tail}
 use Rattle.lines.proofs.ends_in_zeros.Statement.{statement}
@@ -34,14 +34,8 @@ add-zero-at-5 c = search needs
 zero-at-requires-5 : tie.Need-zero-at-requires-5
 zero-at-requires-5 c κs = search needs
 
-add-result : tie.Need-add-result
-add-result c = search needs
-
-shared-slice-read-result : tie.Need-shared-slice-read-result
-shared-slice-read-result c = search needs
-
 returns : tie.Need-returns
-returns c = zero-tail (c .before .before .before .before .before .zero-at .ensures) (c .before .before .before .before .zero-at2 .ensures) (c .before .before .before .zero-at3 .ensures) (c .before .before .zero-at4 .ensures) (c .before .zero-at5 .ensures)
+returns c = zero-tail (c .before .before .before .before .zero-at .ensures) (c .before .before .before .zero-at2 .ensures) (c .before .before .zero-at3 .ensures) (c .before .zero-at4 .ensures) (c .zero-at5 .ensures)
 
 pub ends-in-zeros-spec : {M : Type 1} → statement M
 ends-in-zeros-spec =
@@ -57,6 +51,4 @@ ends-in-zeros-spec =
     zero-at-requires-4
     add-zero-at-5
     zero-at-requires-5
-    add-result
-    shared-slice-read-result
     returns)

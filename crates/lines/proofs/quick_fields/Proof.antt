@@ -1,27 +1,26 @@
--- `lines::three_into` meets its contract: three quick fields, and five zeros behind them; or nothing is stored. Assumes nothing.
+-- `lines::quick_fields` meets its contract: three quick fields, and five zeros behind them; or nothing is stored. Assumes nothing.
 use borrow.Author.Needs.{needs}
 use borrow.Author.Tests.{not-false}
 use native.Mathlib.Omega.{arith}
-use mathlib.Core.Bool.{true}
 use Prim.Native.Nat.{ℕ, _+_, _<_}
-use lib.ListN.{length, take, drop, length-set}
+use lib.ListN.{length, length-set}
 use denote.Ref.{now}
 use Rattle.lines.specs.FieldLoops.{word-plus}
-use Rattle.lines.specs.LineLoops.{Put, three, three-put, tried-put, tried-none}
-use Rattle.lines.proofs.three_into.Statement.{statement}
-use Rattle.lines.proofs.three_into.Tie as tie
+use Rattle.lines.specs.LineLoops.{Putting, putting-start, three, three-put}
+use Rattle.lines.proofs.quick_fields.Statement.{statement}
+use Rattle.lines.proofs.quick_fields.Tie as tie
 
 ends-in-zeros-requires : tie.Need-ends-in-zeros-requires
 ends-in-zeros-requires c κs = search needs
 
 returns : tie.Need-returns
-returns c = tried-none
+returns c = putting-start _ _ _ _
 
 quick-at-requires : tie.Need-quick-at-requires
 quick-at-requires c κs = search needs
 
 returns-2 : tie.Need-returns-2
-returns-2 c = tried-none
+returns-2 c = putting-start _ _ _ _
 
 add-quick-at : tie.Need-add-quick-at
 add-quick-at c = search needs
@@ -30,7 +29,7 @@ quick-at-requires-2 : tie.Need-quick-at-requires-2
 quick-at-requires-2 c κs = search needs
 
 returns-3 : tie.Need-returns-3
-returns-3 c = tried-none
+returns-3 c = putting-start _ _ _ _
 
 add-quick-at-2 : tie.Need-add-quick-at-2
 add-quick-at-2 c = search needs
@@ -39,7 +38,7 @@ quick-at-requires-3 : tie.Need-quick-at-requires-3
 quick-at-requires-3 c κs = search needs
 
 returns-4 : tie.Need-returns-4
-returns-4 c = tried-none
+returns-4 c = putting-start _ _ _ _
 
 cast-numbers : tie.Need-cast-numbers
 cast-numbers c = search needs
@@ -64,9 +63,9 @@ room : (c : tie.Else4) (k : ℕ) → k < 8 → c .before .before .before .before
 room c k h = omega (arith, c .before .before .before .before .before .before .before .before .before .pre .1)
 
 -- all eight are put
-stored : (c : tie.Else4) → Put (take 49 (drop (c .before .before .before .before .before .before .before .before .before .args .at) (now (c .before .before .before .before .before .before .before .before .before .args .text)))) (c .before .before .before .before .before .before .before .before .before .args .base) (now (c .before .before .before .before .before .before .before .before .before .args .numbers)) (three (now (c .before .before .before .before .before .before .before .before .before .args .numbers)) (c .before .before .before .before .before .before .before .before .before .args .base) (c .before .before .before .before .before .quick-at .result) (c .before .before .before .quick-at2 .result) (c .before .quick-at3 .result)) true
+stored : (c : tie.Else4) → Putting (now (c .before .before .before .before .before .before .before .before .before .args .text)) (c .before .before .before .before .before .before .before .before .before .args .at) (c .before .before .before .before .before .before .before .before .before .args .base) (now (c .before .before .before .before .before .before .before .before .before .args .numbers)) 8 (three (now (c .before .before .before .before .before .before .before .before .before .args .numbers)) (c .before .before .before .before .before .before .before .before .before .args .base) (c .before .before .before .before .before .quick-at .result) (c .before .before .before .quick-at2 .result) (c .before .quick-at3 .result))
 stored c =
-    three-put _ _ _ _ _ _ _ (c .before .before .before .before .before .before .before .before .before .pre .0) (c .before .before .before .before .before .before .before .before .before .pre .1) (c .before .before .before .before .before .before .before .ends-in-zeros .ensures (not-false _ (c .before .before .before .before .before .before .if1 .left)))
+    three-put _ _ _ _ _ _ _ (c .before .before .before .before .before .before .before .before .before .pre .1) (c .before .before .before .before .before .before .before .ends-in-zeros .ensures (not-false _ (c .before .before .before .before .before .before .if1 .left)))
     (c .before .before .before .before .before .quick-at .ensures .said (omega (arith, c .before .before .before .before .if2 .left)))
     (c .before .before .before .quick-at2 .ensures .said (omega (arith, c .before .before .if3 .left)))
     (c .before .quick-at3 .ensures .said (omega (arith, c .if4 .left)))
@@ -137,10 +136,10 @@ same-length c = rw (length-set, length-set, length-set, length-set, length-set, 
 returns-5 : tie.Need-returns-5
 returns-5 c =
     rw (word-plus (c .before .before .before .before .before .quick-at .result) (omega (arith, c .before .before .before .before .if2 .left)), word-plus (c .before .before .before .quick-at2 .result) (omega (arith, c .before .before .if3 .left)), word-plus (c .before .quick-at3 .result) (omega (arith, c .if4 .left)))
-    (tried-put (stored c))
+    (stored c)
 
-pub three-into-spec : {M : Type 1} → statement M
-three-into-spec =
+pub quick-fields-spec : {M : Type 1} → statement M
+quick-fields-spec =
     tie.close
     (tie.spec
     ends-in-zeros-requires
