@@ -1,9 +1,5 @@
-pub mod Field
-pub mod FieldLoops
-pub mod QuickFields
 pub mod Lowest
 pub mod LowestLaws
 pub mod Line
 pub mod LineLoops
-pub mod FieldLaws
 pub mod LineLaws

@@ -5,7 +5,7 @@ use Prim.Native.Nat.{ℕ, zero, suc, _+_, _*_, _-_, _≤_, _<_}
 use native.Mathlib.Omega.{arith}
 use native.Mathlib.Numerals.{add-one}
 use native.Mathlib.Nat.{mul-suc, mul-zero, zero-add, add-zero, sub-zero, zero-sub, suc-sub-suc}
-use mathlib.Core.Bool.{Bool, true, false}
+use mathlib.Core.Bool.{Bool, true, false, _&&_}
 use mathlib.Core.Option.{Option, none, some}
 use mathlib.Core.List.{List, [], _∷_, _++_, append-assoc, append-nil}
 use lib.Dec.{eqb}
@@ -13,10 +13,10 @@ use lib.IntN.{ℤ, pos}
 use lib.ListN.{length, getD, take, drop, set, replicate, length-append, length-replicate, length-set, length-take, length-drop, drop-of-length-le, List·getD-append}
 use lib.Seq.{drop-cons, drop-drop, take-take, take-all, take-suc-set, getD-append-add, getD-take, getD-drop}
 use borrow.Author.Tests.{eq-eqb, ne-eqb, eqb-true}
-use Rattle.lines.specs.Field.{fieldOf}
+use Rattle.fields.specs.Field.{fieldOf}
+use Rattle.fields.specs.QuickFields.{ZeroField, both}
 use Rattle.lines.specs.Line.{endOf, joined, fieldsOf, lineOf, lineAt, orZeros, goodLine, lineCount, firstBad, lineNumbers, pieces, numbersOf, padded, badAnswer}
 use Rattle.lines.specs.declared.FirstBad as B
-use Rattle.lines.specs.QuickFields.{ZeroTail}
 use Rattle.lines.specs.LowestLaws.{Passed, passed-start, passed-next, passed-stop, passed-done}
 
 -- pieces, one after the other
@@ -232,6 +232,23 @@ putting-start t at base before = record { reading = reading-start (take base bef
 putting-next : {t : List ℕ} {at base : ℕ} {before : List ℤ} {j : ℕ} {numbers : List ℤ} → Putting t at base before j numbers
     → (z : ℤ) → base + 8 ≤ length before → j < 8 → fieldOf (take 6 (drop (at + 6 * j) t)) ≡ some z → Putting t at base before (j + 1) (set numbers (base + j) z)
 putting-next {t} {at} {base} {before} {j} r z w h e = record { reading = reading-next (r .reading) z h (omega arith) (ap fieldOf (line-field t at j h) ∙ e) }
+
+-- the last five fields of the line at a place say 0
+pub record ZeroTail (t : List ℕ) (at : ℕ) : Type 0 where
+  pub fourth : ZeroField t (at + 18)
+  pub fifth : ZeroField t (at + 24)
+  pub sixth : ZeroField t (at + 30)
+  pub seventh : ZeroField t (at + 36)
+  pub eighth : ZeroField t (at + 42)
+
+pub zero-tail : {t : List ℕ} {at : ℕ} {a b c d e : Bool} → (a ≡ true → ZeroField t (at + 18)) → (b ≡ true → ZeroField t (at + 24)) → (c ≡ true → ZeroField t (at + 30))
+    → (d ≡ true → ZeroField t (at + 36)) → (e ≡ true → ZeroField t (at + 42)) → (a && b && c && d && e) ≡ true → ZeroTail t at
+zero-tail {t} {at} {a} {b} {c} {d} {e} f g h i j p =
+    let u : ((a && b && c && d) ≡ true) × (e ≡ true) = both _ e p in
+    let v : ((a && b && c) ≡ true) × (d ≡ true) = both _ d (u .0) in
+    let w : ((a && b) ≡ true) × (c ≡ true) = both _ c (v .0) in
+    let x : (a ≡ true) × (b ≡ true) = both a b (w .0) in
+    record { fourth = f (x .0); fifth = g (x .1); sixth = h (w .1); seventh = i (v .1); eighth = j (u .1) }
 
 -- three numbers and five zeros
 abbrev pub three : List ℤ → ℕ → ℕ → ℕ → ℕ → List ℤ

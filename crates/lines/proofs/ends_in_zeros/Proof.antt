@@ -1,6 +1,6 @@
 -- `lines::ends_in_zeros` meets its contract: five zeros. Assumes nothing.
 use borrow.Author.Needs.{needs}
-use Rattle.lines.specs.QuickFields.{zero-tail}
+use Rattle.lines.specs.LineLoops.{zero-tail}
 use Rattle.lines.proofs.ends_in_zeros.Statement.{statement}
 use Rattle.lines.proofs.ends_in_zeros.Tie as tie
 

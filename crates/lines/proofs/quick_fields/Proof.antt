@@ -5,7 +5,7 @@ use native.Mathlib.Omega.{arith}
 use Prim.Native.Nat.{ℕ, _+_, _<_}
 use lib.ListN.{length, length-set}
 use denote.Ref.{now}
-use Rattle.lines.specs.FieldLoops.{word-plus}
+use Rattle.fields.specs.FieldLoops.{word-plus}
 use Rattle.lines.specs.LineLoops.{Putting, putting-start, three, three-put}
 use Rattle.lines.proofs.quick_fields.Statement.{statement}
 use Rattle.lines.proofs.quick_fields.Tie as tie

@@ -1,6 +1,6 @@
 -- `lines::read_numbers` meets its contract: before line i every line is good and its numbers stand in their places. Assumes nothing.
 use Rattle.lines.specs.LineLoops.{Paging, InLine, Left, page-start, next-inside, page-in, page-few, line-inside, line-room, page-field, page-feed, page-bad-field, page-bad-feed, page-done, answer-bad, answer-good}
-use Rattle.lines.specs.FieldLoops.{told-number, told-no-field}
+use Rattle.fields.specs.FieldLoops.{told-number, told-no-field}
 use mir.Facts.{toZ-ofZ}
 use mir.Syntax.{w32}
 use denote.Ref.{now}
@@ -15,7 +15,7 @@ use Rattle.lines.proofs.read_numbers.Tie as tie
 use Rattle.lines.proofs.read_numbers.Reads as reads
 use Rattle.lines.proofs.read_numbers.Lts as lts
 use Rattle.lines.proofs.line_count.Reads as line-count-reads
-use Rattle.lines.proofs.field_in.Reads as field-in-reads
+use Rattle.fields.proofs.field_in.Reads as field-in-reads
 
 abbrev Inv-loop : tie.InvT-loop
 Inv-loop text numbers₀ lines i j₀ numbers j = InLine text lines i j numbers

@@ -1,8 +1,8 @@
--- `lines::quick` meets its contract: each number that it returns is one of three forms. Assumes nothing.
+-- `fields::quick` meets its contract: each number that it returns is one of three forms. Assumes nothing.
 use borrow.Author.Needs.{needs}
-use Rattle.lines.specs.QuickFields.{quick-none, quick-one, quick-two, quick-three}
-use Rattle.lines.proofs.quick.Statement.{statement}
-use Rattle.lines.proofs.quick.Tie as tie
+use Rattle.fields.specs.QuickFields.{quick-none, quick-one, quick-two, quick-three}
+use Rattle.fields.proofs.quick.Statement.{statement}
+use Rattle.fields.proofs.quick.Tie as tie
 
 returns : tie.Need-returns
 returns c = quick-none _

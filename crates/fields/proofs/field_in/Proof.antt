@@ -1,4 +1,4 @@
--- `lines::field_in` meets its contract: a quick form, or the six characters looked at one by one. Assumes nothing.
+-- `fields::field_in` meets its contract: a quick form, or the six characters looked at one by one. Assumes nothing.
 use borrow.Author.Needs.{needs}
 use native.Mathlib.Omega.{arith}
 use mathlib.Core.Path.{ap, sym, _∙_}
@@ -6,11 +6,11 @@ use denote.Ref.{now}
 use Prim.Native.Nat.{ℕ}
 use native.Mathlib.Nat.{add-sub-cancel-left}
 use lib.ListN.{take, drop}
-use Rattle.lines.specs.Field.{fieldOf, fieldAnswer}
-use Rattle.lines.specs.FieldLoops.{word-plus}
-use Rattle.lines.specs.declared.Field.the-variants.{Number}
-use Rattle.lines.proofs.field_in.Statement.{statement}
-use Rattle.lines.proofs.field_in.Tie as tie
+use Rattle.fields.specs.Field.{fieldOf, fieldAnswer}
+use Rattle.fields.specs.FieldLoops.{word-plus}
+use Rattle.fields.specs.declared.Field.the-variants.{Number}
+use Rattle.fields.proofs.field_in.Statement.{statement}
+use Rattle.fields.proofs.field_in.Tie as tie
 
 quick-at-requires : tie.Need-quick-at-requires
 quick-at-requires c κs = search needs

@@ -1,8 +1,8 @@
--- `lines::zero_at` meets its contract: five spaces and a 0. Assumes nothing.
+-- `fields::zero_at` meets its contract: five spaces and a 0. Assumes nothing.
 use borrow.Author.Needs.{needs}
-use Rattle.lines.specs.QuickFields.{zero-field}
-use Rattle.lines.proofs.zero_at.Statement.{statement}
-use Rattle.lines.proofs.zero_at.Tie as tie
+use Rattle.fields.specs.QuickFields.{zero-field}
+use Rattle.fields.proofs.zero_at.Statement.{statement}
+use Rattle.fields.proofs.zero_at.Tie as tie
 
 shared-slice-read-four : tie.Need-shared-slice-read-four
 shared-slice-read-four c = search needs

@@ -1,8 +1,8 @@
--- `lines::quick_at` meets its contract: the six characters, one by one. Assumes nothing.
+-- `fields::quick_at` meets its contract: the six characters, one by one. Assumes nothing.
 use borrow.Author.Needs.{needs}
-use Rattle.lines.specs.QuickFields.{quick-at}
-use Rattle.lines.proofs.quick_at.Statement.{statement}
-use Rattle.lines.proofs.quick_at.Tie as tie
+use Rattle.fields.specs.QuickFields.{quick-at}
+use Rattle.fields.proofs.quick_at.Statement.{statement}
+use Rattle.fields.proofs.quick_at.Tie as tie
 
 shared-slice-read-quick : tie.Need-shared-slice-read-quick
 shared-slice-read-quick c = search needs

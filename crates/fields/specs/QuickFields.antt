@@ -10,8 +10,8 @@ use lib.IntN.{ℤ, pos}
 use lib.ListN.{length, getD, take, drop, drop-of-length-le, length-drop}
 use lib.Seq.{drop-cons}
 use borrow.Author.Tests.{eqb-true, eqb-false}
-use Rattle.lines.specs.Field.{isDigit, digitsFrom, decimalOf, positive, spacedOf, fieldOf}
-use Rattle.lines.specs.FieldLoops.{spaced-space, spaced-other, is-digit, digits-digit, digits-none, decimal-zero, decimal-digits, signed-other, field-six}
+use Rattle.fields.specs.Field.{isDigit, digitsFrom, decimalOf, positive, spacedOf, fieldOf}
+use Rattle.fields.specs.FieldLoops.{spaced-space, spaced-other, is-digit, digits-digit, digits-none, decimal-zero, decimal-digits, signed-other, field-six}
 
 -- four bytes as one number
 pub record Four (a b c d r : ℕ) : Type 0 where
@@ -29,14 +29,6 @@ pub record Quick (cs : List ℕ) (r : ℕ) : Type 0 where
 -- the six characters at a place say 0
 pub record ZeroField (t : List ℕ) (at : ℕ) : Type 0 where
   pub zero : fieldOf (take 6 (drop at t)) ≡ some (pos 0)
-
--- so do the last five fields of the line at a place
-pub record ZeroTail (t : List ℕ) (at : ℕ) : Type 0 where
-  pub fourth : ZeroField t (at + 18)
-  pub fifth : ZeroField t (at + 24)
-  pub sixth : ZeroField t (at + 30)
-  pub seventh : ZeroField t (at + 36)
-  pub eighth : ZeroField t (at + 42)
 
 -- the six characters at a place, one by one
 six-at : (t : List ℕ) (at : ℕ) → at + 6 ≤ length t
@@ -140,7 +132,7 @@ module _ {a b c d r : ℕ} (w : Four a b c d r) (least : 538976288 ≤ r) where
 
 -- zeros
 
-both : (a b : Bool) → (a && b) ≡ true → (a ≡ true) × (b ≡ true)
+pub both : (a b : Bool) → (a && b) ≡ true → (a ≡ true) × (b ≡ true)
 both true b h = (refl, h)
 both false b h = let z : _≡_ {A = ℕ} 0 1 = cc in absurd (omega arith)
 
@@ -155,12 +147,3 @@ zero-field t at {r} {s} h w v e =
     let n : getD t (at + 5) 0 - 48 ≡ 0 = omega (arith, f) in
     let q : Quick _ (getD t (at + 5) 0 - 48) = quick-one w (omega (arith, l)) (getD t (at + 4) 0) (getD t (at + 5) 0) (omega (arith, l)) g (omega (arith, f)) (omega (arith, f)) in
     record { zero = ap fieldOf (six-at t at h) ∙ q .said (omega (arith, n)) ∙ rw n }
-
-pub zero-tail : {t : List ℕ} {at : ℕ} {a b c d e : Bool} → (a ≡ true → ZeroField t (at + 18)) → (b ≡ true → ZeroField t (at + 24)) → (c ≡ true → ZeroField t (at + 30))
-    → (d ≡ true → ZeroField t (at + 36)) → (e ≡ true → ZeroField t (at + 42)) → (a && b && c && d && e) ≡ true → ZeroTail t at
-zero-tail {t} {at} {a} {b} {c} {d} {e} f g h i j p =
-    let u : ((a && b && c && d) ≡ true) × (e ≡ true) = both _ e p in
-    let v : ((a && b && c) ≡ true) × (d ≡ true) = both _ d (u .0) in
-    let w : ((a && b) ≡ true) × (c ≡ true) = both _ c (v .0) in
-    let x : (a ≡ true) × (b ≡ true) = both a b (w .0) in
-    record { fourth = f (x .0); fifth = g (x .1); sixth = h (w .1); seventh = i (v .1); eighth = j (u .1) }
