@@ -251,13 +251,13 @@ zero-tail {t} {at} {a} {b} {c} {d} {e} f g h i j p =
     record { fourth = f (x .0); fifth = g (x .1); sixth = h (w .1); seventh = i (v .1); eighth = j (u .1) }
 
 -- three numbers and five zeros
-abbrev pub three : List ℤ → ℕ → ℕ → ℕ → ℕ → List ℤ
+abbrev pub three : List ℤ → ℕ → ℤ → ℤ → ℤ → List ℤ
 three l base x y z =
-    set (set (set (set (set (set (set (set l base (pos x)) (base + 1) (pos y)) (base + 2) (pos z)) (base + 3) (pos 0)) (base + 4) (pos 0)) (base + 5) (pos 0)) (base + 6) (pos 0)) (base + 7) (pos 0)
+    set (set (set (set (set (set (set (set l base x) (base + 1) y) (base + 2) z) (base + 3) (pos 0)) (base + 4) (pos 0)) (base + 5) (pos 0)) (base + 6) (pos 0)) (base + 7) (pos 0)
 
 pub three-put : (t : List ℕ) (at base : ℕ) (before : List ℤ) (x y z : ℕ) → base + 8 ≤ length before → ZeroTail t at
     → fieldOf (take 6 (drop at t)) ≡ some (pos x) → fieldOf (take 6 (drop (at + 6) t)) ≡ some (pos y) → fieldOf (take 6 (drop (at + 12) t)) ≡ some (pos z)
-    → Putting t at base before 8 (three before base x y z)
+    → Putting t at base before 8 (three before base (pos x) (pos y) (pos z))
 three-put t at base before x y z room o e f g =
     let a : Putting t at base before 1 (set before base (pos x)) = rw add-zero at (putting-next (putting-start t at base before) (pos x) room (omega arith) (rw add-zero e)) in
     let b = putting-next a (pos y) room (omega arith) f in

@@ -4,7 +4,7 @@ ghost use Prim.Native.Nat.{_*_, _+_, _≤_};
 ghost use mathlib.Core.Bool.{true};
 ghost use mathlib.Core.Option.{none};
 ghost use lib.ListN.{length, take, drop};
-ghost use Rattle.lines.specs.LineLoops.{Putting, ZeroTail};
+ghost use Rattle.lines.specs.LineLoops.{Putting, ZeroTail, three};
 ghost use Rattle.lines.specs.Line.{lineOf, lineCount, firstBad, numbersOf, lineAnswer, badAnswer, pageOf};
 use fields::Field;
 
@@ -45,6 +45,21 @@ fn ends_in_zeros(text: &[u8], at: usize) -> bool
         & fields::zero_at(text, at + 42)
 }
 
+// Puts three numbers and five zeros into `numbers` from `base` on.
+fn put_three(numbers: &mut [i32], base: usize, x: i32, y: i32, z: i32)
+    requires { ⌜ base + 8 ≤ length (now numbers) ⌝ }
+    ensures { λ _. ⌜ now (numbers .exit) ≡ three (now (numbers .entry)) base x y z ⌝ }
+{
+    numbers[base] = x;
+    numbers[base + 1] = y;
+    numbers[base + 2] = z;
+    numbers[base + 3] = 0;
+    numbers[base + 4] = 0;
+    numbers[base + 5] = 0;
+    numbers[base + 6] = 0;
+    numbers[base + 7] = 0;
+}
+
 // Puts the eight numbers of the line at a place into `numbers` from `base` on if three are below 1,000 and five are zeros; how many it put, eight or none.
 fn quick_fields(text: &[u8], at: usize, numbers: &mut [i32], base: usize) -> usize
     requires { ⌜ at + 49 ≤ length (now text) ⌝ }
@@ -66,14 +81,7 @@ fn quick_fields(text: &[u8], at: usize, numbers: &mut [i32], base: usize) -> usi
     if 999 < z {
         return 0;
     }
-    numbers[base] = x as i32;
-    numbers[base + 1] = y as i32;
-    numbers[base + 2] = z as i32;
-    numbers[base + 3] = 0;
-    numbers[base + 4] = 0;
-    numbers[base + 5] = 0;
-    numbers[base + 6] = 0;
-    numbers[base + 7] = 0;
+    put_three(numbers, base, x as i32, y as i32, z as i32);
     8
 }
 
