@@ -1,16 +1,16 @@
 -- Fields of one, two or three digits, seen without a loop: six characters, three spaces or more and digits. Assumes nothing.
-use mathlib.Core.Path.{_≡_, refl, sym, ap, _∙_}
+use mathlib.Core.Path.{_≡_, refl, ap, _∙_}
 use Prim.Native.Nat.{ℕ, zero, suc, _+_, _*_, _-_, _/_, _%_, _≤_, _<_}
 use native.Mathlib.Omega.{arith}
 use mathlib.Core.Bool.{Bool, true, false, _&&_}
 use mathlib.Core.Option.{Option, none, some}
 use mathlib.Core.List.{List, [], _∷_}
 use lib.Dec.{eqb}
-use lib.IntN.{ℤ, pos}
-use lib.ListN.{length, getD, take, drop, drop-of-length-le, length-drop}
+use lib.IntN.{pos}
+use lib.ListN.{length, getD, take, drop}
 use lib.Seq.{drop-cons}
 use borrow.Author.Tests.{eqb-true, eqb-false}
-use Rattle.fields.specs.Field.{isDigit, digitsFrom, decimalOf, positive, spacedOf, fieldOf}
+use Rattle.fields.specs.Field.{decimalOf, positive, spacedOf, fieldOf}
 use Rattle.fields.specs.FieldLoops.{spaced-space, spaced-other, is-digit, digits-digit, digits-none, decimal-zero, decimal-digits, signed-other, field-six}
 
 -- four bytes as one number
