@@ -12,8 +12,8 @@ use lib.Signed.{ltZ}
 use lib.ListN.{length, getD, take, drop, set, replicate, getD-replicate, length-append, length-replicate, length-set, length-take, length-drop, drop-of-length-le}
 use lib.Seq.{drop-cons, paste, paste-zero, paste-suc, length-paste, take-paste, drop-paste, drop-drop, take-all, take-at, drop-at, set-append-left, set-split, append-snoc}
 use borrow.Author.Tests.{ltb-true, ltb-false, lt-ltb, le-ltb, le-leb, lt-leb}
-use Rattle.lines.specs.Field.{inField, decimalText, fieldText}
-use Rattle.lines.specs.FieldLaws.{text-last, text-more, text-width, field-text, field-text-length, signed-pos, signed-negsuc}
+use Rattle.fields.specs.Field.{inField, decimalText, fieldText}
+use Rattle.fields.specs.FieldLaws.{text-last, text-more, text-width, field-text, field-text-length, signed-pos, signed-negsuc}
 use Rattle.lines.specs.Line.{allInField, lineText}
 use Rattle.lines.specs.LineLaws.{all-none, all-good, all-bad, text-end, text-cons, line-text-length}
 use Rattle.line_printer.specs.Print.{printAnswer, printedAt}

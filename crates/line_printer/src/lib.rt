@@ -5,7 +5,7 @@ ghost use Prim.Native.Nat.{_+_, _≤_};
 ghost use lib.IntN.{natAbs};
 ghost use lib.ListN.{length, replicate};
 ghost use lib.Seq.{paste};
-ghost use Rattle.lines.specs.Field.{inField, fieldText};
+ghost use Rattle.fields.specs.Field.{inField, fieldText};
 ghost use Rattle.lines.specs.Line.{allInField, lineText};
 ghost use Rattle.line_printer.specs.Print.{printAnswer, printedAt};
 

@@ -7,7 +7,7 @@ use mathlib.Core.List.{List, [], _∷_, _++_}
 use lib.Dec.{eqb}
 use lib.IntN.{ℤ, pos}
 use lib.ListN.{length, take, drop, replicate}
-use Rattle.lines.specs.Field.{fieldOf, fieldText, inField}
+use Rattle.fields.specs.Field.{fieldOf, fieldText, inField}
 use Rattle.lines.specs.Lowest.{lowest}
 use Rattle.lines.specs.declared.Form as M
 use Rattle.lines.specs.declared.Line as L

@@ -9,8 +9,8 @@ use mathlib.Core.List.{List, [], _∷_, _++_}
 use lib.IntN.{ℤ, pos}
 use lib.ListN.{length, getD, take, drop, length-append, take-append-drop}
 use lib.Seq.{take-at, drop-at, drop-drop}
-use Rattle.lines.specs.Field.{fieldOf, fieldText, inField}
-use Rattle.lines.specs.FieldLaws.{FieldIs, field-text-length, printed-field-reads-back, read-field-prints-back}
+use Rattle.fields.specs.Field.{fieldOf, fieldText, inField}
+use Rattle.fields.specs.FieldLaws.{FieldIs, field-text-length, printed-field-reads-back, read-field-prints-back}
 use Rattle.lines.specs.Line.{fieldsOf, lineOf, lineText, lineAt, allInField, isSome, orZeros, goodLine, lineCount, firstBad, lineNumbers, numbersOf, pageAnswer, pageOf}
 use Rattle.lines.specs.LineLoops.{Joined, joined-some, end-some, fields-end, fields-cons, line-sized, pieces-at, line-field}
 use Rattle.lines.specs.LowestLaws.{Lowest, some-lowest}

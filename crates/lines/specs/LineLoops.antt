@@ -5,7 +5,7 @@ use Prim.Native.Nat.{ℕ, zero, suc, _+_, _*_, _-_, _≤_, _<_}
 use native.Mathlib.Omega.{arith}
 use native.Mathlib.Numerals.{add-one}
 use native.Mathlib.Nat.{mul-suc, mul-zero, zero-add, add-zero, sub-zero, zero-sub, suc-sub-suc}
-use mathlib.Core.Bool.{Bool, true, false}
+use mathlib.Core.Bool.{Bool, true, false, _&&_}
 use mathlib.Core.Option.{Option, none, some}
 use mathlib.Core.List.{List, [], _∷_, _++_, append-assoc, append-nil}
 use lib.Dec.{eqb}
@@ -13,7 +13,8 @@ use lib.IntN.{ℤ, pos}
 use lib.ListN.{length, getD, take, drop, set, replicate, length-append, length-replicate, length-set, length-take, length-drop, drop-of-length-le, List·getD-append}
 use lib.Seq.{drop-cons, drop-drop, take-take, take-all, take-suc-set, getD-append-add, getD-take, getD-drop}
 use borrow.Author.Tests.{eq-eqb, ne-eqb, eqb-true}
-use Rattle.lines.specs.Field.{fieldOf}
+use Rattle.fields.specs.Field.{fieldOf}
+use Rattle.fields.specs.QuickFields.{ZeroField, both}
 use Rattle.lines.specs.Line.{endOf, joined, fieldsOf, lineOf, lineAt, orZeros, goodLine, lineCount, firstBad, lineNumbers, pieces, numbersOf, padded, badAnswer}
 use Rattle.lines.specs.declared.FirstBad as B
 use Rattle.lines.specs.LowestLaws.{Passed, passed-start, passed-next, passed-stop, passed-done}
@@ -221,6 +222,52 @@ line-last t at = getD-take 49 (drop at t) 48 0 (omega arith) ∙ getD-drop at t 
 pub line-whole : (t : List ℕ) (at : ℕ) → at + 49 ≤ length t → length (take 49 (drop at t)) ≡ 49
 line-whole t at h = rw (length-take, length-drop) (omega arith)
 
+-- the first j numbers of the line at a place stand from `base` on, and those before are as they were
+pub record Putting (t : List ℕ) (at base : ℕ) (before : List ℤ) (j : ℕ) (numbers : List ℤ) : Type 0 where
+  pub reading : Reading (take base before) base (length before) (take 49 (drop at t)) j numbers
+
+pub putting-start : (t : List ℕ) (at base : ℕ) (before : List ℤ) → Putting t at base before 0 before
+putting-start t at base before = record { reading = reading-start (take base before) base (length before) (take 49 (drop at t)) before refl refl }
+
+putting-next : {t : List ℕ} {at base : ℕ} {before : List ℤ} {j : ℕ} {numbers : List ℤ} → Putting t at base before j numbers
+    → (z : ℤ) → base + 8 ≤ length before → j < 8 → fieldOf (take 6 (drop (at + 6 * j) t)) ≡ some z → Putting t at base before (j + 1) (set numbers (base + j) z)
+putting-next {t} {at} {base} {before} {j} r z w h e = record { reading = reading-next (r .reading) z h (omega arith) (ap fieldOf (line-field t at j h) ∙ e) }
+
+-- the last five fields of the line at a place say 0
+pub record ZeroTail (t : List ℕ) (at : ℕ) : Type 0 where
+  pub fourth : ZeroField t (at + 18)
+  pub fifth : ZeroField t (at + 24)
+  pub sixth : ZeroField t (at + 30)
+  pub seventh : ZeroField t (at + 36)
+  pub eighth : ZeroField t (at + 42)
+
+pub zero-tail : {t : List ℕ} {at : ℕ} {a b c d e : Bool} → (a ≡ true → ZeroField t (at + 18)) → (b ≡ true → ZeroField t (at + 24)) → (c ≡ true → ZeroField t (at + 30))
+    → (d ≡ true → ZeroField t (at + 36)) → (e ≡ true → ZeroField t (at + 42)) → (a && b && c && d && e) ≡ true → ZeroTail t at
+zero-tail {t} {at} {a} {b} {c} {d} {e} f g h i j p =
+    let u : ((a && b && c && d) ≡ true) × (e ≡ true) = both _ e p in
+    let v : ((a && b && c) ≡ true) × (d ≡ true) = both _ d (u .0) in
+    let w : ((a && b) ≡ true) × (c ≡ true) = both _ c (v .0) in
+    let x : (a ≡ true) × (b ≡ true) = both a b (w .0) in
+    record { fourth = f (x .0); fifth = g (x .1); sixth = h (w .1); seventh = i (v .1); eighth = j (u .1) }
+
+-- three numbers and five zeros
+abbrev pub three : List ℤ → ℕ → ℤ → ℤ → ℤ → List ℤ
+three l base x y z =
+    set (set (set (set (set (set (set (set l base x) (base + 1) y) (base + 2) z) (base + 3) (pos 0)) (base + 4) (pos 0)) (base + 5) (pos 0)) (base + 6) (pos 0)) (base + 7) (pos 0)
+
+pub three-put : (t : List ℕ) (at base : ℕ) (before : List ℤ) (x y z : ℕ) → base + 8 ≤ length before → ZeroTail t at
+    → fieldOf (take 6 (drop at t)) ≡ some (pos x) → fieldOf (take 6 (drop (at + 6) t)) ≡ some (pos y) → fieldOf (take 6 (drop (at + 12) t)) ≡ some (pos z)
+    → Putting t at base before 8 (three before base (pos x) (pos y) (pos z))
+three-put t at base before x y z room o e f g =
+    let a : Putting t at base before 1 (set before base (pos x)) = rw add-zero at (putting-next (putting-start t at base before) (pos x) room (omega arith) (rw add-zero e)) in
+    let b = putting-next a (pos y) room (omega arith) f in
+    let c = putting-next b (pos z) room (omega arith) g in
+    let d = putting-next c (pos 0) room (omega arith) (o .fourth .zero) in
+    let m = putting-next d (pos 0) room (omega arith) (o .fifth .zero) in
+    let n = putting-next m (pos 0) room (omega arith) (o .sixth .zero) in
+    let p = putting-next n (pos 0) room (omega arith) (o .seventh .zero) in
+    putting-next p (pos 0) room (omega arith) (o .eighth .zero)
+
 -- the lines of a text, from the first
 
 -- before line i every line is good, and its numbers stand in their places
@@ -250,12 +297,16 @@ pub page-few : (t : List ℕ) (n : ℕ) → n ≡ lineCount t → (n ≤ 673) ×
 page-few t n e = rw e (omega arith, omega arith)
 
 module _ {t : List ℕ} {n i : ℕ} {numbers : List ℤ} (p : Paging t n i numbers) where
-  pub page-in : i < n → InLine t n i 0 numbers
-  page-in h = record {
+  -- the line lies inside the text, and its numbers among those of the text
+  pub next-inside : i < n → (49 * i + 49 ≤ length t) × (8 * i + 8 ≤ length numbers) × (i < 673)
+  next-inside h = (omega (arith, page-few t n (p .counted)), omega (arith, p .sized), omega (arith, page-few t n (p .counted)))
+
+  pub page-in : {j : ℕ} {after : List ℤ} → i < n → Putting t (49 * i) (8 * i) numbers j after → InLine t n i j after
+  page-in h q = record {
     counted = p .counted;
     passed = p .passed;
     more = h;
-    reading = reading-start (pieces lineNumbers 49 i t) (8 * i) (8 * n) (lineAt t i) numbers (p .sized) (p .kept);
+    reading = rw (p .kept, p .sized) at (q .reading);
   }
 
   pub page-done : n ≤ i → Left t n i numbers

@@ -1,17 +1,12 @@
 // A line of a table text: eight fields of six characters and a line feed, read.
 ghost use mathlib.Core.Path.{_≡_};
-ghost use Prim.Native.Nat.{_*_, _≤_};
+ghost use Prim.Native.Nat.{_*_, _+_, _≤_};
+ghost use mathlib.Core.Bool.{true};
 ghost use mathlib.Core.Option.{none};
 ghost use lib.ListN.{length, take, drop};
-ghost use Rattle.lines.specs.Field.{fieldOf, decimalOf, digitsFrom, fieldAnswer, decimalAnswer, fieldAt};
-ghost use Rattle.lines.specs.FieldLoops.{PastSpaces};
+ghost use Rattle.lines.specs.LineLoops.{Putting, ZeroTail, three};
 ghost use Rattle.lines.specs.Line.{lineOf, lineCount, firstBad, numbersOf, lineAnswer, badAnswer, pageOf};
-
-// What six characters say: a number, or nothing.
-pub enum Field {
-    Number(i32),
-    Bad,
-}
+use fields::Field;
 
 // Whether 49 bytes are a line.
 pub enum Form {
@@ -38,101 +33,56 @@ pub struct Page {
     pub numbers: [i32; 5384],
 }
 
-// What characters say that are to be digits alone.
-enum Decimal {
-    Value(u32),
-    Bad,
+// Whether the last five fields of the line at a place are zeros.
+fn ends_in_zeros(text: &[u8], at: usize) -> bool
+    requires { ⌜ at + 49 ≤ length (now text) ⌝ }
+    ensures { λ b. ⌜ (b ≡ true → ZeroTail (now (text .entry)) at) ⌝ }
+{
+    fields::zero_at(text, at + 18)
+        & fields::zero_at(text, at + 24)
+        & fields::zero_at(text, at + 30)
+        & fields::zero_at(text, at + 36)
+        & fields::zero_at(text, at + 42)
 }
 
-// The place of the first character that is no space, the length where there is none.
-fn past_spaces(cs: &[u8]) -> usize
-    ensures { λ r. ⌜ PastSpaces (now (cs .entry)) r ⌝ }
+// Puts three numbers and five zeros into `numbers` from `base` on.
+fn put_three(numbers: &mut [i32], base: usize, x: i32, y: i32, z: i32)
+    requires { ⌜ base + 8 ≤ length (now numbers) ⌝ }
+    ensures { λ _. ⌜ now (numbers .exit) ≡ three (now (numbers .entry)) base x y z ⌝ }
 {
-    let mut i = 0;
-    while i < cs.len() {
-        if cs[i] != b' ' {
-            return i;
-        }
-        i += 1;
-    }
-    i
+    numbers[base] = x;
+    numbers[base + 1] = y;
+    numbers[base + 2] = z;
+    numbers[base + 3] = 0;
+    numbers[base + 4] = 0;
+    numbers[base + 5] = 0;
+    numbers[base + 6] = 0;
+    numbers[base + 7] = 0;
 }
 
-// The number that the characters from `from` on say, digits all of them.
-fn digits(cs: &[u8], from: usize) -> Decimal
-    requires { ⌜ (length (now cs) ≡ 6) × (from ≤ 6) ⌝ }
-    ensures { λ r. ⌜ r ≡ decimalAnswer (digitsFrom 0 (drop from (now (cs .entry)))) ⌝ }
+// Puts the eight numbers of the line at a place into `numbers` from `base` on if three are below 1,000 and five are zeros; how many it put, eight or none.
+fn quick_fields(text: &[u8], at: usize, numbers: &mut [i32], base: usize) -> usize
+    requires { ⌜ at + 49 ≤ length (now text) ⌝ }
+    requires { ⌜ base + 8 ≤ length (now numbers) ⌝ }
+    ensures { λ j. ⌜ Putting (now (text .entry)) at base (now (numbers .entry)) j (now (numbers .exit)) ⌝ }
 {
-    let mut m: u32 = 0;
-    let mut i = from;
-    while i < cs.len() {
-        let c = cs[i];
-        if c < b'0' {
-            return Decimal::Bad;
-        }
-        if b'9' < c {
-            return Decimal::Bad;
-        }
-        m = 10 * m + (c - b'0') as u32;
-        i += 1;
+    if !ends_in_zeros(text, at) {
+        return 0;
     }
-    Decimal::Value(m)
-}
-
-// The number that the characters from `from` on say, with no sign and no leading zero.
-fn unsigned(cs: &[u8], from: usize) -> Decimal
-    requires { ⌜ (length (now cs) ≡ 6) × (from ≤ 6) ⌝ }
-    ensures { λ r. ⌜ r ≡ decimalAnswer (decimalOf (drop from (now (cs .entry)))) ⌝ }
-{
-    if from == 6 {
-        return Decimal::Bad;
+    let x = fields::quick_at(text, at);
+    if 999 < x {
+        return 0;
     }
-    if cs[from] == b'0' {
-        if from == 5 {
-            return Decimal::Value(0);
-        }
-        return Decimal::Bad;
+    let y = fields::quick_at(text, at + 6);
+    if 999 < y {
+        return 0;
     }
-    digits(cs, from)
-}
-
-// The number that six characters say.
-fn field_of(cs: &[u8]) -> Field
-    requires { ⌜ length (now cs) ≡ 6 ⌝ }
-    ensures { λ r. ⌜ r ≡ fieldAnswer (fieldOf (now (cs .entry))) ⌝ }
-{
-    let first = past_spaces(cs);
-    if 6 <= first {
-        return Field::Bad;
+    let z = fields::quick_at(text, at + 12);
+    if 999 < z {
+        return 0;
     }
-    if cs[first] == b'-' {
-        return match unsigned(cs, first + 1) {
-            Decimal::Value(m) => {
-                if m == 0 {
-                    return Field::Bad;
-                }
-                Field::Number(-(m as i32))
-            }
-            Decimal::Bad => Field::Bad,
-        };
-    }
-    match unsigned(cs, first) {
-        Decimal::Value(m) => Field::Number(m as i32),
-        Decimal::Bad => Field::Bad,
-    }
-}
-
-// The number that the six characters at a place say; Bad too where fewer stand there.
-pub fn read_field(text: &[u8], at: usize) -> Field
-    ensures { λ r. ⌜ r ≡ fieldAt (now (text .entry)) at ⌝ }
-{
-    if text.len() < 6 {
-        return Field::Bad;
-    }
-    if text.len() - 6 < at {
-        return Field::Bad;
-    }
-    field_of(&text[at..at + 6])
+    put_three(numbers, base, x as i32, y as i32, z as i32);
+    8
 }
 
 // The eight numbers of the 49 bytes at a place; Bad and zeros where those are no line.
@@ -152,7 +102,7 @@ pub fn read_line(text: &[u8], at: usize) -> Line
     let mut numbers = [0i32; 8];
     let mut j = 0;
     while j < 8 {
-        let Field::Number(z) = read_field(text, at + 6 * j) else {
+        let Field::Number(z) = fields::read_field(text, at + 6 * j) else {
             return bad;
         };
         numbers[j] = z;
@@ -187,9 +137,9 @@ pub fn read_numbers(text: &[u8], numbers: &mut [i32]) -> FirstBad
     let lines = line_count(text);
     let mut i = 0;
     'lines: while i < lines {
-        let mut j = 0;
+        let mut j = quick_fields(text, 49 * i, numbers, 8 * i);
         while j < 8 {
-            let Field::Number(z) = read_field(text, 49 * i + 6 * j) else {
+            let Field::Number(z) = fields::field_in(text, 49 * i + 6 * j) else {
                 break 'lines;
             };
             numbers[8 * i + j] = z;

@@ -1,7 +1,7 @@
 // Reads and prints fields, lines and pages, and writes what came out.
+use fields::Field;
 use libc::STDOUT_FILENO;
 use line_printer::Printed;
-use lines::Field;
 use lines::FirstBad;
 use lines::Form;
 
@@ -21,7 +21,7 @@ fn show_field(text: &[u8]) {
     say(b"[");
     say(text);
     say(b"] ");
-    match lines::read_field(text, 0) {
+    match fields::read_field(text, 0) {
         Field::Number(z) => show_numbers([z, 0, 0, 0, 0, 0, 0, 0]),
         Field::Bad => say(b"bad\n"),
     }

@@ -12,7 +12,7 @@ use Rattle.table.specs.declared.Verdict.{Verdict}
 use Rattle.table.specs.declared.Verdict.the-variants.{Accepted, Refused}
 use Rattle.report.specs.Report.{reportLines, textOf}
 use Rattle.lines.specs.Line.{numbersOf}
-use Rattle.lines.specs.Field.{digitsFrom, decimalOf, signedOf, spacedOf, fieldOf, decimalText, signedText, fieldText}
+use Rattle.fields.specs.Field.{digitsFrom, decimalOf, signedOf, spacedOf, fieldOf, decimalText, signedText, fieldText}
 use Rattle.lines.specs.Line.{fieldsOf, allInField, lineText, pieces}
 use Rattle.table.specs.Fields.{unused}
 use Rattle.table.specs.Header.{headerOk, lengthOk, leading, leadingOk}

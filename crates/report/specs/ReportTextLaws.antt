@@ -10,7 +10,7 @@ use mathlib.Core.Option.{some}
 use lib.ListN.{length, drop, length-append, length-map}
 use lib.Seq.{drop-at}
 use borrow.Author.Tests.{lt-ltb, ltb-true}
-use Rattle.lines.specs.Field.{inField}
+use Rattle.fields.specs.Field.{inField}
 use Rattle.lines.specs.Line.{allInField, lineText, lineOf}
 use Rattle.lines.specs.LineLaws.{all-none, all-good, line-text-length, printed-reads-back}
 use Rattle.sets.specs.Set.{has}

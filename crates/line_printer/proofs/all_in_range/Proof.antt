@@ -7,7 +7,7 @@ use lib.ListN.{getD}
 use mir.Syntax.{w32}
 use mir.Facts.{toZ-ofZ}
 use borrow.Author.Tests.{not-true, not-false}
-use Rattle.lines.specs.Field.{inField}
+use Rattle.fields.specs.Field.{inField}
 use Prim.Native.Nat.{_-_}
 use Rattle.line_printer.specs.PrintLoops.{InRange, range-next, range-stop, range-done}
 use Rattle.line_printer.proofs.all_in_range.Statement.{statement}

@@ -11,7 +11,7 @@ use lib.Signed.{ltZ}
 use denote.Ref.{now}
 use mir.Syntax.{w32}
 use mir.Facts.{toZ-ofZ}
-use Rattle.lines.specs.Field.{fieldText}
+use Rattle.fields.specs.Field.{fieldText}
 use Rattle.line_printer.specs.PrintLoops.{Writing, writing-start, writing-room, writing-length, writing-more, writing-next, writing-minus-room, writing-plus, writing-minus, paste-over, abs-small, abs-less}
 use Rattle.line_printer.proofs.put_number.Statement.{statement}
 use Rattle.line_printer.proofs.put_number.Tie as tie

@@ -10,9 +10,9 @@ use denote.Ref.{now}
 use mir.Syntax.{w32}
 use mir.Facts.{toZ-ofZ}
 use native.Mathlib.Nat.{zero-add}
-use Rattle.lines.specs.Field.{fieldOf}
+use Rattle.fields.specs.Field.{fieldOf}
 use Rattle.lines.specs.Line.{lineAnswer}
-use Rattle.lines.specs.FieldLoops.{told-number, told-no-field}
+use Rattle.fields.specs.FieldLoops.{told-number, told-no-field}
 use Rattle.lines.specs.LineLoops.{Reading, reading-start, reading-next, reading-bad, reading-end, reading-no-end, reading-kept, line-field, line-last, line-whole, line-short}
 use Rattle.lines.proofs.read_line.Statement.{statement}
 use Rattle.lines.proofs.read_line.Tie as tie

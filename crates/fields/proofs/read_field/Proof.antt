@@ -1,4 +1,4 @@
--- `lines::read_field` meets its contract: the part that it reads is six characters long, or the text ends before. Assumes nothing.
+-- `fields::read_field` meets its contract: the part that it reads is six characters long, or the text ends before. Assumes nothing.
 use borrow.Author.Needs.{needs}
 use native.Mathlib.Omega.{arith}
 use mathlib.Core.Path.{ap, sym, _∙_}
@@ -6,10 +6,10 @@ use denote.Ref.{now}
 use Prim.Native.Nat.{ℕ}
 use native.Mathlib.Nat.{add-sub-cancel-left}
 use lib.ListN.{take, drop, length-take, length-drop}
-use Rattle.lines.specs.Field.{fieldOf, fieldAnswer}
-use Rattle.lines.specs.FieldLoops.{field-short}
-use Rattle.lines.proofs.read_field.Statement.{statement}
-use Rattle.lines.proofs.read_field.Tie as tie
+use Rattle.fields.specs.Field.{fieldOf, fieldAnswer}
+use Rattle.fields.specs.FieldLoops.{field-short}
+use Rattle.fields.proofs.read_field.Statement.{statement}
+use Rattle.fields.proofs.read_field.Tie as tie
 
 returns : tie.Need-returns
 returns c = ap fieldAnswer (sym (field-short _ (λ e. omega (arith, e, length-take 6 (drop (c .before .before .args .at) (now (c .before .before .args .text))), length-drop (c .before .before .args .at) (now (c .before .before .args .text))))))

@@ -1,10 +1,10 @@
--- `lines::past_spaces` meets its contract: before place i stand spaces alone. Assumes nothing.
+-- `fields::past_spaces` meets its contract: before place i stand spaces alone. Assumes nothing.
 use borrow.Author.Needs.{needs}
 use Prim.Native.Nat.{_-_}
 use lib.ListN.{length}
-use Rattle.lines.specs.FieldLoops.{Spaces, spaces-start, spaces-next, spaces-stop, spaces-done}
-use Rattle.lines.proofs.past_spaces.Statement.{statement}
-use Rattle.lines.proofs.past_spaces.Tie as tie
+use Rattle.fields.specs.FieldLoops.{Spaces, spaces-start, spaces-next, spaces-stop, spaces-done}
+use Rattle.fields.proofs.past_spaces.Statement.{statement}
+use Rattle.fields.proofs.past_spaces.Tie as tie
 
 abbrev Inv-loop : tie.InvT-loop
 Inv-loop cs i₀ i = Spaces cs i

@@ -11,8 +11,8 @@ use lib.Dec.{ltb, eqb}
 use lib.IntN.{ℤ, pos, negsuc}
 use lib.ListN.{length, replicate, length-append, length-replicate}
 use borrow.Author.Tests.{lt-ltb, le-ltb, ltb-true, ltb-false, eqb-true, eqb-false}
-use Rattle.lines.specs.Field.{isDigit, digitsFrom, decimalOf, positive, negative, signedOf, spacedOf, fieldOf, inField, decimalText, signedText, justified, fieldText}
-use Rattle.lines.specs.FieldLoops.{is-digit, digit-least, digit-small, digits-digit, digits-other, digits-none, decimal-empty, decimal-zero, decimal-leading, decimal-digits, decimal-below, signed-empty, signed-minus, signed-other, spaced-space, spaced-other, spaced-none, field-six, field-short}
+use Rattle.fields.specs.Field.{isDigit, digitsFrom, decimalOf, positive, negative, signedOf, spacedOf, fieldOf, inField, decimalText, signedText, justified, fieldText}
+use Rattle.fields.specs.FieldLoops.{is-digit, digit-least, digit-small, digits-digit, digits-other, digits-none, decimal-empty, decimal-zero, decimal-leading, decimal-digits, decimal-below, signed-empty, signed-minus, signed-other, spaced-space, spaced-other, spaced-none, field-six, field-short}
 
 -- digits as text, one case each
 

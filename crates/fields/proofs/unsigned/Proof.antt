@@ -1,12 +1,12 @@
--- `lines::unsigned` meets its contract: each return is one case of `decimalOf`. Assumes nothing.
+-- `fields::unsigned` meets its contract: each return is one case of `decimalOf`. Assumes nothing.
 use borrow.Author.Needs.{needs}
 use native.Mathlib.Omega.{arith}
 use mathlib.Core.Path.{ap, sym, _∙_}
 use denote.Ref.{now}
-use Rattle.lines.specs.Field.{decimalAnswer}
-use Rattle.lines.specs.FieldLoops.{decimal-stops, decimal-last, decimal-more, decimal-other}
-use Rattle.lines.proofs.unsigned.Statement.{statement}
-use Rattle.lines.proofs.unsigned.Tie as tie
+use Rattle.fields.specs.Field.{decimalAnswer}
+use Rattle.fields.specs.FieldLoops.{decimal-stops, decimal-last, decimal-more, decimal-other}
+use Rattle.fields.proofs.unsigned.Statement.{statement}
+use Rattle.fields.proofs.unsigned.Tie as tie
 
 returns : tie.Need-returns
 returns c = ap decimalAnswer (sym (decimal-stops (now (c .before .before .args .cs)) (c .before .before .args .from) (c .before .before .pre .0) (c .if1 .taken)))

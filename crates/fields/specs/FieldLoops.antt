@@ -16,9 +16,9 @@ use mir.Facts.{toZ-pos}
 use lib.ListN.{length, getD, drop, drop-of-length-le, length-drop}
 use lib.Seq.{drop-cons}
 use borrow.Author.Tests.{leb-true, leb-false, eq-eqb, ne-eqb, le-leb, lt-leb, lt-ltb, eqb-true, eqb-false}
-use Rattle.lines.specs.Field.{isDigit, digitsFrom, decimalOf, signedOf, spacedOf, fieldOf, positive, negative, decimalAnswer, fieldAnswer}
-use Rattle.lines.specs.declared.Field as F
-use Rattle.lines.specs.declared.Decimal as D
+use Rattle.fields.specs.Field.{isDigit, digitsFrom, decimalOf, signedOf, spacedOf, fieldOf, positive, negative, decimalAnswer, fieldAnswer}
+use Rattle.fields.specs.declared.Field as F
+use Rattle.fields.specs.declared.Decimal as D
 
 -- what a loop over spaces has passed changes nothing
 pub record PastSpaces (cs : List ℕ) (r : ℕ) : Type 0 where

@@ -7,8 +7,8 @@ use mathlib.Core.List.{List, [], _∷_, _++_}
 use lib.Dec.{ltb, leb, eqb}
 use lib.IntN.{ℤ, pos, negsuc}
 use lib.ListN.{length, take, drop, replicate}
-use Rattle.lines.specs.declared.Field as F
-use Rattle.lines.specs.declared.Decimal as D
+use Rattle.fields.specs.declared.Field as F
+use Rattle.fields.specs.declared.Decimal as D
 
 -- the digits 0 to 9 are the characters 48 to 57
 abbrev pub isDigit : ℕ → Bool

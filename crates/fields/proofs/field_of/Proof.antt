@@ -1,17 +1,17 @@
--- `lines::field_of` meets its contract: each return is one case of `fieldOf`. Assumes nothing.
+-- `fields::field_of` meets its contract: each return is one case of `fieldOf`. Assumes nothing.
 use borrow.Author.Needs.{needs}
 use native.Mathlib.Omega.{arith}
 use mathlib.Core.Path.{_≡_, ap, sym, _∙_}
-use Rattle.lines.specs.Field.{fieldOf, decimalOf, positive, negative, fieldAnswer}
-use Rattle.lines.specs.FieldLoops.{field-blank, field-minus, field-plus, decimal-six, told-value, told-bad, word-plus, word-minus, minus-fits, negative-some, negative-zero}
-use Rattle.lines.specs.declared.Field.the-variants.{Number}
+use Rattle.fields.specs.Field.{fieldOf, decimalOf, positive, negative, fieldAnswer}
+use Rattle.fields.specs.FieldLoops.{field-blank, field-minus, field-plus, decimal-six, told-value, told-bad, word-plus, word-minus, minus-fits, negative-some, negative-zero}
+use Rattle.fields.specs.declared.Field.the-variants.{Number}
 use mathlib.Core.Option.{none, some}
 use Prim.Native.Nat.{_+_, _<_}
 use lib.ListN.{drop}
 use denote.Ref.{now}
 use mir.Facts.{toZ-ofZ}
-use Rattle.lines.proofs.field_of.Statement.{statement}
-use Rattle.lines.proofs.field_of.Tie as tie
+use Rattle.fields.proofs.field_of.Statement.{statement}
+use Rattle.fields.proofs.field_of.Tie as tie
 
 past-spaces-requires : tie.Need-past-spaces-requires
 past-spaces-requires c κs = search needs

@@ -1,12 +1,12 @@
--- `lines::digits` meets its contract: the digits before place i say m. Assumes nothing.
+-- `fields::digits` meets its contract: the digits before place i say m. Assumes nothing.
 use borrow.Author.Needs.{needs}
 use mathlib.Core.Path.{ap, sym}
 use Prim.Native.Nat.{_-_, _<_}
 use native.Mathlib.Omega.{arith}
-use Rattle.lines.specs.Field.{decimalAnswer}
-use Rattle.lines.specs.FieldLoops.{Digits, digits-start, digits-next, digits-stop, digits-done, digits-fit, below-digit, above-digit}
-use Rattle.lines.proofs.digits.Statement.{statement}
-use Rattle.lines.proofs.digits.Tie as tie
+use Rattle.fields.specs.Field.{decimalAnswer}
+use Rattle.fields.specs.FieldLoops.{Digits, digits-start, digits-next, digits-stop, digits-done, digits-fit, below-digit, above-digit}
+use Rattle.fields.proofs.digits.Statement.{statement}
+use Rattle.fields.proofs.digits.Tie as tie
 
 abbrev Inv-loop : tie.InvT-loop
 Inv-loop cs from m₀ i₀ m i = Digits cs from i m

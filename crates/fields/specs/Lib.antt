@@ -1,0 +1,4 @@
+pub mod Field
+pub mod FieldLoops
+pub mod QuickFields
+pub mod FieldLaws
