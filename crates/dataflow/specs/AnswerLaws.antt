@@ -1,34 +1,25 @@
 -- The report's sets solve the equations: their edges and the sets that they begin with are those of the report's definitions. Assumes nothing.
-use Prim.Native.Nat.{ℕ, _+_, _-_, _*_, _^_, _≤_, _<_}
+use Prim.Native.Nat.{ℕ, _*_, _≤_}
 use mathlib.Core.Path.{_≡_, refl, sym, ap, ap₂, _∙_}
-use mathlib.Core.Bool.{Bool, true, false, cond}
-use mathlib.Core.List.{List, [], _∷_, _++_, map}
-use native.Mathlib.Omega.{arith}
-use lib.Dec.{ltb}
+use mathlib.Core.Bool.{Bool, true, false}
+use mathlib.Core.List.{List, map}
 use lib.IntN.{ℤ}
-use lib.ListN.{length, getD, take, drop}
-use borrow.Author.Tests.{ltb-true}
-use Rattle.sets.specs.Set.{union}
+use lib.ListN.{length, take}
 use Rattle.sets.specs.Least.{Edge, edgeOf, least}
 use Rattle.table.specs.Header.{handles, routines, statements}
-use Rattle.table.specs.LookupLaws.{handles-length, routines-length, statements-length}
+use Rattle.table.specs.LookupLaws.{handles-length, routines-length}
 use Rattle.table.specs.Table.{Table, tableOf, statement}
 use Rattle.table.specs.Accepted.{Accepted}
 use Rattle.table.specs.Tabulate.{tabulate}
-use Rattle.table.specs.TabulateLaws.{length-tabulate, getD-tabulate, is-tabulate}
 use Rattle.table.specs.declared.Statement.{Statement}
 use Rattle.report.specs.OverLaws.{within-below}
-use Rattle.report.specs.Layout.{ownerOf, oneEach}
-use Rattle.report.specs.OneEach.{one-each-fits}
+use Rattle.report.specs.Layout.{oneEach}
 use Rattle.report.specs.Operations.{accessed, given}
 use Rattle.report.specs.Flow.{startOf, passing, flowEdges, allFlowEdges, flowInitials, flowSets}
-use Rattle.report.specs.Effect.{overCopy, upFrom, namingEdges, callEdges as upCallEdges, effects, gives, effectOf}
-use Rattle.report.specs.Future.{callers, nextEffects, futureInitials, futures}
-use Rattle.dataflow.specs.StageLaws.{withGroup, spread, staged}
-use Rattle.dataflow.specs.FutureStages.{nextEdges as allNextEdges, callerEdges, futures-staged}
-use Rattle.edges.specs.Equations.{Equation, Flow, Effects, Gives, Nexts, Callers, edge, upEdges, nextEdges, callEdges, edgesAt, edgesFor, ownSet, inRoutine, effectAt, nextsEffect, futureInitial}
-use Rattle.edges.specs.EdgeLaws.{joined-same, Appended, Parts}
-use Rattle.edges.specs.RoomLaws.{ready-for, ready-stages}
+use Rattle.report.specs.Effect.{overCopy, upFrom, namingEdges, callEdges as upCallEdges, effects, gives}
+use Rattle.edges.specs.Equations.{Equation, Flow, Effects, Gives, upEdges, edgesAt, edgesFor, ownSet, inRoutine}
+use Rattle.edges.specs.EdgeLaws.{joined-same, Appended}
+use Rattle.edges.specs.RoomLaws.{ready-for}
 use Rattle.edges.specs.RoutineLaws.{copy-of}
 
 -- ---- the edges
@@ -51,22 +42,9 @@ module _ (t : Table) where
   unfolding edgesFor edgesAt upEdges upCallEdges upFrom oneEach
   given-edges = joined-same 0 (length (t .statements)) _ _ (λ s w. ap {B = List Edge} (λ (c : ℕ). upEdges false c (statement t s)) (copy-of t s (within-below w)))
 
-  next-edges : edgesFor Nexts t ≡ allNextEdges t (oneEach t)
-  unfolding edgesFor edgesAt nextEdges allNextEdges oneEach
-  next-edges = refl
-
-  caller-edges : edgesFor Callers t ≡ callerEdges t (oneEach t)
-  unfolding edgesFor edgesAt callEdges callerEdges callers oneEach
-  caller-edges =
-      joined-same 0 (length (t .statements)) _ _
-      (λ s w.
-      ap {B = List Edge}
-      (λ (c : ℕ). callEdges (length (t .statements)) s (statement t s) ++ callEdges (length (t .statements)) (length (t .statements) + c) (statement t s))
-      (copy-of t s (within-below w)))
-
   -- ---- the sets
 
-  module _ (w : Bool) (flow effect : List ℕ) where
+  module _ (w : Bool) (flow : List ℕ) where
     effect-sets : least (namingEdges t (oneEach t)) (tabulate (length (t .routines)) (inRoutine false w flow t)) ≡ effects t (oneEach t) flow w
     unfolding effects inRoutine ownSet overCopy accessed oneEach
     effect-sets = refl
@@ -74,12 +52,6 @@ module _ (t : Table) where
     given-sets : least (upCallEdges t (oneEach t)) (tabulate (length (t .routines)) (inRoutine true w flow t)) ≡ gives t (oneEach t) flow
     unfolding gives inRoutine ownSet overCopy given oneEach
     given-sets = refl
-
-    stages : spread (length (t .statements)) (length (t .routines)) (oneEach t .statementCopy)
-        (least (callerEdges t (oneEach t)) (least (allNextEdges t (oneEach t)) (tabulate (length (t .statements) + length (t .routines)) (futureInitial w flow effect t))))
-        ≡ staged (oneEach t .statements) (oneEach t .copies) (oneEach t .statementCopy) (allNextEdges t (oneEach t)) (callerEdges t (oneEach t)) (futureInitials t (oneEach t) flow effect w)
-    unfolding staged futureInitials futureInitial nextEffects nextsEffect effectAt effectOf ownSet accessed oneEach
-    stages = refl
 
 -- ---- what the solver leaves, by the equation's edges
 
@@ -104,55 +76,8 @@ module _ (f : List ℤ) where
 
   pub effect-answer : (w : Bool) (flow : List ℕ) {n : ℕ} → n ≡ routines f → least (edgesFor Effects t) (tabulate n (inRoutine false w flow t)) ≡ effects t (oneEach t) flow w
   effect-answer w flow e =
-      ap₂ (λ (es : List Edge) (k : ℕ). least es (tabulate k (inRoutine false w flow t))) (up-edges t) (e ∙ sym (routines-length f)) ∙ effect-sets t w flow []
+      ap₂ (λ (es : List Edge) (k : ℕ). least es (tabulate k (inRoutine false w flow t))) (up-edges t) (e ∙ sym (routines-length f)) ∙ effect-sets t w flow
 
   pub given-answer : (w : Bool) (flow : List ℕ) {n : ℕ} → n ≡ routines f → least (edgesFor Gives t) (tabulate n (inRoutine true w flow t)) ≡ gives t (oneEach t) flow
   given-answer w flow e =
-      ap₂ (λ (es : List Edge) (k : ℕ). least es (tabulate k (inRoutine true w flow t))) (given-edges t) (e ∙ sym (routines-length f)) ∙ given-sets t w flow []
-
-  -- a statement's routine is its copy
-  spread-owner : (n m : ℕ) (s : List ℕ) → n ≡ length (t .statements) → spread n m (ownerOf t) s ≡ spread n m (oneEach t .statementCopy) s
-  unfolding spread
-  spread-owner n m s e =
-      is-tabulate (n + m) (withGroup n (oneEach t .statementCopy) s) (tabulate (n + m) (withGroup n (ownerOf t) s)) 0 (length-tabulate (n + m) _)
-      (λ p l. getD-tabulate (n + m) (withGroup n (ownerOf t) s) p 0 l ∙ same p (ltb p n) refl)
-    where
-      same : (p : ℕ) (b : Bool) → ltb p n ≡ b
-          → _≡_ {A = ℕ} (cond b (union (getD s p 0) (getD s (n + ownerOf t p) 0)) (getD s p 0))
-          (cond b (union (getD s p 0) (getD s (n + oneEach t .statementCopy p) 0)) (getD s p 0))
-      same p true h =
-          let l : p < length (t .statements) = omega (arith, ltb-true p n h) in
-          ap (λ (c : ℕ). union (getD s p 0) (getD s (n + c) 0)) (copy-of t p l)
-      same p false h = refl
-
-  -- the two stages of futures
-  pub future-answer : Accepted t → (flow : List ℕ) → ((i : ℕ) → getD flow i 0 < 2 ^ 64) → (effect : List ℕ) → ((i : ℕ) → getD effect i 0 < 2 ^ 64)
-      → (w : Bool) {k : ℕ} → k ≡ statements f + routines f
-      → spread (statements f) (routines f) (ownerOf t) (least (edgesFor Callers t) (least (edgesFor Nexts t) (tabulate k (futureInitial w flow effect t))))
-      ≡ futures t (oneEach t) flow effect w
-  future-answer acc flow below effect effect-below w {k} e =
-      let n = sym (statements-length f) in
-      let m = sym (routines-length f) in
-      spread-owner (statements f) (routines f) _ n
-      ∙ ap₂ (λ (a b : ℕ). spread a b (oneEach t .statementCopy) (least (edgesFor Callers t) (least (edgesFor Nexts t) (tabulate k (futureInitial w flow effect t))))) n m
-      ∙ ap (λ (i : ℕ). spread (length (t .statements)) (length (t .routines)) (oneEach t .statementCopy) (least (edgesFor Callers t) (least (edgesFor Nexts t) (tabulate i (futureInitial w flow effect t)))))
-      (e ∙ ap₂ (λ (a b : ℕ). a + b) n m)
-      ∙ ap₂ (λ (a b : List Edge). spread (length (t .statements)) (length (t .routines)) (oneEach t .statementCopy) (least a (least b (tabulate (length (t .statements) + length (t .routines)) (futureInitial w flow effect t)))))
-      (caller-edges t) (next-edges t)
-      ∙ stages t w flow effect
-      ∙ futures-staged t (oneEach t) acc (one-each-fits t acc) flow below (λ v. effect) (λ v. effect-below) w
-
-  -- what the solver leaves of them, by edges that stand in one list
-  module _ (acc : Accepted t) {edges edges′ edges″ : List ℕ} {n m : ℕ} (room : 4 * statements f ≤ length edges)
-      (nexts : Appended edges 0 edges′ n (edgesFor Nexts t)) (callers : Appended edges′ n edges″ m (edgesFor Callers t)) where
-    pub stage-parts : Parts edges″ n m (edgesFor Nexts t) (edgesFor Callers t)
-    stage-parts = ready-stages f acc room nexts callers
-
-    pub futures-left : (flow : List ℕ) → ((i : ℕ) → getD flow i 0 < 2 ^ 64) → (effect : List ℕ) → ((i : ℕ) → getD effect i 0 < 2 ^ 64) → (w : Bool) {k : ℕ}
-        → k ≡ statements f + routines f → {out : List ℕ}
-        → out ≡ spread (statements f) (routines f) (ownerOf t) (least (map edgeOf (take (m - n) (drop n edges″))) (least (map edgeOf (take n edges″)) (tabulate k (futureInitial w flow effect t))))
-        → out ≡ futures t (oneEach t) flow effect w
-    futures-left flow below effect effect-below w {k} e p =
-        p
-        ∙ ap₂ (λ (a b : List Edge). spread (statements f) (routines f) (ownerOf t) (least a (least b (tabulate k (futureInitial w flow effect t))))) (stage-parts .second) (stage-parts .first)
-        ∙ future-answer acc flow below effect effect-below w e
+      ap₂ (λ (es : List Edge) (k : ℕ). least es (tabulate k (inRoutine true w flow t))) (given-edges t) (e ∙ sym (routines-length f)) ∙ given-sets t w flow

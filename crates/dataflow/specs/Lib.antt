@@ -1,5 +1,1 @@
-pub mod StageLaws
-pub mod SpreadLaws
-pub mod FutureStages
 pub mod AnswerLaws
-pub mod HalfLaws

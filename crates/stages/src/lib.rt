@@ -59,7 +59,7 @@ fn shared_from(
     requires { ⌜ 4 * statements (now numbers) ≤ length (now edges) ⌝ }
     ensures { λ r. ⌜ r ≡ sharedCells (tableOf (now (numbers .entry))) (oneEach (tableOf (now (numbers .entry)))) (setsIn (tableOf (now (numbers .entry)))) ⌝ }
 {
-    dataflow::future_sets(numbers, first, flow, reads, writes, edges, later);
+    futures::future_sets(numbers, first, flow, reads, writes, edges, later);
     findings::shared_cells(numbers, reads, writes, later)
 }
 

@@ -21,7 +21,7 @@ use Rattle.report.specs.FutureLaws.{starts-sets}
 use Rattle.report.specs.NextLaws.{next-goes, goes-placed, map-from}
 use Rattle.report.specs.PlaceLaws.{placed, place-at}
 use Rattle.report.specs.Rules.{Place, Goes}
-use Rattle.dataflow.specs.StageLaws.{Groups, staged, staged-least}
+use Rattle.futures.specs.StageLaws.{Groups, staged, staged-least}
 
 module _ (t : Table) (k : Layout) where
   -- to the statement at a place from what may come next

@@ -17,7 +17,7 @@ use Rattle.table.specs.Tabulate.{tabulate}
 use Rattle.table.specs.TabulateLaws.{Rewritten, rewritten-none, rewritten-next, rewritten-all}
 use Rattle.report.specs.Layout.{ownerOf}
 use Rattle.edges.specs.RoutineLaws.{Near, near-start}
-use Rattle.dataflow.specs.StageLaws.{withGroup, spread}
+use Rattle.futures.specs.StageLaws.{withGroup, spread}
 
 -- the statements below p have what their routines have; c is the routine of the one before p
 pub record Spreading (f : List ℤ) (s₀ s : List ℕ) (c p : ℕ) : Type 0 where

@@ -1,11 +1,11 @@
--- `dataflow::spread` meets its contract. Its loop has gone through the statements below s. Assumes nothing.
+-- `futures::spread` meets its contract. Its loop has gone through the statements below s. Assumes nothing.
 use Prim.Native.Nat.{_-_}
 use native.Mathlib.Omega.{arith}
 use mathlib.Core.Path.{ap, _∙_}
 use borrow.Author.Needs.{needs}
-use Rattle.dataflow.specs.SpreadLaws.{Spreading, spreading-start, spreading-long, spreading-next, spreading-done}
-use Rattle.dataflow.proofs.spread.Statement.{statement}
-use Rattle.dataflow.proofs.spread.Tie as tie
+use Rattle.futures.specs.SpreadLaws.{Spreading, spreading-start, spreading-long, spreading-next, spreading-done}
+use Rattle.futures.proofs.spread.Statement.{statement}
+use Rattle.futures.proofs.spread.Tie as tie
 
 abbrev Inv-loop : tie.InvT-loop
 Inv-loop numbers first out₀ end c₀ s₀ out c s = Spreading numbers out₀ out c s

@@ -1,15 +1,15 @@
--- `dataflow::future_sets` meets its contract: each half of the list is the futures, in two stages. Assumes nothing.
+-- `futures::future_sets` meets its contract: each half of the list is the futures, in two stages. Assumes nothing.
 use denote.Ref.{now}
-use Rattle.dataflow.specs.AnswerLaws.{stage-parts, futures-left}
-use Rattle.dataflow.specs.HalfLaws.{first-half, second-half, both-halves}
+use Rattle.futures.specs.AnswerLaws.{stage-parts, futures-left}
+use Rattle.futures.specs.HalfLaws.{first-half, second-half, both-halves}
 use mathlib.Core.List.{List, _++_}
 use mathlib.Core.Path.{sym, ap₂, _∙_}
 use Prim.Native.Nat.{ℕ}
 use native.Mathlib.Omega.{arith}
 use lib.Seq.{length-take-le}
 use borrow.Author.Needs.{needs}
-use Rattle.dataflow.proofs.future_sets.Statement.{statement}
-use Rattle.dataflow.proofs.future_sets.Tie as tie
+use Rattle.futures.proofs.future_sets.Statement.{statement}
+use Rattle.futures.proofs.future_sets.Tie as tie
 
 fill-nexts-requires : tie.Need-fill-nexts-requires
 fill-nexts-requires c κs = search needs

@@ -1,0 +1,5 @@
+pub mod StageLaws
+pub mod SpreadLaws
+pub mod FutureStages
+pub mod AnswerLaws
+pub mod HalfLaws
