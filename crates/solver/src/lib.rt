@@ -32,14 +32,20 @@ fn pass(sets: &mut [u64], marks: &mut [u64; 16], edges: &[u32], also: &[u16], or
     }
 }
 
-// One pass; if it is the second and changed anything, the worklist goes on from there, in the other order. Returns whether anything may be left to put.
+// After which pass, counted from 0, the worklist goes on: the second, or the third where places have many edges, since then a pass is soon done.
+fn last_turn(places: usize, edges: usize) -> usize {
+    if edges / 2 <= places { 1 } else { 2 }
+}
+
+// One pass; if it is the second or third and changed anything, the worklist goes on from there, in the other order. Returns whether anything may be left
+// to put.
 fn step(sets: &mut [u64], edges: &[u32], also: &[u16], order: Order, turn: usize) -> bool
     ensures { λ r. ⌜ Stepped (now (edges .entry)) (now (also .entry)) (now (sets .entry)) (now (sets .exit)) r ⌝ }
 {
     let mut marks = [0u64; 16];
     let changed = pass(sets, &mut marks, edges, also, order);
     if changed {
-        if turn == 1 {
+        if turn == last_turn(sets.len(), edges.len()) {
             follow(sets, &mut marks, edges, also, turned(order));
         }
     }

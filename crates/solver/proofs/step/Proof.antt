@@ -7,6 +7,9 @@ use Rattle.solver.proofs.step.Tie as tie
 pass-requires : tie.Need-pass-requires
 pass-requires c κs = search needs
 
+last-turn-requires : tie.Need-last-turn-requires
+last-turn-requires c κs = search needs
+
 turned-requires : tie.Need-turned-requires
 turned-requires c κs = search needs
 
@@ -17,7 +20,7 @@ same-length : tie.Need-same-length
 same-length c = search needs
 
 returns : tie.Need-returns
-returns c = worklist-step _ _ (c .before .before .before .before .before .before .before .if1 .taken) (c .before .before .before .before .before .before .before .before .before .before .pass .ensures) (c .before .before .follow .ensures)
+returns c = worklist-step _ _ (c .before .before .before .before .before .before .before .before .if1 .taken) (c .before .before .before .before .before .before .before .before .before .before .before .pass .ensures) (c .before .before .follow .ensures)
 
 same-length-2 : tie.Need-same-length-2
 same-length-2 c = search needs
@@ -36,6 +39,7 @@ step-spec =
     tie.close
     (tie.spec
     pass-requires
+    last-turn-requires
     turned-requires
     follow-requires
     same-length
