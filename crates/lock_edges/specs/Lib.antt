@@ -1,10 +1,3 @@
-pub mod HeldEdges
-pub mod StartLaws
-pub mod AloneLaws
-pub mod EdgePlaceLaws
-pub mod HeldEdgeLaws
 pub mod ViewEdges
 pub mod StoreLaws
 pub mod ViewEdgeLaws
-pub mod RoutineEdgeLaws
-pub mod RoomLaws

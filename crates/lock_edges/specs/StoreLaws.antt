@@ -2,15 +2,13 @@
 use Prim.Native.Nat.{ℕ, zero, suc, _+_, _*_, _≤_, _<_}
 use mathlib.Core.Path.{_≡_, refl, sym, ap, ap₂, _∙_, subst}
 use mathlib.Core.List.{List, [], _∷_, _++_, List·Memᴰ, List·Memᴰ·head, Memᴰ·append-left, Memᴰ·append-right, append-nil, append-assoc}
-use native.Mathlib.Nat.{zero-add, suc-inj}
+use native.Mathlib.Nat.{suc-inj}
 use native.Mathlib.Numerals.{add-one}
 use native.Mathlib.Omega.{arith}
 use lib.ListN.{length, set, take, length-append, length-set}
 use lib.Seq.{take-suc-set, length-take-le}
 use Rattle.sets.specs.Least.{Edge, plain, edgeOf, edgesOf}
 use Rattle.sets.specs.LeastLaws.{edge-packed}
-use Rattle.report.specs.Over.{joinedFrom}
-use Rattle.report.specs.OverLaws.{joined-last}
 use Rattle.lock_edges.specs.ViewEdges.{edgeFrom}
 use Rattle.lock_edges.specs.declared.Origin.{Origin}
 
@@ -116,63 +114,3 @@ module _ (ends also : List ℕ) (n : ℕ) (o : Origin) (t : ℕ) where
 
   pub appended-also-full : length also ≤ n → Appended (store ends also n) (store ends also n) (edgeFrom o t ∷ [])
   appended-also-full p = appended-not (λ a es h l u v w. omega (arith, h .count, h .also-long))
-
--- ---- a loop that appends a part for each number
-
--- the parts of the numbers below i are appended
-pub record Growing (part : ℕ → List Edge) (x y : Store) (i : ℕ) : Type 0 where
-  pub so-far : Appended x y (joinedFrom 0 i part)
-
-pub growing-start : (part : ℕ → List Edge) {x : Store} → Growing part x x 0
-unfolding joinedFrom
-growing-start part = record { so-far = appended-none }
-
-pub growing-next : {part : ℕ → List Edge} {x y z : Store} {i : ℕ} → Growing part x y i → Appended y z (part i) → Growing part x z (i + 1)
-growing-next {part} {i = i} g a = record { so-far = appended-same _ _ next (appended-both (g .so-far) a) }
-  where
-    next : joinedFrom 0 i part ++ part i ≡ joinedFrom 0 (i + 1) part
-    next = rw (add-one i) (ap {B = List Edge} (λ (j : ℕ). joinedFrom 0 i part ++ part j) (sym (zero-add i)) ∙ sym (joined-last 0 i part))
-
--- ---- the lists as the solver takes them
-
--- the first n places are the edges, and there are so many
-pub record Ready (ends also : List ℕ) (n : ℕ) (es : List Edge) : Type 0 where
-  pub there : n ≤ length ends
-  pub also-there : n ≤ length also
-  pub is : edgesOf (take n ends) (take n also) ≡ es
-
--- whatever stood in the lists before
-pub ready : {ends also ends′ also′ : List ℕ} {n : ℕ} {es : List Edge} (a : ℕ) → a ≤ length ends → a ≤ length also
-    → Appended (store ends also 0) (store ends′ also′ n) es → Room a es → Ready ends′ also′ n es
-unfolding edgesOf
-ready {ends} {also} a l m p r =
-    let h = p .then a [] (record { count = refl; long = l; also-long = m; is = refl }) r in
-    record { there = omega (arith, h .count, h .long, r .room); also-there = omega (arith, h .count, h .also-long, r .room); is = h .is }
-
--- ---- parts of a range of numbers
-
--- where the parts below i were appended, those below j are then
-pub record Going (part : ℕ → List Edge) (x : Store) (i : ℕ) (y : Store) (j : ℕ) : Type 0 where
-  pub same : length (y .ends) ≡ length (x .ends)
-  pub also-same : length (y .also) ≡ length (x .also)
-  pub then : (z : Store) → Growing part z x i → Growing part z y j
-
-pub going-start : {part : ℕ → List Edge} {x : Store} {i j : ℕ} → i ≡ j → Going part x i x j
-going-start {part} {x} e = record { same = refl; also-same = refl; then = λ z g. subst (Growing part z x) e g }
-
-pub going-next : {part : ℕ → List Edge} {x y z : Store} {i j : ℕ} → Going part x i y j → Appended y z (part j) → Going part x i z (j + 1)
-going-next g a = record {
-  same = a .same ∙ g .same;
-  also-same = a .also-same ∙ g .also-same;
-  then = λ w h. growing-next (g .then w h) a;
-}
-
-pub going-both : {part : ℕ → List Edge} {x y z : Store} {i j k : ℕ} → Going part x i y j → Going part y j z k → Going part x i z k
-going-both g h = record { same = h .same ∙ g .same; also-same = h .also-same ∙ g .also-same; then = λ w a. h .then w (g .then w a) }
-
-pub going-as : {part : ℕ → List Edge} {x y : Store} {i j i′ j′ : ℕ} → i ≡ i′ → j ≡ j′ → Going part x i y j → Going part x i′ y j′
-going-as {part} {x} {y} {i} {j} {i′} {j′} p q g = subst (λ (m : ℕ). Going part x m y j′) p (subst (Going part x i y) q g)
-
--- all of them
-pub going-done : {part : ℕ → List Edge} {x y : Store} {n : ℕ} → Going part x 0 y n → Appended x y (joinedFrom 0 n part)
-going-done {part} g = g .then _ (growing-start part) .so-far

@@ -1,29 +1,12 @@
--- The edges of a statement from its view and from numbers, as the code appends them: one copy of each routine. Assumes nothing.
+-- The edges of a statement from its view, as the code appends them: one copy of each routine. Assumes nothing.
 use Prim.Native.Nat.{ℕ, _+_, _<_}
-use mathlib.Core.Path.{_≡_}
 use mathlib.Core.List.{List, [], _∷_, _++_, map}
-use lib.IntN.{ℤ}
 use lib.ListN.{getD}
 use Rattle.sets.specs.Least.{Edge, plain}
-use Rattle.table.specs.Header.{handles, routines, statements}
-use Rattle.table.specs.Table.{tableOf, statement}
 use Rattle.table.specs.View.{Each, onOr, listOn, when, calls, starts}
 use Rattle.table.specs.declared.View.{View}
-use Rattle.report.specs.Layout.{oneEach}
-use Rattle.lock_edges.specs.HeldEdges.{edgesAt}
 use Rattle.lock_edges.specs.declared.Bases.{Bases}
 use Rattle.lock_edges.specs.declared.Origin.{Origin}
-
--- where the places behind the statements begin
-abbrev pub basesOf : List ℤ → Bases
-basesOf f =
-    record {
-      back = statements f;
-      given = statements f + routines f;
-      flow = statements f + routines f + routines f;
-      other = statements f + routines f + routines f + handles f;
-      every = statements f + routines f + routines f + handles f + handles f;
-    }
 
 abbrev pub edgeFrom : Origin → ℕ → Edge
 edgeFrom o t = record { from = o .from; also = o .also; to = t }
@@ -72,7 +55,3 @@ pub record Low (b : Bases) : Type 0 where
   pub flow : b .flow < 1024
   pub other : b .other < 1024
   pub every : b .every < 1024
-
--- the edges of statement s of a table
-abbrev pub partOf : List ℤ → ℕ → List Edge
-partOf f s = edgesAt (tableOf f) (oneEach (tableOf f)) s (oneEach (tableOf f) .statementCopy s) s (statement (tableOf f) s)

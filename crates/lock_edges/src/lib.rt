@@ -1,19 +1,11 @@
-// The edges along which what is left out of the held sets goes, and the sets that it begins with. An edge is a number and a place, as the solver takes
-// them; each function appends to two lists that the caller lends.
+// The edges along which what is left out of the held sets goes, those of one statement. An edge is a number and a place, as the solver takes them; each
+// function appends to two lists that the caller lends.
 ghost use mathlib.Core.Path.{_≡_};
 ghost use mathlib.Core.List.{[], _∷_, map};
-ghost use Prim.Native.Nat.{_+_, _*_, _≤_, _<_};
-ghost use lib.ListN.{length, getD};
-ghost use Rattle.table.specs.Header.{routines, statements};
-ghost use Rattle.table.specs.Table.{tableOf};
-ghost use Rattle.table.specs.Extents.{firstStatements};
-ghost use Rattle.table.specs.Accepted.{Accepted};
-ghost use Rattle.report.specs.Over.{joinedFrom};
-ghost use Rattle.report.specs.Layout.{oneEach};
-ghost use Rattle.lock_edges.specs.HeldEdges.{heldEdges};
+ghost use Prim.Native.Nat.{_<_};
 ghost use Rattle.table.specs.View.{listOn};
-ghost use Rattle.lock_edges.specs.ViewEdges.{basesOf, partOf, edgeFrom, nextsOf, metOf, callEdgesOf, giveEdgesOf, startEdgesOf, endEdgesOf, viewEdges, Fit, Low};
-ghost use Rattle.lock_edges.specs.StoreLaws.{store, Appended, Going, Ready};
+ghost use Rattle.lock_edges.specs.ViewEdges.{edgeFrom, nextsOf, metOf, callEdgesOf, giveEdgesOf, startEdgesOf, endEdgesOf, viewEdges, Fit, Low};
+ghost use Rattle.lock_edges.specs.StoreLaws.{store, Appended};
 use table::Reference;
 use table::View;
 
@@ -28,14 +20,14 @@ pub struct Bases {
 }
 
 // Where an edge comes from, and the place whose set it meets.
-struct Origin {
-    from: usize,
-    also: usize,
+pub struct Origin {
+    pub from: usize,
+    pub also: usize,
 }
 
 // Appends the edge from `origin` to `t` behind the first `n`, and returns how many there are then. Where there is no room, or a number is too large,
 // nothing changes.
-fn append(edges: &mut [u32], also: &mut [u16], n: usize, origin: Origin, t: usize) -> usize
+pub fn append(edges: &mut [u32], also: &mut [u16], n: usize, origin: Origin, t: usize) -> usize
     ensures { λ r. ⌜ Appended (store (now (edges .entry)) (now (also .entry)) n) (store (now (edges .exit)) (now (also .exit)) r) (edgeFrom origin t ∷ []) ⌝ }
 {
     if n < edges.len() {
@@ -209,7 +201,7 @@ fn append_end(
 }
 
 // Appends the edges of statement `s` of routine `c`.
-fn append_statement(
+pub fn append_statement(
     edges: &mut [u32],
     also: &mut [u16],
     n: usize,
@@ -231,85 +223,4 @@ fn append_statement(
     let given = append_give(edges, also, gone, bases, view, s);
     let started = append_start(edges, also, given, bases, first, view);
     append_end(edges, also, started, bases, view, s, c)
-}
-
-// Where the places behind the statements of a table begin.
-pub fn bases_of(numbers: &[i32]) -> Bases
-    ensures { λ r. ⌜ r ≡ basesOf (now (numbers .entry)) ⌝ }
-{
-    let statements = table::field_of(numbers, 0, 5);
-    let routines = table::field_of(numbers, 0, 4);
-    let handles = table::field_of(numbers, 0, 3);
-    Bases {
-        back: statements,
-        given: statements + routines,
-        flow: statements + routines + routines,
-        other: statements + routines + routines + handles,
-        every: statements + routines + routines + handles + handles,
-    }
-}
-
-// Appends the edges of the statements of routine `c`.
-fn append_routine(
-    edges: &mut [u32],
-    also: &mut [u16],
-    n: usize,
-    numbers: &[i32],
-    first: &[usize],
-    c: usize,
-) -> usize
-    requires { ⌜ Accepted (tableOf (now numbers)) ⌝ }
-    requires { ⌜ now first ≡ firstStatements (now numbers) ⌝ }
-    requires { ⌜ c < routines (now numbers) ⌝ }
-    ensures { λ r. ⌜ Going (partOf (now (numbers .entry))) (store (now (edges .entry)) (now (also .entry)) n) (getD (now (first .entry)) c 0) (store (now (edges .exit)) (now (also .exit)) r) (getD (now (first .entry)) (c + 1) 0) ⌝ }
-{
-    let bases = bases_of(numbers);
-    let base = table::first_line(numbers);
-    let end = lists::number_at(first, c + 1);
-    let mut s = lists::number_at(first, c);
-    let mut m = n;
-    while s < end {
-        let view = table::view_at(numbers, base + s);
-        m = append_statement(edges, also, m, bases, first, view, s, c);
-        s += 1;
-    }
-    m
-}
-
-// Appends the edges of the statements of all routines.
-fn append_routines(
-    edges: &mut [u32],
-    also: &mut [u16],
-    n: usize,
-    numbers: &[i32],
-    first: &[usize],
-) -> usize
-    requires { ⌜ Accepted (tableOf (now numbers)) ⌝ }
-    requires { ⌜ now first ≡ firstStatements (now numbers) ⌝ }
-    ensures { λ r. ⌜ Appended (store (now (edges .entry)) (now (also .entry)) n) (store (now (edges .exit)) (now (also .exit)) r) (joinedFrom 0 (statements (now (numbers .entry))) (partOf (now (numbers .entry)))) ⌝ }
-{
-    let count = table::field_of(numbers, 0, 4);
-    let mut m = n;
-    let mut c = 0;
-    while c < count {
-        m = append_routine(edges, also, m, numbers, first, c);
-        c += 1;
-    }
-    m
-}
-
-// Fills the lists with the edges of a table, from the front on, and returns how many there are. Three places a statement and one more are room enough.
-pub fn fill(numbers: &[i32], first: &[usize], edges: &mut [u32], also: &mut [u16]) -> usize
-    requires { ⌜ Accepted (tableOf (now numbers)) ⌝ }
-    requires { ⌜ now first ≡ firstStatements (now numbers) ⌝ }
-    requires { ⌜ (3 * statements (now numbers) + 1 ≤ length (now edges)) × (3 * statements (now numbers) + 1 ≤ length (now also)) ⌝ }
-    ensures { λ r. ⌜ Ready (now (edges .exit)) (now (also .exit)) r (heldEdges (tableOf (now (numbers .entry))) (oneEach (tableOf (now (numbers .entry))))) ⌝ }
-{
-    let bases = bases_of(numbers);
-    let all = Origin {
-        from: bases.every,
-        also: bases.every,
-    };
-    let n = append(edges, also, 0, all, lists::number_at(first, 0));
-    append_routines(edges, also, n, numbers, first)
 }

@@ -21,10 +21,10 @@ use Rattle.report.specs.Layout.{oneEach}
 use Rattle.report.specs.OneEach.{one-each-fits}
 use Rattle.report.specs.Held.{allLocks, onlyLock, heldSets}
 use Rattle.lock_edges.specs.declared.Bases.{Bases}
-use Rattle.lock_edges.specs.ViewEdges.{basesOf}
-use Rattle.lock_edges.specs.HeldEdges.{placeCount, startAt, heldEdges, heldOut}
-use Rattle.lock_edges.specs.HeldEdgeLaws.{out-length, held-is-left}
-use Rattle.lock_edges.specs.StoreLaws.{Ready}
+use Rattle.held_edges.specs.TableEdges.{basesOf}
+use Rattle.held_edges.specs.HeldEdges.{placeCount, startAt, heldEdges, heldOut}
+use Rattle.held_edges.specs.HeldEdgeLaws.{out-length, held-is-left}
+use Rattle.held_edges.specs.GoingLaws.{Ready}
 use Rattle.lockset.specs.Start.{startIn}
 use Rattle.lockset.specs.Settle.{Turned}
 

@@ -11,7 +11,7 @@ ghost use Rattle.table.specs.Tabulate.{tabulate};
 ghost use Rattle.report.specs.Greatest.{leaving};
 ghost use Rattle.report.specs.Layout.{oneEach};
 ghost use Rattle.report.specs.Held.{onlyLock, heldSets};
-ghost use Rattle.lock_edges.specs.ViewEdges.{basesOf};
+ghost use Rattle.held_edges.specs.TableEdges.{basesOf};
 ghost use Rattle.lockset.specs.Start.{startIn};
 use lock_edges::Bases;
 use solver::Order;
@@ -97,10 +97,10 @@ pub fn held_sets(
     requires { ⌜ now out ≡ replicate (basesOf (now numbers) .every + 1) 0 ⌝ }
     ensures { λ _. ⌜ take (statements (now (numbers .entry))) (now (out .exit)) ≡ heldSets (tableOf (now (numbers .entry))) (oneEach (tableOf (now (numbers .entry)))) (now (flow .entry)) (now (given .entry)) ⌝ }
 {
-    let bases = lock_edges::bases_of(numbers);
+    let bases = held_edges::bases_of(numbers);
     let all = sets::firsts(table::field_of(numbers, 0, 2));
     fill_start(flow, given, bases, all, out);
-    let n = lock_edges::fill(numbers, first, edges, also);
+    let n = held_edges::fill(numbers, first, edges, also);
     settle(out, edges, also, n);
     turn_round(&mut out[..bases.back], all);
 }

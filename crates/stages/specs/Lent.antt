@@ -6,7 +6,7 @@ use Prim.Native.Nat.{ℕ, _+_, _*_, _≤_}
 use lib.IntN.{ℤ}
 use lib.ListN.{length, replicate}
 use Rattle.table.specs.Header.{routines, statements}
-use Rattle.lock_edges.specs.ViewEdges.{basesOf}
+use Rattle.held_edges.specs.TableEdges.{basesOf}
 
 -- for the sets of a table zeros, and for its edges
 pub record Lent (f : List ℤ) (work edges : List ℕ) : Type 0 where

@@ -10,7 +10,7 @@ ghost use Rattle.table.specs.Accepted.{Accepted};
 ghost use Rattle.report.specs.Layout.{oneEach};
 ghost use Rattle.report.specs.Findings.{sharedCells};
 ghost use Rattle.report.specs.Report.{reportText};
-ghost use Rattle.lock_edges.specs.ViewEdges.{basesOf};
+ghost use Rattle.held_edges.specs.TableEdges.{basesOf};
 ghost use Rattle.findings.specs.Found.{setsIn};
 ghost use Rattle.report_printer.specs.Printed.{bytesIn, printedOver, countsNothing};
 ghost use Rattle.stages.specs.Lent.{Lent};

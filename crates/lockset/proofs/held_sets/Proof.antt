@@ -4,7 +4,7 @@ use lib.Seq.{length-take-le}
 use native.Mathlib.Omega.{arith}
 use Prim.Native.Nat.{_+_}
 use Rattle.sets.specs.Set.{firsts}
-use Rattle.lock_edges.specs.ViewEdges.{basesOf}
+use Rattle.held_edges.specs.TableEdges.{basesOf}
 use Rattle.lockset.specs.SettleLaws.{locks-are, zeros-own, out-is, out-long, held-front}
 use borrow.Author.Needs.{needs}
 use Rattle.lockset.proofs.held_sets.Statement.{statement}

@@ -4,7 +4,7 @@ use Prim.Native.Nat.{ℕ, _+_, _-_, _*_, _≤_}
 use native.Mathlib.Omega.{arith}
 use lib.ListN.{length, replicate, take, length-take}
 use Rattle.table.specs.Header.{statements, routines}
-use Rattle.lock_edges.specs.ViewEdges.{basesOf}
+use Rattle.held_edges.specs.TableEdges.{basesOf}
 use Rattle.stages.specs.SetsLaws.{zeros-front, behind-long, held-kept, held-count, kept-fits}
 use denote.Ref.{now}
 use borrow.Author.Needs.{needs}

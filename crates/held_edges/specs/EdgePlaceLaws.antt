@@ -15,7 +15,7 @@ use Rattle.report.specs.NextLaws.{goes-placed}
 use Rattle.report.specs.PlaceLaws.{placed}
 use Rattle.report.specs.Rules.{Place, Goes}
 use Rattle.table.specs.View.{onOr}
-use Rattle.lock_edges.specs.HeldEdges.{backPlace, otherPlace, everyPlace, placeCount, metPlace}
+use Rattle.held_edges.specs.HeldEdges.{backPlace, otherPlace, everyPlace, placeCount, metPlace}
 
 module _ (t : Table) (k : Layout) (acc : Accepted t) (fits : Fits t k) where
   pub place-there : (c s : ℕ) → Place (copiesOf fits) c s → k .statementPlace c s < k .statements

@@ -1,11 +1,11 @@
--- `lock_edges::fill` meets its contract. Assumes nothing.
+-- `held_edges::fill` meets its contract. Assumes nothing.
 use mathlib.Core.Path.{_∙_}
 use Rattle.lock_edges.specs.StoreLaws.{appended-same, appended-both}
-use Rattle.lock_edges.specs.RoomLaws.{held-ready}
-use Rattle.lock_edges.specs.RoutineEdgeLaws.{all-edges}
+use Rattle.held_edges.specs.RoomLaws.{held-ready}
+use Rattle.held_edges.specs.RoutineEdgeLaws.{all-edges}
 use borrow.Author.Needs.{needs}
-use Rattle.lock_edges.proofs.fill.Statement.{statement}
-use Rattle.lock_edges.proofs.fill.Tie as tie
+use Rattle.held_edges.proofs.fill.Statement.{statement}
+use Rattle.held_edges.proofs.fill.Tie as tie
 
 bases-of-requires : tie.Need-bases-of-requires
 bases-of-requires c κs = search needs

@@ -1,14 +1,15 @@
--- `lock_edges::append_routine` meets its contract. Its loop has appended the edges of the statements below s. Assumes nothing.
+-- `held_edges::append_routine` meets its contract. Its loop has appended the edges of the statements below s. Assumes nothing.
 use mathlib.Core.Path.{refl, sym}
 use Prim.Native.Nat.{_-_, _≤_}
 use lib.ListN.{getD}
 use native.Mathlib.Omega.{arith}
-use Rattle.lock_edges.specs.ViewEdges.{partOf}
-use Rattle.lock_edges.specs.StoreLaws.{store, Going, appended-same, going-start, going-next, going-as}
-use Rattle.lock_edges.specs.RoutineEdgeLaws.{few-routines, first-grows-at, small-here, fits-here, part-here}
+use Rattle.held_edges.specs.TableEdges.{partOf}
+use Rattle.lock_edges.specs.StoreLaws.{store, appended-same}
+use Rattle.held_edges.specs.GoingLaws.{Going, going-start, going-next, going-as}
+use Rattle.held_edges.specs.RoutineEdgeLaws.{few-routines, first-grows-at, small-here, fits-here, part-here}
 use borrow.Author.Needs.{needs}
-use Rattle.lock_edges.proofs.append_routine.Statement.{statement}
-use Rattle.lock_edges.proofs.append_routine.Tie as tie
+use Rattle.held_edges.proofs.append_routine.Statement.{statement}
+use Rattle.held_edges.proofs.append_routine.Tie as tie
 
 abbrev Inv-loop : tie.InvT-loop
 Inv-loop edges₀ also₀ n numbers first c bases base end s₀ m₀ edges also s m = (getD first c 0 ≤ s) × (s ≤ end) × Going (partOf numbers) (store edges₀ also₀ m₀) (getD first c 0) (store edges also m) s

@@ -27,9 +27,10 @@ use Rattle.report.specs.OneEach.{copy-is, statement-below}
 use Rattle.report.specs.Over.{joinedFrom}
 use Rattle.report.specs.Operations.{nexts}
 use Rattle.report.specs.Held.{entry}
-use Rattle.lock_edges.specs.HeldEdges.{everyPlace, metPlace, edgesAt, heldEdges}
-use Rattle.lock_edges.specs.ViewEdges.{basesOf, partOf, edgeFrom, origin, viewEdges, Fit, Low}
+use Rattle.held_edges.specs.HeldEdges.{everyPlace, metPlace, edgesAt, heldEdges}
+use Rattle.lock_edges.specs.ViewEdges.{edgeFrom, origin, viewEdges, Fit, Low}
+use Rattle.held_edges.specs.TableEdges.{basesOf, partOf}
 use Rattle.lock_edges.specs.declared.Bases.{Bases}
 use Rattle.table.specs.declared.View.{View}
 
 module _ (f : List ℤ) (first : List ℕ) (acc : Accepted (tableOf f)) (first-is : first ≡ firstStatements f) where

@@ -12,7 +12,7 @@ use Rattle.sets.specs.SetLaws.{firsts-below, minus-below}
 use Rattle.table.specs.Table.{Table}
 use Rattle.report.specs.Layout.{Layout}
 use Rattle.report.specs.Held.{allLocks, onlyLock}
-use Rattle.lock_edges.specs.HeldEdges.{givenPlace, flowPlace, otherPlace, everyPlace, startAt}
+use Rattle.held_edges.specs.HeldEdges.{givenPlace, flowPlace, otherPlace, everyPlace, startAt}
 
 module _ (t : Table) (k : Layout) (flow given : List ℕ) where
   pub start-early : (p : ℕ) → p < givenPlace k 0 → startAt t k flow given p ≡ 0

@@ -31,9 +31,10 @@ use Rattle.report.specs.NextLaws.{next-goes, goes-placed, map-from}
 use Rattle.report.specs.PlaceLaws.{place-at, of-some}
 use Rattle.report.specs.Rules.{Place}
 use Rattle.report.specs.Held.{entry}
-use Rattle.lock_edges.specs.HeldEdges.{backPlace, givenPlace, flowPlace, otherPlace, everyPlace, placeCount, metPlace, edgesAt, heldEdges}
-use Rattle.lock_edges.specs.StoreLaws.{store, Room, Appended, Ready, ready}
-use Rattle.lock_edges.specs.EdgePlaceLaws.{place-there, entry-there, handle-there, operands-of, next-there, leads-there, met-there}
+use Rattle.held_edges.specs.HeldEdges.{backPlace, givenPlace, flowPlace, otherPlace, everyPlace, placeCount, metPlace, edgesAt, heldEdges}
+use Rattle.lock_edges.specs.StoreLaws.{store, Room, Appended}
+use Rattle.held_edges.specs.GoingLaws.{Ready, ready}
+use Rattle.held_edges.specs.EdgePlaceLaws.{place-there, entry-there, handle-there, operands-of, next-there, leads-there, met-there}
 
 -- ---- how many
 

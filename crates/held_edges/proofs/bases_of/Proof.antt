@@ -1,7 +1,7 @@
--- `lock_edges::bases_of` meets its contract. Assumes nothing.
+-- `held_edges::bases_of` meets its contract. Assumes nothing.
 use borrow.Author.Needs.{needs}
-use Rattle.lock_edges.proofs.bases_of.Statement.{statement}
-use Rattle.lock_edges.proofs.bases_of.Tie as tie
+use Rattle.held_edges.proofs.bases_of.Statement.{statement}
+use Rattle.held_edges.proofs.bases_of.Tie as tie
 
 field-of-requires : tie.Need-field-of-requires
 field-of-requires c κs = search needs

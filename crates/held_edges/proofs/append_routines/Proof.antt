@@ -1,14 +1,15 @@
--- `lock_edges::append_routines` meets its contract. Its loop has appended the edges of the routines below c. Assumes nothing.
+-- `held_edges::append_routines` meets its contract. Its loop has appended the edges of the routines below c. Assumes nothing.
 use mathlib.Core.Path.{refl, sym, _∙_}
 use Prim.Native.Nat.{_-_, _≤_}
 use lib.ListN.{getD}
 use native.Mathlib.Omega.{arith}
-use Rattle.lock_edges.specs.ViewEdges.{partOf}
-use Rattle.lock_edges.specs.StoreLaws.{store, Going, going-start, going-both, going-as, going-done}
-use Rattle.lock_edges.specs.RoutineEdgeLaws.{few-routines, first-zero, first-end}
+use Rattle.held_edges.specs.TableEdges.{partOf}
+use Rattle.lock_edges.specs.StoreLaws.{store}
+use Rattle.held_edges.specs.GoingLaws.{Going, going-start, going-both, going-as, going-done}
+use Rattle.held_edges.specs.RoutineEdgeLaws.{few-routines, first-zero, first-end}
 use borrow.Author.Needs.{needs}
-use Rattle.lock_edges.proofs.append_routines.Statement.{statement}
-use Rattle.lock_edges.proofs.append_routines.Tie as tie
+use Rattle.held_edges.proofs.append_routines.Statement.{statement}
+use Rattle.held_edges.proofs.append_routines.Tie as tie
 
 abbrev Inv-loop : tie.InvT-loop
 Inv-loop edges₀ also₀ n numbers first count m₀ c₀ edges also m c = (c ≤ count) × Going (partOf numbers) (store edges₀ also₀ m₀) 0 (store edges also m) (getD first c 0)

@@ -35,10 +35,10 @@ use Rattle.report.specs.HeldLaws.{HeldHas, only-from, only-has, held-rules, hel
 use Rattle.report.specs.NextLaws.{goes-next, next-goes, goes-placed, map-has, map-from}
 use Rattle.report.specs.PlaceLaws.{placed, place-at, among-all, of-some}
 use Rattle.report.specs.Rules.{Copies, Place, Goes, After, AtReturns, HeldRules}
-use Rattle.lock_edges.specs.HeldEdges.{backPlace, givenPlace, flowPlace, otherPlace, everyPlace, placeCount, startAt, metPlace, edgesAt, heldEdges, heldOut}
-use Rattle.lock_edges.specs.StartLaws.{start-early, start-given, start-flow, start-other, start-every, start-below}
-use Rattle.lock_edges.specs.AloneLaws.{alone}
-use Rattle.lock_edges.specs.EdgePlaceLaws.{place-there, entry-there, handle-there, next-there, leads-there, enters}
+use Rattle.held_edges.specs.HeldEdges.{backPlace, givenPlace, flowPlace, otherPlace, everyPlace, placeCount, startAt, metPlace, edgesAt, heldEdges, heldOut}
+use Rattle.held_edges.specs.StartLaws.{start-early, start-given, start-flow, start-other, start-every, start-below}
+use Rattle.held_edges.specs.AloneLaws.{alone}
+use Rattle.held_edges.specs.EdgePlaceLaws.{place-there, entry-there, handle-there, next-there, leads-there, enters}
 
 module _ (t : Table) (k : Layout) (acc : Accepted t) (fits : Fits t k) (flow : List ℕ) (below : (i : ℕ) → getD flow i 0 < 2 ^ 64)
     (given : List ℕ) (given-below : (i : ℕ) → getD given i 0 < 2 ^ 64) where

@@ -1,0 +1,9 @@
+pub mod HeldEdges
+pub mod StartLaws
+pub mod AloneLaws
+pub mod EdgePlaceLaws
+pub mod HeldEdgeLaws
+pub mod TableEdges
+pub mod GoingLaws
+pub mod RoutineEdgeLaws
+pub mod RoomLaws
