@@ -32,20 +32,30 @@ fn pass(sets: &mut [u64], marks: &mut [u64; 16], edges: &[u32], also: &[u16], or
     }
 }
 
-// After which pass, counted from 0, the worklist goes on: the second, or the third where places have many edges, since then a pass is soon done.
-fn last_turn(places: usize, edges: usize) -> usize {
-    if edges / 2 <= places { 1 } else { 2 }
+// The order of a pass: every other one turns round where places have many edges, since then one of the two ways is mostly right.
+fn way(order: Order, many: bool, turn: usize) -> Order {
+    if many & (turn % 2 == 1) {
+        turned(order)
+    } else {
+        order
+    }
 }
 
-// One pass; if it is the second or third and changed anything, the worklist goes on from there, in the other order. Returns whether anything may be left
-// to put.
+// After which pass, counted from 0, the worklist goes on: the second, or the fourth where places have many edges, since then to link these takes longer.
+fn last_turn(many: bool) -> usize {
+    if many { 3 } else { 1 }
+}
+
+// One pass; if it is the last before the worklist and changed anything, the worklist goes on from there, in the other order. Returns whether anything may
+// be left to put.
 fn step(sets: &mut [u64], edges: &[u32], also: &[u16], order: Order, turn: usize) -> bool
     ensures { λ r. ⌜ Stepped (now (edges .entry)) (now (also .entry)) (now (sets .entry)) (now (sets .exit)) r ⌝ }
 {
+    let many = sets.len() < edges.len() / 2;
     let mut marks = [0u64; 16];
-    let changed = pass(sets, &mut marks, edges, also, order);
+    let changed = pass(sets, &mut marks, edges, also, way(order, many, turn));
     if changed {
-        if turn == last_turn(sets.len(), edges.len()) {
+        if turn == last_turn(many) {
             follow(sets, &mut marks, edges, also, turned(order));
         }
     }

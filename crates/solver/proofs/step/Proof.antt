@@ -4,6 +4,9 @@ use borrow.Author.Needs.{needs}
 use Rattle.solver.proofs.step.Statement.{statement}
 use Rattle.solver.proofs.step.Tie as tie
 
+way-requires : tie.Need-way-requires
+way-requires c κs = search needs
+
 pass-requires : tie.Need-pass-requires
 pass-requires c κs = search needs
 
@@ -38,6 +41,7 @@ pub step-spec : {M : Type 1} → statement M
 step-spec =
     tie.close
     (tie.spec
+    way-requires
     pass-requires
     last-turn-requires
     turned-requires
