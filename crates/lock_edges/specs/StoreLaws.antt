@@ -1,5 +1,5 @@
 -- Edges in two lists that are filled from the front: what one more edge, and one more part, leave in them. Assumes nothing.
-use Prim.Native.Nat.{ℕ, zero, suc, _+_, _*_, _≤_, _<_}
+use Prim.Native.Nat.{ℕ, _+_, _*_, _≤_, _<_}
 use mathlib.Core.Path.{_≡_, refl, sym, ap, ap₂, _∙_, subst}
 use mathlib.Core.List.{List, [], _∷_, _++_, List·Memᴰ, List·Memᴰ·head, Memᴰ·append-left, Memᴰ·append-right, append-nil, append-assoc}
 use native.Mathlib.Nat.{suc-inj}
@@ -7,7 +7,7 @@ use native.Mathlib.Numerals.{add-one}
 use native.Mathlib.Omega.{arith}
 use lib.ListN.{length, set, take, length-append, length-set}
 use lib.Seq.{take-suc-set, length-take-le}
-use Rattle.sets.specs.Least.{Edge, plain, edgeOf, edgesOf}
+use Rattle.sets.specs.Least.{Edge, edgeOf, edgesOf}
 use Rattle.sets.specs.LeastLaws.{edge-packed}
 use Rattle.lock_edges.specs.ViewEdges.{edgeFrom}
 use Rattle.lock_edges.specs.declared.Origin.{Origin}
