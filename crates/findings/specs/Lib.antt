@@ -4,3 +4,4 @@ pub mod NoteLaws
 pub mod LineLaws
 pub mod Found
 pub mod FoundLaws
+pub mod StartLaws

@@ -5,7 +5,7 @@ use mathlib.Core.List.{List}
 use Prim.Native.Nat.{ℕ, _+_}
 use lib.IntN.{ℤ}
 use lib.ListN.{getD}
-use Rattle.sets.specs.Set.{subset, isSingle}
+use Rattle.sets.specs.Set.{one, subset, isSingle}
 use Rattle.table.specs.Fields.{field}
 use Rattle.table.specs.Header.{statementLine}
 use Rattle.table.specs.Table.{statementIn, statementOf}
@@ -19,7 +19,7 @@ use Rattle.table.specs.declared.View.{View}
 use Rattle.report.specs.Layout.{named}
 use Rattle.report.specs.Operations.{accessed}
 use Rattle.report.specs.Findings.{clash, strayBy}
-use Rattle.findings.specs.Steps.{ownBy, sharedBy}
+use Rattle.findings.specs.Steps.{ownBy, sharedBy, startedBy}
 
 module _ (f : List ℤ) (s line : ℕ) (e : line ≡ statementLine f s) {v : View} (is : v ≡ view (statementIn f line (field f line 1))) where
   abbrev σ : Statement
@@ -48,6 +48,10 @@ module _ (f : List ℤ) (s line : ℕ) (e : line ≡ statementLine f s) {v : Vie
     pub other-shares : starts v ≡ Nothing → sharedBy f reads writes later half s ≡ 0
     unfolding sharedBy
     other-shares at = ap {B = ℕ} (λ r. setOn r (λ q. shares (named σ))) (ap starts (sym here) ∙ at)
+
+  pub started-is : {r : Reference} → r ≡ starts v → setOn r one ≡ startedBy f s
+  unfolding startedBy
+  started-is p = ap {B = ℕ} (λ r. setOn r one) (p ∙ ap starts here)
 
   -- GIVE
   module _ (flow : List ℕ) (held : ℕ) where

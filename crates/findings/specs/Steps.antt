@@ -5,7 +5,7 @@ use mathlib.Core.Bool.{Bool, cond, _||_}
 use mathlib.Core.List.{List}
 use lib.IntN.{ℤ}
 use lib.ListN.{getD}
-use Rattle.sets.specs.Set.{has, firsts}
+use Rattle.sets.specs.Set.{has, one, firsts}
 use Rattle.table.specs.Header.{locks}
 use Rattle.table.specs.Table.{statementOf}
 use Rattle.table.specs.View.{view, setOn, starts}
@@ -35,6 +35,10 @@ unfoldable pub sharedBy : List ℤ → List ℕ → List ℕ → List ℕ → �
 sharedBy f reads writes later half s =
     setOn (starts (view (statementOf f s)))
     (λ q. clash (getD reads (named (statementOf f s)) 0) (getD writes (named (statementOf f s)) 0) (getD later s 0) (getD later (half + s) 0))
+
+-- the routine that statement s STARTs, as a set
+unfoldable pub startedBy : List ℤ → ℕ → ℕ
+startedBy f s = setOn (starts (view (statementOf f s))) one
 
 -- statement s is a stray GIVE
 unfoldable pub strayIn : List ℤ → List ℕ → List ℕ → ℕ → Bool

@@ -11,7 +11,7 @@ ghost use Rattle.table.specs.Accepted.{Accepted};
 ghost use Rattle.report.specs.Over.{unionFrom, countFrom};
 ghost use Rattle.report.specs.Findings.{clash, strayBy};
 ghost use Rattle.report.specs.Report.{bit};
-ghost use Rattle.findings.specs.Steps.{ownBy, sharedBy, strayIn, unguardedIn};
+ghost use Rattle.findings.specs.Steps.{ownBy, sharedBy, startedBy, strayIn, unguardedIn};
 ghost use Rattle.findings.specs.NoteLaws.{Noted, NotedAt, Marked};
 use sets::Which;
 use table::Reference;
@@ -151,6 +151,32 @@ pub fn shared_cells(numbers: &[i32], reads: &[u64], writes: &[u64], later: &[u64
         shared = sets::union(here, shared);
     }
     shared
+}
+
+// The routine that statement `s`, whose line is `line`, STARTs, as a set.
+fn started_at(numbers: &[i32], s: usize, line: usize) -> u64
+    requires { ⌜ line ≡ statementLine (now numbers) s ⌝ }
+    ensures { λ x. ⌜ x ≡ startedBy (now (numbers .entry)) s ⌝ }
+{
+    match table::starts_at(numbers, line) {
+        Reference::To(q) => sets::one(q),
+        Reference::Nothing => 0,
+    }
+}
+
+// The routines that are STARTed.
+pub fn started(numbers: &[i32]) -> u64
+    requires { ⌜ Accepted (tableOf (now numbers)) ⌝ }
+    ensures { λ x. ⌜ x ≡ unionFrom 0 (statements (now (numbers .entry))) (startedBy (now (numbers .entry))) ⌝ }
+{
+    let base = table::first_line(numbers);
+    let mut all = 0;
+    let mut s = table::field_of(numbers, 0, 5);
+    while 0 < s {
+        s -= 1;
+        all = sets::union(started_at(numbers, s, base + s), all);
+    }
+    all
 }
 
 // Whether statement `s`, whose line is `line`, is a GIVE that is stray where `held` is held.

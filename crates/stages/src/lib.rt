@@ -100,6 +100,27 @@ fn find_shared(
     )
 }
 
+// The shared cells, none of them looked for where nothing is STARTed; `later` lends the room for the futures.
+fn shared_of(
+    numbers: &[i32],
+    first: &[usize],
+    flow: &[u64],
+    later: &mut [u64],
+    edges: &mut [u32],
+) -> u64
+    requires { ⌜ Accepted (tableOf (now numbers)) ⌝ }
+    requires { ⌜ now first ≡ firstStatements (now numbers) ⌝ }
+    requires { ⌜ now flow ≡ setsIn (tableOf (now numbers)) .flow ⌝ }
+    requires { ⌜ length (now later) ≡ 2 * (statements (now numbers) + routines (now numbers)) ⌝ }
+    requires { ⌜ 4 * statements (now numbers) ≤ length (now edges) ⌝ }
+    ensures { λ r. ⌜ r ≡ sharedCells (tableOf (now (numbers .entry))) (oneEach (tableOf (now (numbers .entry)))) (setsIn (tableOf (now (numbers .entry)))) ⌝ }
+{
+    if findings::started(numbers) == 0 {
+        return 0;
+    }
+    find_shared(numbers, first, flow, later, edges)
+}
+
 // Writes the report, from the flow and held sets and the shared cells.
 fn print_found(numbers: &[i32], flow: &[u64], held: &[u64], shared: u64, out: &mut [u8]) -> Printed
     requires { ⌜ Accepted (tableOf (now numbers)) ⌝ }
@@ -135,7 +156,7 @@ fn with_flow(
     let end = count + 2 * (count + table::field_of(numbers, 0, 4));
     let places = lockset::places_of(numbers);
     find_held(numbers, &first[..], flow, &mut work[..places], edges);
-    let shared = find_shared(numbers, &first[..], flow, &mut work[count..end], edges);
+    let shared = shared_of(numbers, &first[..], flow, &mut work[count..end], edges);
     print_found(numbers, flow, &work[..count], shared, out)
 }
 

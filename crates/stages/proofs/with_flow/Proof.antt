@@ -56,23 +56,23 @@ find-held-requires c κs = let f = now (c .before .before .before .before .befor
     let fits : c .before .before .before .places-of .result ≤ length work = omega (arith, lent .places-long) in
     (c .before .before .before .before .before .before .before .before .before .before .before .pre .0, (c .before .before .before .before .before .before .first-statements .ensures, (c .before .before .before .before .before .before .before .before .before .before .before .pre .1 .0, (zeros-front _ work (lent .zeros) fits ∙ ap (λ (n : ℕ). replicate {A = ℕ} n 0) many, lent .edges-long))))
 
-slice-aggregate-find-shared : tie.Need-slice-aggregate-find-shared
-slice-aggregate-find-shared c = search needs
+slice-aggregate-shared-of : tie.Need-slice-aggregate-shared-of
+slice-aggregate-shared-of c = search needs
 
-mul-find-shared : tie.Need-mul-find-shared
-mul-find-shared c = search needs
+mul-shared-of : tie.Need-mul-shared-of
+mul-shared-of c = search needs
 
-sub-find-shared : tie.Need-sub-find-shared
-sub-find-shared c = search needs
+sub-shared-of : tie.Need-sub-shared-of
+sub-shared-of c = search needs
 
-part-find-shared-start : tie.Need-part-find-shared-start
-part-find-shared-start c = search needs
+part-shared-of-start : tie.Need-part-shared-of-start
+part-shared-of-start c = search needs
 
-part-find-shared-end : tie.Need-part-find-shared-end
-part-find-shared-end c = search needs
+part-shared-of-end : tie.Need-part-shared-of-end
+part-shared-of-end c = search needs
 
-find-shared-requires : tie.Need-find-shared-requires
-find-shared-requires c κs = let f = now (c .before .before .before .before .before .before .before .before .before .before .before .before .before .before .before .before .before .before .before .args .numbers) in
+shared-of-requires : tie.Need-shared-of-requires
+shared-of-requires c κs = let f = now (c .before .before .before .before .before .before .before .before .before .before .before .before .before .before .before .before .before .before .before .args .numbers) in
     let work = now (c .before .before .before .before .before .before .before .before .before .before .before .before .before .before .before .before .before .before .before .args .work) in
     let lent = c .before .before .before .before .before .before .before .before .before .before .before .before .before .before .before .before .before .before .before .pre .1 .1 in
     let count : c .before .before .before .before .before .before .before .before .before .before .before .before .before .field-of .result ≡ statements f = c .before .before .before .before .before .before .before .before .before .before .before .before .before .field-of .ensures .0 in
@@ -90,7 +90,7 @@ slice-reshare-prefix-print-found c = let f = now (c .before .before .before .bef
     let many : c .before .before .before .before .before .before .before .before .before .before .before .before .before .before .before .before .places-of .result ≡ basesOf f .every + 1 = c .before .before .before .before .before .before .before .before .before .before .before .before .before .before .before .before .places-of .ensures in
     let fits : c .before .before .before .before .before .before .before .before .before .before .before .before .before .before .before .before .places-of .result ≤ length work = omega (arith, lent .places-long) in
     let among : c .before .before .before .before .before .before .before .before .before .before .before .before .before .before .before .before .before .before .field-of .result ≤ c .before .before .before .before .before .before .before .before .before .before .before .before .before .before .before .before .places-of .result = omega arith in
-    kept-fits _ _ work (c .before .before .before .before .before .before .before .before .before .before .before .before .find-held .last .1 .1 .1 .0) fits among (c .before .before .before .before .before .before .before .before .before .before .before .before .find-held .kept .1 .1 .1 .0) (c .before .before .before .before .before .before .before .before .before .before .before .before .before .before .before .before .before .before .field-of .result + 2 * (c .before .before .before .before .before .before .before .before .before .before .before .before .before .before .before .before .before .before .field-of .result + c .before .before .before .before .before .before .before .before .before .before .before .before .before .before .before .before .before .field-of2 .result) - c .before .before .before .before .before .before .before .before .before .before .before .before .before .before .before .before .before .before .field-of .result) (c .before .before .before .before .find-shared .last .1 .1 .1 .0)
+    kept-fits _ _ work (c .before .before .before .before .before .before .before .before .before .before .before .before .find-held .last .1 .1 .1 .0) fits among (c .before .before .before .before .before .before .before .before .before .before .before .before .find-held .kept .1 .1 .1 .0) (c .before .before .before .before .before .before .before .before .before .before .before .before .before .before .before .before .before .before .field-of .result + 2 * (c .before .before .before .before .before .before .before .before .before .before .before .before .before .before .before .before .before .before .field-of .result + c .before .before .before .before .before .before .before .before .before .before .before .before .before .before .before .before .before .field-of2 .result) - c .before .before .before .before .before .before .before .before .before .before .before .before .before .before .before .before .before .before .field-of .result) (c .before .before .before .before .shared-of .last .1 .1 .1 .0)
 
 slice-aggregate-print-found : tie.Need-slice-aggregate-print-found
 slice-aggregate-print-found c = let f = now (c .before .before .before .before .before .before .before .before .before .before .before .before .before .before .before .before .before .before .before .before .before .before .before .before .before .args .numbers) in
@@ -100,7 +100,7 @@ slice-aggregate-print-found c = let f = now (c .before .before .before .before .
     let many : c .before .before .before .before .before .before .before .before .before .before .before .before .before .before .before .before .before .places-of .result ≡ basesOf f .every + 1 = c .before .before .before .before .before .before .before .before .before .before .before .before .before .before .before .before .before .places-of .ensures in
     let fits : c .before .before .before .before .before .before .before .before .before .before .before .before .before .before .before .before .before .places-of .result ≤ length work = omega (arith, lent .places-long) in
     let among : c .before .before .before .before .before .before .before .before .before .before .before .before .before .before .before .before .before .before .before .field-of .result ≤ c .before .before .before .before .before .before .before .before .before .before .before .before .before .before .before .before .before .places-of .result = omega arith in
-    held-count _ _ work (c .before .before .before .before .before .before .before .before .before .before .before .before .before .find-held .last .1 .1 .1 .0) fits among (c .before .before .before .before .before .before .before .before .before .before .before .before .before .find-held .kept .1 .1 .1 .0) ∙ sym (ap length (held-kept _ _ work (c .before .before .before .before .before .before .before .before .before .before .before .before .before .find-held .last .1 .1 .1 .0) fits among (c .before .before .before .before .before .before .before .before .before .before .before .before .before .find-held .kept .1 .1 .1 .0) (c .before .before .before .before .before .before .before .before .before .before .before .before .before .before .before .before .before .before .before .field-of .result + 2 * (c .before .before .before .before .before .before .before .before .before .before .before .before .before .before .before .before .before .before .before .field-of .result + c .before .before .before .before .before .before .before .before .before .before .before .before .before .before .before .before .before .before .field-of2 .result) - c .before .before .before .before .before .before .before .before .before .before .before .before .before .before .before .before .before .before .before .field-of .result) (c .before .before .before .before .before .find-shared .last .1 .1 .1 .0)))
+    held-count _ _ work (c .before .before .before .before .before .before .before .before .before .before .before .before .before .find-held .last .1 .1 .1 .0) fits among (c .before .before .before .before .before .before .before .before .before .before .before .before .before .find-held .kept .1 .1 .1 .0) ∙ sym (ap length (held-kept _ _ work (c .before .before .before .before .before .before .before .before .before .before .before .before .before .find-held .last .1 .1 .1 .0) fits among (c .before .before .before .before .before .before .before .before .before .before .before .before .before .find-held .kept .1 .1 .1 .0) (c .before .before .before .before .before .before .before .before .before .before .before .before .before .before .before .before .before .before .before .field-of .result + 2 * (c .before .before .before .before .before .before .before .before .before .before .before .before .before .before .before .before .before .before .before .field-of .result + c .before .before .before .before .before .before .before .before .before .before .before .before .before .before .before .before .before .before .field-of2 .result) - c .before .before .before .before .before .before .before .before .before .before .before .before .before .before .before .before .before .before .before .field-of .result) (c .before .before .before .before .before .shared-of .last .1 .1 .1 .0)))
 
 print-found-requires : tie.Need-print-found-requires
 print-found-requires c κs = let f = now (c .before .before .before .before .before .before .before .before .before .before .before .before .before .before .before .before .before .before .before .before .before .before .before .before .before .before .args .numbers) in
@@ -110,7 +110,7 @@ print-found-requires c κs = let f = now (c .before .before .before .before .bef
     let many : c .before .before .before .before .before .before .before .before .before .before .before .before .before .before .before .before .before .before .places-of .result ≡ basesOf f .every + 1 = c .before .before .before .before .before .before .before .before .before .before .before .before .before .before .before .before .before .before .places-of .ensures in
     let fits : c .before .before .before .before .before .before .before .before .before .before .before .before .before .before .before .before .before .before .places-of .result ≤ length work = omega (arith, lent .places-long) in
     let among : c .before .before .before .before .before .before .before .before .before .before .before .before .before .before .before .before .before .before .before .before .field-of .result ≤ c .before .before .before .before .before .before .before .before .before .before .before .before .before .before .before .before .before .before .places-of .result = omega arith in
-    (c .before .before .before .before .before .before .before .before .before .before .before .before .before .before .before .before .before .before .before .before .before .before .before .before .before .before .pre .0, (c .before .before .before .before .before .before .before .before .before .before .before .before .before .before .before .before .before .before .before .before .before .before .before .before .before .before .pre .1 .0, (held-kept _ _ work (c .before .before .before .before .before .before .before .before .before .before .before .before .before .before .find-held .last .1 .1 .1 .0) fits among (c .before .before .before .before .before .before .before .before .before .before .before .before .before .before .find-held .kept .1 .1 .1 .0) (c .before .before .before .before .before .before .before .before .before .before .before .before .before .before .before .before .before .before .before .before .field-of .result + 2 * (c .before .before .before .before .before .before .before .before .before .before .before .before .before .before .before .before .before .before .before .before .field-of .result + c .before .before .before .before .before .before .before .before .before .before .before .before .before .before .before .before .before .before .before .field-of2 .result) - c .before .before .before .before .before .before .before .before .before .before .before .before .before .before .before .before .before .before .before .before .field-of .result) (c .before .before .before .before .before .before .find-shared .last .1 .1 .1 .0) ∙ ap (λ (n : ℕ). take n (c .before .before .before .before .before .before .before .before .before .before .before .before .before .before .find-held .last .1 .1 .1 .0)) count ∙ c .before .before .before .before .before .before .before .before .before .before .before .before .before .before .find-held .ensures, c .before .before .before .before .before .before .find-shared .ensures)))
+    (c .before .before .before .before .before .before .before .before .before .before .before .before .before .before .before .before .before .before .before .before .before .before .before .before .before .before .pre .0, (c .before .before .before .before .before .before .before .before .before .before .before .before .before .before .before .before .before .before .before .before .before .before .before .before .before .before .pre .1 .0, (held-kept _ _ work (c .before .before .before .before .before .before .before .before .before .before .before .before .before .before .find-held .last .1 .1 .1 .0) fits among (c .before .before .before .before .before .before .before .before .before .before .before .before .before .before .find-held .kept .1 .1 .1 .0) (c .before .before .before .before .before .before .before .before .before .before .before .before .before .before .before .before .before .before .before .before .field-of .result + 2 * (c .before .before .before .before .before .before .before .before .before .before .before .before .before .before .before .before .before .before .before .before .field-of .result + c .before .before .before .before .before .before .before .before .before .before .before .before .before .before .before .before .before .before .before .field-of2 .result) - c .before .before .before .before .before .before .before .before .before .before .before .before .before .before .before .before .before .before .before .before .field-of .result) (c .before .before .before .before .before .before .shared-of .last .1 .1 .1 .0) ∙ ap (λ (n : ℕ). take n (c .before .before .before .before .before .before .before .before .before .before .before .before .before .before .find-held .last .1 .1 .1 .0)) count ∙ c .before .before .before .before .before .before .before .before .before .before .before .before .before .before .find-held .ensures, c .before .before .before .before .before .before .shared-of .ensures)))
 
 same-length : tie.Need-same-length
 same-length c = search needs
@@ -139,12 +139,12 @@ with-flow-spec =
     slice-relend-prefix-find-held
     slice-aggregate-find-held-2
     find-held-requires
-    slice-aggregate-find-shared
-    mul-find-shared
-    sub-find-shared
-    part-find-shared-start
-    part-find-shared-end
-    find-shared-requires
+    slice-aggregate-shared-of
+    mul-shared-of
+    sub-shared-of
+    part-shared-of-start
+    part-shared-of-end
+    shared-of-requires
     slice-reshare-prefix-print-found
     slice-aggregate-print-found
     print-found-requires
