@@ -1,13 +1,12 @@
 -- A statement does one thing: it takes a lock, or gives one up, or calls. Assumes nothing.
-use mathlib.Core.Path.{_≡_, refl, sym, _∙_}
+use mathlib.Core.Path.{_≡_, refl, sym, ap, _∙_}
 use Prim.Native.Nat.{ℕ}
 use Rattle.table.specs.View.{view, calls}
-use Rattle.table.specs.ViewLaws.{nothing-to}
+use Rattle.table.specs.ViewLaws.{nothing-to, Form, on, read, written, taken, given, pointed, called, started, to, either, back, forms}
 use Rattle.table.specs.declared.View.{View}
 use Rattle.table.specs.declared.Reference.{Reference}
 use Rattle.table.specs.declared.Reference.the-variants.{To, Nothing}
 use Rattle.table.specs.declared.Statement.{Statement}
-use Rattle.table.specs.declared.Statement.the-variants.{Read, Write, Set, Add, Take, Give, Point, Call, Start, Jump, JumpZero, Return}
 
 -- of two references at most one is one
 abbrev pub NotBoth : Reference → Reference → Type 0
@@ -24,19 +23,26 @@ not-first e m n p q = nothing-to (sym e ∙ p)
 not-second : {a b : Reference} → b ≡ Nothing → NotBoth a b
 not-second e m n p q = nothing-to (sym e ∙ q)
 
+-- a view that neither takes nor gives
 neither : (v : View) → v .takes ≡ Nothing → v .gives ≡ Nothing → Alone v
 neither v t g = record { takes-calls = not-first t; gives-takes = not-first g; gives-calls = not-first g }
 
+-- a view that is not one of those two
+quiet : {v w : View} → v ≡ w → w .takes ≡ Nothing → w .gives ≡ Nothing → Alone v
+quiet {v} p t g = neither v (ap (λ (v : View). v .takes) p ∙ t) (ap (λ (v : View). v .gives) p ∙ g)
+
 pub alone : (σ : Statement) → Alone (view σ)
-alone (Read h) = neither (view (Read h)) refl refl
-alone (Write h) = neither (view (Write h)) refl refl
-alone (Set n) = neither (view (Set n)) refl refl
-alone (Add n) = neither (view (Add n)) refl refl
-alone (Take h) = record { takes-calls = not-second refl; gives-takes = not-first refl; gives-calls = not-first refl }
-alone (Give h) = record { takes-calls = not-first refl; gives-takes = not-second refl; gives-calls = not-second refl }
-alone (Point h g) = neither (view (Point h g)) refl refl
-alone (Call q a) = neither (view (Call q a)) refl refl
-alone (Start q a) = neither (view (Start q a)) refl refl
-alone (Jump z) = neither (view (Jump z)) refl refl
-alone (JumpZero z) = neither (view (JumpZero z)) refl refl
-alone Return = neither (view Return) refl refl
+alone σ = go (forms σ)
+  where
+    go : Form (view σ) → Alone (view σ)
+    go (on p) = quiet p refl refl
+    go (read h p) = quiet p refl refl
+    go (written h p) = quiet p refl refl
+    go (taken h w p) = record { takes-calls = not-second (ap calls p); gives-takes = not-first (ap (λ (v : View). v .gives) p); gives-calls = not-first (ap (λ (v : View). v .gives) p) }
+    go (given h p) = record { takes-calls = not-first (ap (λ (v : View). v .takes) p); gives-takes = not-second (ap (λ (v : View). v .takes) p); gives-calls = not-second (ap calls p) }
+    go (pointed h g p) = quiet p refl refl
+    go (called q a p) = quiet p refl refl
+    go (started q a p) = quiet p refl refl
+    go (to z p) = quiet p refl refl
+    go (either z p) = quiet p refl refl
+    go (back p) = quiet p refl refl

@@ -14,13 +14,12 @@ use Rattle.table.specs.Table.{Table, tableOf, routine, statement, InRoutine}
 use Rattle.table.specs.Extents.{firstStatements}
 use Rattle.table.specs.LookupLaws.{handles-length, routines-length, statements-length}
 use Rattle.table.specs.View.{view, listOn, when, calls, starts}
-use Rattle.table.specs.ViewLaws.{list-from, when-from, calls-names, starts-names}
+use Rattle.table.specs.ViewLaws.{list-from, when-from, calls-names, starts-names, Form, on, read, written, taken, given, pointed, called, started, to, either, back, forms}
 use Rattle.table.specs.Accepted.{Accepted}
 use Rattle.table.specs.declared.Reference.{Reference}
 use Rattle.table.specs.declared.Reference.the-variants.{To, Nothing}
 use Rattle.table.specs.declared.View.{View}
 use Rattle.table.specs.declared.Statement.{Statement}
-use Rattle.table.specs.declared.Statement.the-variants.{Read, Write, Set, Add, Take, Give, Point, Call, Start, Jump, JumpZero, Return}
 use Rattle.report.specs.Over.{joinedFrom}
 use Rattle.report.specs.OverLaws.{Within, joined-from, within-below}
 use Rattle.report.specs.Layout.{Layout, oneEach}
@@ -40,18 +39,20 @@ use Rattle.held_edges.specs.EdgePlaceLaws.{place-there, entry-there, han
 
 few-at : (t : Table) (k : Layout) (p c s : ℕ) (σ : Statement) → length (edgesAt t k p c s σ) ≤ 3
 unfolding edgesAt nexts
-few-at t k p c s (Read h) = omega arith
-few-at t k p c s (Write h) = omega arith
-few-at t k p c s (Set n) = omega arith
-few-at t k p c s (Add n) = omega arith
-few-at t k p c s (Take h) = omega arith
-few-at t k p c s (Give h) = omega arith
-few-at t k p c s (Point h g) = omega arith
-few-at t k p c s (Call q a) = omega arith
-few-at t k p c s (Start q a) = omega arith
-few-at t k p c s (Jump z) = omega arith
-few-at t k p c s (JumpZero z) = omega arith
-few-at t k p c s Return = omega arith
+few-at t k p c s σ = go (forms σ)
+  where
+    go : Form (view σ) → length (edgesAt t k p c s σ) ≤ 3
+    go (on e) = rw e (omega arith)
+    go (read h e) = rw e (omega arith)
+    go (written h e) = rw e (omega arith)
+    go (taken h w e) = rw e (omega arith)
+    go (given h e) = rw e (omega arith)
+    go (pointed h g e) = rw e (omega arith)
+    go (called q a e) = rw e (omega arith)
+    go (started q a e) = rw e (omega arith)
+    go (to z e) = rw e (omega arith)
+    go (either z e) = rw e (omega arith)
+    go (back e) = rw e (omega arith)
 
 joined-few : (from n : ℕ) (f : ℕ → List Edge) → ((i : ℕ) → length (f i) ≤ 3) → length (joinedFrom from n f) ≤ 3 * n
 unfolding joinedFrom

@@ -17,7 +17,7 @@ abbrev pub noArguments : Arguments
 noArguments = record { first = 0; second = 0; third = 0; fourth = 0 }
 
 -- it goes on, and does something to the cell or lock that a handle refers to: reads, writes, takes (and whether for writing), gives
-abbrev through : Reference → Reference → Reference → Bool → Reference → View
+abbrev pub through : Reference → Reference → Reference → Bool → Reference → View
 through reads writes takes writing gives =
     record {
       onward = true;
@@ -36,7 +36,7 @@ through reads writes takes writing gives =
     }
 
 -- it goes on, and makes a handle refer to what another refers to
-abbrev pointing : Reference → ℕ → View
+abbrev pub pointing : Reference → ℕ → View
 pointing points source =
     record {
       onward = true;
@@ -55,7 +55,7 @@ pointing points source =
     }
 
 -- it goes on, and names a routine: by START, or by CALL
-abbrev naming : Reference → Bool → Arguments → View
+abbrev pub naming : Reference → Bool → Arguments → View
 naming names starting arguments =
     record {
       onward = true;
@@ -74,7 +74,7 @@ naming names starting arguments =
     }
 
 -- it only goes: on, out of its frame, to a target
-abbrev going : Bool → Bool → Reference → View
+abbrev pub going : Bool → Bool → Reference → View
 going onward ends target =
     record {
       onward = onward;
@@ -93,7 +93,7 @@ going onward ends target =
     }
 
 -- it only goes on
-abbrev idle : View
+abbrev pub idle : View
 idle = going true false Nothing
 
 -- the table of operations, as the rules see it: "JUMPZ may go both ways and CALL goes on to the next statement, whatever the values"

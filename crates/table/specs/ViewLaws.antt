@@ -12,7 +12,7 @@ use Rattle.sets.specs.Set.{has}
 use Rattle.sets.specs.SetLaws.{has-empty}
 use Rattle.table.specs.Fields.{field}
 use Rattle.table.specs.Table.{argumentsIn, statementIn}
-use Rattle.table.specs.View.{noArguments, view, On, onOr, setOn, listOn, testOn, when, calls, starts}
+use Rattle.table.specs.View.{noArguments, view, On, onOr, setOn, listOn, testOn, when, calls, starts, idle, through, pointing, naming, going}
 use Rattle.table.specs.declared.Arguments.{Arguments}
 use Rattle.table.specs.declared.Reference.{Reference}
 use Rattle.table.specs.declared.Reference.the-variants.{To, Nothing}
@@ -133,19 +133,49 @@ test-from Nothing f h = never h
 
 -- ---- a statement does one thing: the one law that attributes do not give
 
+-- the view has one of these forms
+pub data Form (v : View) : Type 0 where
+  on : v ≡ idle → Form v
+  read : (h : ℕ) → v ≡ through (To h) Nothing Nothing false Nothing → Form v
+  written : (h : ℕ) → v ≡ through Nothing (To h) Nothing false Nothing → Form v
+  taken : (h : ℕ) (w : Bool) → v ≡ through Nothing Nothing (To h) w Nothing → Form v
+  given : (h : ℕ) → v ≡ through Nothing Nothing Nothing false (To h) → Form v
+  pointed : (h g : ℕ) → v ≡ pointing (To h) g → Form v
+  called : (q : ℕ) (a : Arguments) → v ≡ naming (To q) false a → Form v
+  started : (q : ℕ) (a : Arguments) → v ≡ naming (To q) true a → Form v
+  to : (z : ℕ) → v ≡ going false false (To z) → Form v
+  either : (z : ℕ) → v ≡ going true false (To z) → Form v
+  back : v ≡ going false true Nothing → Form v
+
+pub forms : (σ : Statement) → Form (view σ)
+forms (Read h) = read (h .number) refl
+forms (Write h) = written (h .number) refl
+forms (Set n) = on refl
+forms (Add n) = on refl
+forms (Take h) = taken (h .number) true refl
+forms (Give h) = given (h .number) refl
+forms (Point h g) = pointed (h .number) (g .number) refl
+forms (Call q a) = called q a refl
+forms (Start q a) = started q a refl
+forms (Jump s) = to (s .statement) refl
+forms (JumpZero s) = either (s .statement) refl
+forms Return = back refl
+
 pub points-or-names : (σ : Statement) → (view σ .points ≡ Nothing) ⊎ (view σ .names ≡ Nothing)
-points-or-names (Read h) = inl refl
-points-or-names (Write h) = inl refl
-points-or-names (Set n) = inl refl
-points-or-names (Add n) = inl refl
-points-or-names (Take h) = inl refl
-points-or-names (Give h) = inl refl
-points-or-names (Point h g) = inr refl
-points-or-names (Call q a) = inl refl
-points-or-names (Start q a) = inl refl
-points-or-names (Jump s) = inl refl
-points-or-names (JumpZero s) = inl refl
-points-or-names Return = inl refl
+points-or-names σ = go (forms σ)
+  where
+    go : Form (view σ) → (view σ .points ≡ Nothing) ⊎ (view σ .names ≡ Nothing)
+    go (on p) = inl (ap (λ (v : View). v .points) p)
+    go (read h p) = inl (ap (λ (v : View). v .points) p)
+    go (written h p) = inl (ap (λ (v : View). v .points) p)
+    go (taken h w p) = inl (ap (λ (v : View). v .points) p)
+    go (given h p) = inl (ap (λ (v : View). v .points) p)
+    go (pointed h g p) = inr (ap (λ (v : View). v .names) p)
+    go (called q a p) = inl (ap (λ (v : View). v .points) p)
+    go (started q a p) = inl (ap (λ (v : View). v .points) p)
+    go (to z p) = inl (ap (λ (v : View). v .points) p)
+    go (either z p) = inl (ap (λ (v : View). v .points) p)
+    go (back p) = inl (ap (λ (v : View). v .points) p)
 
 -- ---- each attribute, by the number of the operation: 1 to 11, and RETURN for every other
 
