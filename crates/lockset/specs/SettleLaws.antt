@@ -13,7 +13,7 @@ use Rattle.sets.specs.Least.{Edge, edgesOf, least}
 use Rattle.table.specs.Header.{locks, handles, routines, statements}
 use Rattle.table.specs.Table.{Table, tableOf}
 use Rattle.table.specs.Tabulate.{tabulate}
-use Rattle.table.specs.TabulateLaws.{Filled, zeros-at, filled-none, filled-next, filled-all, length-tabulate, getD-tabulate, is-tabulate}
+use Rattle.table.specs.TabulateLaws.{Filled, Rewritten, rewritten-next, rewritten-all, zeros-at, filled-none, filled-next, filled-all, length-tabulate, getD-tabulate, is-tabulate}
 use Rattle.table.specs.LookupLaws.{handles-length, routines-length, statements-length}
 use Rattle.table.specs.Accepted.{Accepted}
 use Rattle.report.specs.Greatest.{leaving}
@@ -26,25 +26,16 @@ use Rattle.held_edges.specs.HeldEdges.{placeCount, startAt, heldEdges, heldOut}
 use Rattle.held_edges.specs.HeldEdgeLaws.{out-length, held-is-left}
 use Rattle.held_edges.specs.GoingLaws.{Ready}
 use Rattle.lockset.specs.Start.{startIn}
-use Rattle.lockset.specs.Settle.{Turned}
 
 -- ---- sets turned round
 
-pub turned-start : (all : ℕ) (s : List ℕ) → Turned all s s 0
-turned-start all s = record { filled = filled-none (leaving all s) s (length s) refl; rest = λ k h. refl }
-
-pub turned-next : {all : ℕ} {s₀ s : List ℕ} {p v : ℕ} → Turned all s₀ s p → p < length s → v ≡ minus all (getD s p 0) → Turned all s₀ (set s p v) (p + 1)
+pub turned-next : (all : ℕ) (s₀ : List ℕ) {s : List ℕ} {p v : ℕ} → Rewritten (leaving all s₀) s₀ s p → p < length s → v ≡ minus all (getD s p 0)
+    → Rewritten (leaving all s₀) s₀ (set s p v) (p + 1)
 unfolding leaving
-turned-next {all} {s₀} {s} {p} {v} t l e =
-    let is : v ≡ leaving all s₀ p = e ∙ ap (minus all) (t .rest p (le-refl p)) in
-    let b : p < length s₀ = omega (arith, t .filled .long) in
-    record {
-      filled = filled-next (leaving all s₀) s (length s₀) p v (t .filled) b is;
-      rest = λ k h. getD-set-other s p k v 0 (λ q. omega arith) ∙ t .rest k (omega arith);
-    }
+turned-next all s₀ {p = p} t l e = rewritten-next t l (e ∙ ap (minus all) (t .rest p (le-refl p)))
 
-pub turned-done : {all : ℕ} {s₀ s : List ℕ} {p : ℕ} → Turned all s₀ s p → length s ≤ p → s ≡ tabulate (length s₀) (leaving all s₀)
-turned-done {all} {s₀} {s} {p} t h = filled-all (leaving all s₀) s (length s₀) p (t .filled) (omega (arith, t .filled .long))
+pub turned-done : (all : ℕ) (s₀ : List ℕ) {s : List ℕ} {p : ℕ} → Rewritten (leaving all s₀) s₀ s p → length s ≤ p → s ≡ tabulate (length s₀) (leaving all s₀)
+turned-done all s₀ t h = rewritten-all t (λ k l m. absurd (omega (arith, t .filled .long)))
 
 -- ---- the start
 

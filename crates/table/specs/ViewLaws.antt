@@ -40,7 +40,7 @@ pub to-if : (b : Bool) (x : ℕ) {n : ℕ} → cond b (To x) Nothing ≡ To n �
 to-if true x e = (refl, to-same e)
 to-if false x e = nothing-to e
 
--- what is CALLed or STARTed is named, and what is named is one of these
+-- what is CALLed or STARTed is named
 module _ (v : View) {q : ℕ} where
   pub calls-names : calls v ≡ To q → v .names ≡ To q
   calls-names = go (v .starting)
@@ -55,13 +55,6 @@ module _ (v : View) {q : ℕ} where
       go : (b : Bool) → cond b (v .names) Nothing ≡ To q → v .names ≡ To q
       go true e = e
       go false e = nothing-to e
-
-  pub names-cases : v .names ≡ To q → (calls v ≡ To q) ⊎ (starts v ≡ To q)
-  names-cases = go (v .starting)
-    where
-      go : (b : Bool) → v .names ≡ To q → (cond b Nothing (v .names) ≡ To q) ⊎ (cond b (v .names) Nothing ≡ To q)
-      go true e = inr e
-      go false e = inl e
 
 -- what holds of all that f says, and of d, holds of what is said of a reference
 pub on-or : {A : Type 0} (P : A → Type 0) (r : Reference) (f : ℕ → A) (d : A) → ((n : ℕ) → r ≡ To n → P (f n)) → P d → P (onOr r f d)
@@ -126,10 +119,6 @@ module _ {A : Type 0} where
 
 pub test-is : (r : Reference) (f : ℕ → Bool) {n : ℕ} → r ≡ To n → testOn r f ≡ f n
 test-is r f e = rw e
-
-pub test-from : (r : Reference) (f : ℕ → Bool) → testOn r f ≡ true → On r (λ n. f n ≡ true)
-test-from (To n) f h = (n, refl, h)
-test-from Nothing f h = never h
 
 -- ---- a statement does one thing: the one law that attributes do not give
 

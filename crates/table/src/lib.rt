@@ -308,7 +308,7 @@ pub fn view_at(numbers: &[i32], line: usize) -> View
     }
 }
 
-// The attributes one by one, for code that asks for few of them: the whole view costs more than it.
+// The attributes one by one, for code that asks for few of them: to build the whole view takes longer than such code itself.
 
 // Whether the statement in `line` may go on to the next one.
 pub fn onward_at(numbers: &[i32], line: usize) -> bool
