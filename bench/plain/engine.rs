@@ -1,7 +1,7 @@
 //! The plain engine.
 use super::*;
 
-/// The engine: number and line; answers and cells as document 01 says.
+/// The engine: number and line; answers and cells as the documents say.
 pub fn run(text: &[u8], schedule: &[u8], answers: &mut [u8], cells: &mut [i32]) -> (u32, u32) {
     let t = match read(text) {
         Ok(t) => t,
@@ -46,7 +46,7 @@ pub fn run(text: &[u8], schedule: &[u8], answers: &mut [u8], cells: &mut [i32]) 
                 READ => accumulator[n] = cells[frame[slot(l.x as usize)] as usize],
                 WRITE => cells[frame[slot(l.x as usize)] as usize] = accumulator[n],
                 SET => accumulator[n] = l.x,
-                ADD => accumulator[n] = accumulator[n].wrapping_add(l.x),
+                ADD => accumulator[n] = accumulator[n].saturating_add(l.x),
                 POINT => frame[slot(l.x as usize)] = frame[slot(l.with[0] as usize)],
                 JUMP => frame[1] = l.x as u16,
                 JUMPZ => {

@@ -1,4 +1,4 @@
-//! Document 01 in plain Rust, written from the document alone: the reader, the report and the engine.
+//! Documents 01 and 02 in plain Rust, written from the documents alone: the reader, the report and the engine.
 
 pub const LONGEST: usize = 32977;
 
@@ -483,7 +483,11 @@ impl State {
                 self.cells[x] = self.threads[n].accumulator;
             }
             Op::Set(v) => self.threads[n].accumulator = v,
-            Op::Add(v) => self.threads[n].accumulator = self.threads[n].accumulator.wrapping_add(v),
+            // C-17: "ADD now stops at 2,147,483,647 and at -2,147,483,648."
+            Op::Add(v) => {
+                let sum = self.threads[n].accumulator as i64 + v as i64;
+                self.threads[n].accumulator = sum.min(2_147_483_647).max(-2_147_483_648) as i32;
+            }
             Op::Take(h) => {
                 let k = refers(h);
                 if self.locks[k].is_some() {

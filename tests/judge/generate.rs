@@ -222,6 +222,37 @@ fn statement(r: &mut Random, q: usize, routines: usize, own: &[Own], bases: &[us
     }
 }
 
+/// A table text of threads that add in loops and write what they have, each mostly one way and a little back: in a long schedule their sums stop at an end.
+pub fn sums(r: &mut Random) -> Vec<u8> {
+    let routines = 2 + r.below(2);
+    let mut bodies: Vec<Vec<Vec<i64>>> = vec![(1..routines).map(|q| vec![9, q as i64]).chain([vec![12]]).collect()];
+    for q in 1..routines {
+        let first: usize = bodies.iter().map(|b| b.len()).sum();
+        let far = [999_999, -99_999][r.below(2)];
+        let mut body = vec![];
+        for _ in 0..10 + r.below(20) {
+            body.push(vec![4, if r.one_in(15) { r.below(2_001) as i64 - 1_000 } else { far }]);
+        }
+        body.extend([vec![2, q as i64 - 1], vec![10, first as i64]]);
+        bodies.push(body);
+    }
+    let statements: usize = bodies.iter().map(|b| b.len()).sum();
+    let mut out = vec![];
+    line(&mut out, &[1, routines as i64 - 1, 0, routines as i64 - 1, routines as i64, statements as i64]);
+    for q in 1..routines as i64 {
+        line(&mut out, &[2, q, 1, 1, q - 1]);
+    }
+    for b in &bodies {
+        line(&mut out, &[3, b.len() as i64]);
+    }
+    for s in bodies.iter().flatten() {
+        let mut numbers = vec![4];
+        numbers.extend(s);
+        line(&mut out, &numbers);
+    }
+    out
+}
+
 /// One change: a field, a byte, the length, or two lines exchanged.
 pub fn damage(r: &mut Random, text: &mut Vec<u8>) {
     if text.len() < 49 {
@@ -266,4 +297,9 @@ pub fn schedule(r: &mut Random) -> Vec<u8> {
     let threads = 1 + r.below(20);
     let length = r.below(200);
     (0..length).map(|_| if r.one_in(50) { r.below(256) as u8 } else { r.below(threads) as u8 }).collect()
+}
+
+/// For `sums`: long enough for -99,999 to come to the end of the range.
+pub fn long_schedule(r: &mut Random) -> Vec<u8> {
+    (0..20_000 + r.below(80_000)).map(|_| if r.one_in(50) { r.below(20) as u8 } else { 1 + r.below(2) as u8 }).collect()
 }

@@ -1,6 +1,6 @@
-//! Holds the static library to an independent reading of document 01, on random texts, schedules and buffer lengths.
+//! Holds the static library to an independent reading of the documents, on random texts, schedules and buffer lengths.
 //!
-//!     judge compare SEED COUNT     COUNT texts, each with a report, a run and the loader's question
+//!     judge compare SEED COUNT     COUNT texts, each with a report, a run and the loader's question; one in a hundred adds until its sums stop
 //!     judge explore SEED COUNT     every order of steps of COUNT small tables: a clean one never races
 //!     judge promela TABLE THREADS  the table as a Promela model with at most THREADS threads
 //!     judge models SEED COUNT FOLDER   COUNT small tables that start a thread, and what `explore` says of each, for tests/spin/run
@@ -66,8 +66,8 @@ fn compare_report(r: &mut Random, text: &[u8], want: &Result<Table, (u32, u32)>,
     count[(report_into(text, want, &bytes, length) >> 48) as usize] += 1;
 }
 
-fn compare_run(r: &mut Random, text: &[u8], want: &Result<Table, (u32, u32)>, count: &mut [usize; 20]) {
-    let schedule = generate::schedule(r);
+/// A run, held to the document: its answer, all answers and all cells. Counts the answers to steps, and the cells left at either end of the range.
+fn compare_run(r: &mut Random, text: &[u8], schedule: &[u8], want: &Result<Table, (u32, u32)>, count: &mut [usize; 20], ends: &mut [usize; 2]) {
     let cells_needed = want.as_ref().map_or(3, |t| t.cells);
     let (answers_length, cells_length) = (length_near(r, schedule.len()), length_near(r, cells_needed));
     let mut said = 0;
@@ -88,6 +88,9 @@ fn compare_run(r: &mut Random, text: &[u8], want: &Result<Table, (u32, u32)>, co
                 count[expected[i] as usize] += 1;
             }
             expected_cells[..t.cells].copy_from_slice(&state.cells);
+            for (end, most) in ends.iter_mut().zip([i32::MIN, i32::MAX]) {
+                *end += state.cells.iter().filter(|&&value| value == most).count();
+            }
             packed(0, 0, 0)
         }
     };
@@ -98,9 +101,10 @@ fn compare_run(r: &mut Random, text: &[u8], want: &Result<Table, (u32, u32)>, co
 
 fn compare(seed: u64, texts: usize) {
     let mut r = Random(seed * 2 + 88172645463325252);
-    let (mut reports, mut steps, mut loads) = ([0; 20], [0; 20], 0);
+    let (mut reports, mut steps, mut ends, mut loads) = ([0; 20], [0; 20], [0; 2], 0);
     for i in 0..texts {
-        let mut text = generate::table(&mut r, i % 50 == 0);
+        let mut text = if i % 100 == 99 { generate::sums(&mut r) } else { generate::table(&mut r, i % 50 == 0) };
+        let schedule = if i % 100 == 99 { generate::long_schedule(&mut r) } else { generate::schedule(&mut r) };
         if r.one_in(3) {
             for _ in 0..1 + r.below(2) {
                 generate::damage(&mut r, &mut text);
@@ -108,18 +112,19 @@ fn compare(seed: u64, texts: usize) {
         }
         let want = read(&text);
         compare_report(&mut r, &text, &want, &mut reports);
-        compare_run(&mut r, &text, &want, &mut steps);
+        compare_run(&mut r, &text, &schedule, &want, &mut steps, &mut ends);
         let may = unsafe { station_may_load_text(text.as_ptr(), text.len()) };
         assert_eq!(may, want.as_ref().map_or(false, |t| findings(t).clean()), "the loader's question on\n{}", String::from_utf8_lossy(&text));
         loads += may as usize;
     }
-    println!("{texts} texts, seed {seed}: refusals 0 to 13 met {:?}; answers to steps 0 and 14 to 19 met {} {:?}; {loads} may be loaded", &reports[..14], steps[0], &steps[14..]);
+    println!("{texts} texts, seed {seed}: refusals 0 to 13 met {:?}; answers to steps 0 and 14 to 19 met {} {:?}; cells left at -2147483648 and at 2147483647 {ends:?}; {loads} may be loaded", &reports[..14], steps[0], &steps[14..]);
     for n in 1..=13 {
         assert!(reports[n] > 0 || texts < 20000, "refusal {n} was never met");
     }
     for n in 14..=18 {
         assert!(steps[n] > 0 || texts < 20000, "step answer {n} was never met");
     }
+    assert!(ends[0] > 0 && ends[1] > 0 || texts < 20000, "no sum stopped at an end");
     assert_eq!(steps[19], 0, "step answer 19 was met");
 }
 

@@ -1,6 +1,6 @@
 //! A table as a Promela model, for Spin to search all its states.
 //!
-//! Why the model is document 01's machine:
+//! Why the model is the machine of documents 01 and 02:
 //! - Each thread number is a process of its own, so Spin's scheduling gives every order of steps.
 //! - A step is one d_step, so no other thread comes between; its guard is the thread's next statement, and for TAKE also
 //!   that the lock is free. So a refused step (14, 15, 16) is one that is not taken, and the state stays.
@@ -9,7 +9,7 @@
 //!   before thread 0 begins.
 //! - A READ or WRITE can always step. So if two threads stand before conflicting accesses, the step of one of them is searched
 //!   from that very state, and its assertion looks at the other threads before it moves. GIVE the same: asserted, not waited for.
-//! - Promela's int is C's; compiled with -fwrapv ADD wraps as 32-bit two's complement.
+//! - Promela's int is C's, of 32 bits; ADD stops at both ends before the sum is made, so no sum leaves the range.
 //! - A START with THREADS threads started waits; THREADS is chosen above what is compared.
 use crate::document::{Op, Table};
 use std::fmt::Write;
@@ -48,6 +48,15 @@ fn returned(t: &Table, r: usize) -> String {
     out + "if :: level[_pid] == 0 -> at[_pid] = 0 :: else -> level[_pid]--; at[_pid] = back[_pid * DEPTH + level[_pid]]; back[_pid * DEPTH + level[_pid]] = 0 fi"
 }
 
+/// ADD: at an end if the number leads past it, else the sum.
+fn added(v: i32) -> String {
+    if v < 0 {
+        format!("acc[_pid] = (acc[_pid] < {} -> -2147483647 - 1 : acc[_pid] + ({v}))", -2_147_483_648 - v as i64)
+    } else {
+        format!("acc[_pid] = (acc[_pid] > {} -> 2147483647 : acc[_pid] + {v})", 2_147_483_647 - v as i64)
+    }
+}
+
 /// The step of statement `s`: what its guard adds, and what it does. `at` is a statement plus 1, and 0 where there is none.
 fn step(t: &Table, s: usize) -> (String, String) {
     let on = format!("at[_pid] = {}", s + 2);
@@ -56,7 +65,7 @@ fn step(t: &Table, s: usize) -> (String, String) {
         Op::Read(h) => always(format!("look({}, false); acc[_pid] = cell[{}]; {on}", value(t, h), value(t, h))),
         Op::Write(h) => always(format!("look({}, true); cell[{}] = acc[_pid]; {on}", value(t, h), value(t, h))),
         Op::Set(v) => always(format!("acc[_pid] = ({v}); {on}")),
-        Op::Add(v) => always(format!("acc[_pid] = acc[_pid] + ({v}); {on}")),
+        Op::Add(v) => always(format!("{}; {on}", added(v))),
         Op::Take(h) => (format!(" && FREE({})", value(t, h)), format!("owner[{}] = _pid + 1; {on}", value(t, h))),
         Op::Give(h) => always(format!("assert(owner[{}] == _pid + 1); owner[{}] = 0; {on}", value(t, h), value(t, h))),
         Op::Point(h, g) => always(format!("{} = {}; {on}", value(t, h), value(t, g))),

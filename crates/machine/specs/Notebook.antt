@@ -12,7 +12,7 @@ use Rattle.table.specs.declared.Arguments.{Arguments}
 use Rattle.table.specs.declared.Statement.{Statement}
 use Rattle.table.specs.declared.Statement.the-variants.{Read, Write, Add, Take, Give, Start, JumpZero, Return}
 use Rattle.machine.specs.State.{State, Frame, thread, start, opened, entered, free, held}
-use Rattle.machine.specs.Step.{refused, wrap, step, after, run}
+use Rattle.machine.specs.Step.{refused, saturate, step, after, run}
 use Rattle.machine.specs.Words.{Safe}
 
 -- ---- one thread in one routine of the statements given, at the first of them
@@ -40,14 +40,24 @@ after-one statements a =
     nexts [] = []
     nexts (f ∷ fs) = f .next ∷ nexts fs
 
--- "2,147,483,647 ADD 1 gives -2,147,483,648", and the same at the other end; the ends themselves stay
-pub add-wraps :
-    (after-one (Add (pos 1) ∷ Return ∷ []) (pos 2147483647) .0 ≡ negsuc 2147483647)
-    × (after-one (Add (negsuc 0) ∷ Return ∷ []) (negsuc 2147483647) .0 ≡ pos 2147483647)
-    × (after-one (Add (pos 0) ∷ Return ∷ []) (pos 2147483647) .0 ≡ pos 2147483647)
-    × (after-one (Add (pos 0) ∷ Return ∷ []) (negsuc 2147483647) .0 ≡ negsuc 2147483647)
-unfolding after-one wrap
-add-wraps = (refl, refl, refl, refl)
+-- the accumulator after ADD of a number
+abbrev pub added : ℤ → ℤ → ℤ
+added a number = after-one (Add number ∷ Return ∷ []) a .0
+
+-- "2,147,483,647 ADD 1 giving 2,147,483,647", and the same at the other end
+pub add-stops : (added (pos 2147483647) (pos 1) ≡ pos 2147483647) × (added (negsuc 2147483647) (negsuc 0) ≡ negsuc 2147483647)
+unfolding after-one saturate
+add-stops = (refl, refl)
+
+-- it stops there and no earlier
+pub add-reaches-the-ends : (added (pos 2147483646) (pos 1) ≡ pos 2147483647) × (added (negsuc 2147483646) (negsuc 0) ≡ negsuc 2147483647)
+unfolding after-one saturate
+add-reaches-the-ends = (refl, refl)
+
+-- and comes back
+pub add-leaves-the-ends : (added (pos 2147483647) (negsuc 0) ≡ pos 2147483646) × (added (negsuc 2147483647) (pos 1) ≡ negsuc 2147483646)
+unfolding after-one saturate
+add-leaves-the-ends = (refl, refl)
 
 -- "JUMPZ at 0 jumps, at -1 goes on"
 pub zero-alone-jumps :

@@ -16,9 +16,9 @@ pub data Answer : Type 0 where
   moved : State → Answer
   refused : ℕ → Answer
 
--- the 32-bit two's complement number that a sum wraps to, for a sum of two such numbers
-unfoldable pub wrap : ℤ → ℤ
-wrap z = cond (ltZ (pos 2147483647) z) (z +ℤ negsuc 4294967295) (cond (ltZ z (negsuc 2147483647)) (z +ℤ pos 4294967296) z)
+-- a sum that "stops at 2,147,483,647 and at -2,147,483,648" (document 02, C-17)
+unfoldable pub saturate : ℤ → ℤ
+saturate z = cond (ltZ (pos 2147483647) z) (pos 2147483647) (cond (ltZ z (negsuc 2147483647)) (negsuc 2147483647) z)
 
 -- "the accumulator is zero"
 abbrev pub isZero : ℤ → Bool
@@ -65,8 +65,8 @@ module _ (t : Table) (state : State) (n : ℕ) (a : ℤ) (f : Frame) (older : Li
   operate (Write h) = moved (goes-on a (set (state .cells) (refers f (h .number)) a) (state .locks))
   -- SET: "accumulator becomes it"
   operate (Set number) = moved (goes-on number (state .cells) (state .locks))
-  -- ADD: "added, wrapping as 32-bit two's complement"
-  operate (Add number) = moved (goes-on (wrap (a +ℤ number)) (state .cells) (state .locks))
+  -- ADD: "added", and "stops at 2,147,483,647 and at -2,147,483,648"
+  operate (Add number) = moved (goes-on (saturate (a +ℤ number)) (state .cells) (state .locks))
   -- TAKE: "the free lock becomes this thread's"
   operate (Take h) = taking (holder state (refers f (h .number))) (goes-on a (state .cells) (set (state .locks) (refers f (h .number)) (held n)))
   -- GIVE: "this thread's lock becomes free"

@@ -7,7 +7,7 @@ use lib.IntN.{ℤ, pos, negsuc}
 use lib.Count.{trailingZeros}
 use Rattle.table.specs.Table.{Table, tableOf}
 use Rattle.machine.specs.State.{State, Frame, thread}
-use Rattle.machine.specs.Step.{step, after, wrap}
+use Rattle.machine.specs.Step.{step, after, saturate}
 use Rattle.table.specs.declared.Verdict.{Verdict}
 use Rattle.table.specs.declared.Verdict.the-variants.{Accepted, Refused}
 use Rattle.report.specs.Report.{reportLines, textOf}
@@ -54,7 +54,7 @@ said Accepted ls = ls
 said (Refused number line) ls = (pos 50 ∷ pos number ∷ pos line ∷ pos 0 ∷ pos 0 ∷ pos 0 ∷ pos 0 ∷ pos 0 ∷ []) ∷ []
 
 unfoldable pub answers : List Entry → List (List (List ℤ))
-unfolding answer asComputed step wrap with lowest digitsFrom decimalOf signedOf spacedOf fieldOf decimalText signedText fieldText fieldsOf allInField lineText pieces unused headerOk lengthOk leading leadingOk things handleFieldsOk sameAbove handleOrderOk parameterOk handleOk routineOk sumOk ownHandle ownOfKind ownStatement argumentOk argumentsOk namingOk pointOk operationOk statementOk badStatement endOk namedBy gather namesOf namesIn isNamed walk reached isAcyclic namingVerdict statementVerdict declarationVerdict numbersVerdict textOk verdict readingOf textOf
+unfolding answer asComputed step saturate with lowest digitsFrom decimalOf signedOf spacedOf fieldOf decimalText signedText fieldText fieldsOf allInField lineText pieces unused headerOk lengthOk leading leadingOk things handleFieldsOk sameAbove handleOrderOk parameterOk handleOk routineOk sumOk ownHandle ownOfKind ownStatement argumentOk argumentsOk namingOk pointOk operationOk statementOk badStatement endOk namedBy gather namesOf namesIn isNamed walk reached isAcyclic namingVerdict statementVerdict declarationVerdict numbersVerdict textOk verdict readingOf textOf
 answers [] = []
 answers (e ∷ es) = said (verdict (textIn e)) (answer (tableOf (numbersOf (textIn e))) (e .question)) ∷ answers es
 
@@ -71,13 +71,17 @@ reported (c ∷ cs) = record { lines = c .lines; question = report; result = c .
 abbrev pub at-first : ℤ → State
 at-first a = record { threads = record { accumulator = a; frames = record { routine = 0; next = 0; values = [] } ∷ [] } ∷ []; cells = pos 0 ∷ []; locks = [] }
 
--- "2,147,483,647 ADD 1 gives -2,147,483,648"
-abbrev pub add-wraps : Entry
-add-wraps = record {
-  lines = row 1 1 0 0 1 2 0 0 ∷ row 3 2 0 0 0 0 0 0 ∷ row 4 4 1 0 0 0 0 0 ∷ row 4 12 0 0 0 0 0 0 ∷ [];
-  question = stepped (at-first (pos 2147483647)) 0;
-  result = (negsuc 2147483647 ∷ pos 1 ∷ []) ∷ [];
+-- ADD of a number, and the accumulator behind it
+abbrev pub adds : ℤ → ℤ → ℤ → Entry
+adds a number sum = record {
+  lines = row 1 1 0 0 1 2 0 0 ∷ row 3 2 0 0 0 0 0 0 ∷ (pos 4 ∷ pos 4 ∷ number ∷ pos 0 ∷ pos 0 ∷ pos 0 ∷ pos 0 ∷ pos 0 ∷ []) ∷ row 4 12 0 0 0 0 0 0 ∷ [];
+  question = stepped (at-first a) 0;
+  result = (sum ∷ pos 1 ∷ []) ∷ [];
 }
+
+-- C-17: "01's wrapping case becomes 2,147,483,647 ADD 1 giving 2,147,483,647"; the other end
+abbrev pub sums : List Entry
+sums = adds (pos 2147483647) (pos 1) (pos 2147483647) ∷ adds (negsuc 2147483647) (negsuc 0) (negsuc 2147483647) ∷ []
 
 -- "JUMPZ at 0 jumps, at -1 goes on"
 abbrev pub jumps : ℤ → ℕ → Entry
@@ -88,7 +92,7 @@ jumps a next = record {
 }
 
 abbrev pub entries : List Entry
-entries = reported notebook ++ (add-wraps ∷ jumps (pos 0) 2 ∷ jumps (negsuc 0) 1 ∷ [])
+entries = reported notebook ++ (sums ++ (jumps (pos 0) 2 ∷ jumps (negsuc 0) 1 ∷ []))
 
 pub notebook-holds : answers entries ≡ results entries
 unfolding answers trailingZeros

@@ -1,9 +1,9 @@
--- Sums of two 32-bit numbers, and where they lie after wrapping. Assumes nothing.
+-- Sums of two 32-bit numbers, as the code computes them. Assumes nothing.
 use mathlib.Core.Path.{_≡_, refl}
 use mathlib.Core.Bool.{Bool, true, false, cond}
 use Prim.Native.Nat.{ℕ, suc, _+_, _-_, _<_, _≤_, _^_}
 use native.Mathlib.Omega.{arith}
-use borrow.Author.Tests.{ltb-true, ltb-false, lt-ltb, ne-eqb}
+use borrow.Author.Tests.{ltb-false, ne-eqb}
 use lib.Dec.{ltb, eqb}
 use Rattle.machine.specs.Step.{isZero}
 use lib.IntN.{ℤ, pos, negsuc, subℕ, _+ℤ_}
@@ -40,24 +40,9 @@ pub summed : (a b : ℤ) → SFits w32 a → SFits w32 b
     → toZ w64 (ofZ w64 (toZ w64 (ofZ w64 (toZ w32 (ofZ w32 a))) +ℤ toZ w64 (ofZ w64 (toZ w32 (ofZ w32 b))))) ≡ a +ℤ b
 summed a b f g = rw (widened a f, widened b g) (toZ-ofZ (wide (a +ℤ b) (sum-small a b f g)))
 
-pub above : (z : ℤ) → mag z < 4294967296 → ltZ (pos 2147483647) z ≡ true → SFits w32 (z +ℤ negsuc 4294967295)
-above (pos n) h e = rw (lt-ltb n 4294967296 h) (record { sfits = omega (arith, ltb-true 2147483647 n e) })
-above (negsuc n) h e = let z : _≡_ {A = ℕ} 0 1 = cc in absurd (omega arith)
-
-pub below : (z : ℤ) → mag z < 4294967296 → ltZ z (negsuc 2147483647) ≡ true → SFits w32 (z +ℤ pos 4294967296)
-below (pos n) h e = let z : _≡_ {A = ℕ} 0 1 = cc in absurd (omega arith)
-below (negsuc n) h e = go (ltb 4294967296 (suc n)) refl
-  where
-    go : (t : Bool) → ltb 4294967296 (suc n) ≡ t → SFits w32 (cond t (negsuc (suc n - suc 4294967296)) (pos (4294967296 - suc n)))
-    go true q = absurd (omega (arith, ltb-true 4294967296 (suc n) q))
-    go false q = record { sfits = omega (arith, ltb-true 2147483647 n e) }
-
 pub between : (z : ℤ) → ltZ (pos 2147483647) z ≡ false → ltZ z (negsuc 2147483647) ≡ false → SFits w32 z
 between (pos n) e q = record { sfits = omega (arith, ltb-false 2147483647 n e) }
 between (negsuc n) e q = record { sfits = omega (arith, ltb-false 2147483647 n q) }
-
-pub narrow-wide : (z : ℤ) → SFits w32 z → SFits w64 z
-narrow-wide z f = record { sfits = omega (arith, f .sfits) }
 
 -- a number's bits are 0 where it is 0
 pub bits-zero : (z : ℤ) → SFits w32 z → eqb (ofZ w32 z) 0 ≡ isZero z

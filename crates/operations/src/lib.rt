@@ -7,13 +7,13 @@ ghost use Prim.Native.Nat.{_+_, _*_, _-_, _<_, _≤_};
 ghost use lib.IntN.{pos, _+ℤ_};
 ghost use lib.ListN.{getD, set, length};
 ghost use Rattle.table.specs.Table.{tableOf};
-ghost use Rattle.machine.specs.Step.{wrap, isZero};
+ghost use Rattle.machine.specs.Step.{saturate, isZero};
 ghost use Rattle.run_state.specs.Lists.{countsIn, startedIn, accumulatorsIn, cellsIn, countPlace, putCell};
 ghost use Rattle.run_state.specs.Shown.{valuePlace, HandlesThere, Naming};
 ghost use Rattle.operations.specs.declared.Move.the-variants.{To, Closed};
 ghost use Rattle.operations.specs.Operation.{Placed, Newest, on, Locked, Called, Started};
 use numbers::is_zero;
-use numbers::wrapped_sum;
+use numbers::saturating_sum;
 use run_state::frames::enter;
 use run_state::frames::put_value;
 use run_state::frames::value_of;
@@ -102,12 +102,12 @@ pub fn set(number: i32, at: Place, registers: &mut [i32; 80]) -> Move
     going_on(at)
 }
 
-// ADD: "added, wrapping as 32-bit two's complement".
+// ADD: "added", and "stops at 2,147,483,647 and at -2,147,483,648".
 pub fn add(number: i32, at: Place, registers: &mut [i32; 80]) -> Move
     requires { ⌜ Placed at ⌝ }
-    ensures { λ r. ⌜ (r ≡ on at) × (now (registers .exit) ≡ set (now (registers .entry)) (at .thread) (wrap (getD (accumulatorsIn (now (registers .entry))) (at .thread) (pos 0) +ℤ number))) ⌝ }
+    ensures { λ r. ⌜ (r ≡ on at) × (now (registers .exit) ≡ set (now (registers .entry)) (at .thread) (saturate (getD (accumulatorsIn (now (registers .entry))) (at .thread) (pos 0) +ℤ number))) ⌝ }
 {
-    let sum = wrapped_sum(accumulator_of(registers, at.thread), number);
+    let sum = saturating_sum(accumulator_of(registers, at.thread), number);
     put_accumulator(registers, at.thread, sum);
     going_on(at)
 }

@@ -18,7 +18,7 @@ use Rattle.table.specs.declared.Target.{Target}
 use Rattle.table.specs.declared.Statement.{Statement}
 use Rattle.table.specs.declared.Statement.the-variants.{Read, Write, Set, Add, Take, Give, Point, Call, Start, Jump, JumpZero, Return}
 use Rattle.machine.specs.State.{State}
-use Rattle.machine.specs.Step.{wrap, isZero}
+use Rattle.machine.specs.Step.{saturate, isZero}
 use Rattle.run_state.specs.declared.Sizes.{Sizes}
 use Rattle.run_state.specs.Lists.{nextsIn, countsIn, startedIn, ownersIn, accumulatorsIn, cellsIn, countPlace, startedPlace, putCell}
 use Rattle.run_state.specs.ListLaws.{started-there, parts-next, parts-count, parts-started, parts-owner, parts-accumulator, parts-cell}
@@ -243,12 +243,12 @@ module _ (numbers : List ℤ) (first handle : List ℕ) (sizes : Sizes) (words v
       (λ state s. set-step t accepted a state (at .thread) (at .slot) s (here .low) (p state s) (at .next) (stands-at state s) number (is state s (Set number) e))
 
   pub did-add : (number : ℤ) (registers′ : List ℤ) (r : Move) → σ ≡ Add number → r ≡ on at
-      → registers′ ≡ set registers (at .thread) (wrap (getD (accumulatorsIn registers) (at .thread) (pos 0) +ℤ number))
+      → registers′ ≡ set registers (at .thread) (saturate (getD (accumulatorsIn registers) (at .thread) (pos 0) +ℤ number))
       → Operated (tableOf numbers) words values registers words values registers′ at σ r
   did-add number registers′ r e q x =
       went-on words values registers′ r _ (Add number) e q
       (ap (λ (l : List ℤ). partsOf t words values l) x
-      ∙ parts-accumulator t words values registers (at .thread) (wrap (getD (accumulatorsIn registers) (at .thread) (pos 0) +ℤ number)) (placed-here .thread-low))
+      ∙ parts-accumulator t words values registers (at .thread) (saturate (getD (accumulatorsIn registers) (at .thread) (pos 0) +ℤ number)) (placed-here .thread-low))
       (λ state s. add-step t accepted a state (at .thread) (at .slot) s (here .low) (p state s) (at .next) (stands-at state s) number (is state s (Add number) e))
 
   -- the locks that the header says are the table's

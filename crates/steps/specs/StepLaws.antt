@@ -19,7 +19,7 @@ use Rattle.table.specs.declared.Target.{Target}
 use Rattle.table.specs.declared.Statement.{Statement}
 use Rattle.table.specs.declared.Statement.the-variants.{Read, Write, Set, Add, Take, Give, Point, Call, Start, Jump, JumpZero, Return}
 use Rattle.machine.specs.State.{State, Frame, Holder, free, held, ended, thread, holder, refers, opened}
-use Rattle.machine.specs.Step.{moved, refused, wrap, isZero, going, pointing, with-thread, goes-on, operate, stepped, step}
+use Rattle.machine.specs.Step.{moved, refused, saturate, isZero, going, pointing, with-thread, goes-on, operate, stepped, step}
 use Rattle.machine.specs.Engine.{limit, engineStep}
 use Rattle.operations.specs.declared.Step.the-variants.{Ran, Refused, Nothing}
 use Rattle.operations.specs.Step.{stepOf}
@@ -261,14 +261,14 @@ module _ (t : Table) (accepted : Accepted t) (a : Arrays) (state : State) (n slo
     pub add-step : (number : ℤ) → statement t (p .f .next) ≡ Add number
         → Stepped t
         (arrays (a .started) (set (a .nexts) slot (next + 1)) (a .values) (a .counts)
-        (set (a .accumulators) n (wrap (getD (a .accumulators) n (pos 0) +ℤ number))) (a .owners) (a .cells))
+        (set (a .accumulators) n (saturate (getD (a .accumulators) n (pos 0) +ℤ number))) (a .owners) (a .cells))
         state n (Ran (Add number))
     unfolding operate
     add-step number e =
         rw on
         (ran _ (Add number) _ e refl refl
         (goes (p .f .next + 1) _ _ (a .owners) (a .cells) (state .cells) (state .locks) (after-it (Add number) e refl)
-        (accumulated-set _ _ (ap (λ (z : ℤ). wrap (z +ℤ number)) (p .accumulator-is))) refl (s .cells-are) (s .locks-are)))
+        (accumulated-set _ _ (ap (λ (z : ℤ). saturate (z +ℤ number)) (p .accumulator-is))) refl (s .cells-are) (s .locks-are)))
 
     pub jump-step : (target : Target) → statement t (p .f .next) ≡ Jump target
         → Stepped t (arrays (a .started) (set (a .nexts) slot (target .statement)) (a .values) (a .counts) (a .accumulators) (a .owners) (a .cells)) state n (Ran (Jump target))
