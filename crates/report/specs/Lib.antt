@@ -28,3 +28,4 @@ pub mod FindingsLaws
 pub mod OneCopy
 pub mod ReportLaws
 pub mod ReportTextLaws
+pub mod ValueLaws
