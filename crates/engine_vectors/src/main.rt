@@ -1,5 +1,5 @@
-// Runs the engine on each table and schedule of data/ and writes its number, its answers and its cells; then the edges: an empty schedule, a sum at
-// the top of the range, and buffers one too short and longer than needed.
+// Runs the engine on each table and schedule of data/ and writes its number, its answers and its cells; of C-17's long runs its cells, and how many of
+// its answers are the stored ones; then the edges: an empty schedule, a sum at the top of the range, and buffers one too short and longer than needed.
 use engine::Outcome;
 use libc::STDOUT_FILENO;
 
@@ -90,29 +90,122 @@ fn show_vector(i: usize) {
     }
 }
 
-// The table sum.table adds up to 2,147,483,647 in thread 0, and then 1 in thread 1: the cell alone is written.
+// The number of a call and the cells that it left.
+fn say_left(outcome: Outcome, cells: &[i32]) {
+    io::print_decimal(STDOUT_FILENO, outcome.number as u64);
+    say(b", cells");
+    say_cells(cells);
+}
+
+// How many answers, from the first on, are the stored ones.
+fn count_same(answers: &[u8], stored: &[u8]) -> usize {
+    let mut i = 0;
+    while i < answers.len() {
+        if stored.len() <= i {
+            return i;
+        }
+        if answers[i] != stored[i] {
+            return i;
+        }
+        i += 1;
+    }
+    i
+}
+
+// A run of the engine: its number, its cells, and how many of its answers are the stored ones, up to the first that is not.
+fn show_beside(text: &[u8], schedule: &[u8], stored: &[u8], answers: &mut [u8], cells: &mut [i32]) {
+    say_left(engine::run(text, schedule, answers, cells), cells);
+    say(b"; ");
+    io::print_decimal(STDOUT_FILENO, count_same(answers, stored) as u64);
+    say(b" of ");
+    io::print_decimal(STDOUT_FILENO, stored.len() as u64);
+    say(b" answers as stored\n");
+}
+
+// Runs vector `i` of C-17, whose answers are stored beside it.
+fn show_sums(i: usize) {
+    let tens = (48 + i / 10 % 10) as u8;
+    let ones = (48 + i % 10) as u8;
+    let table = [
+        b'1',
+        b'7',
+        b'-',
+        tens,
+        ones,
+        b'.',
+        b't',
+        b'a',
+        b'b',
+        b'l',
+        b'e',
+    ];
+    let steps = [
+        b'1',
+        b'7',
+        b'-',
+        tens,
+        ones,
+        b'.',
+        b's',
+        b'c',
+        b'h',
+        b'e',
+        b'd',
+        b'u',
+        b'l',
+        b'e',
+    ];
+    let right = [
+        b'1',
+        b'7',
+        b'-',
+        tens,
+        ones,
+        b'.',
+        b'a',
+        b'n',
+        b's',
+        b'w',
+        b'e',
+        b'r',
+        b's',
+    ];
+    let mut text = [0u8; 1568];
+    let mut schedule = [0u8; 40000];
+    let mut stored = [98u8; 40000];
+    let mut answers = [99u8; 40000];
+    let mut cells = [99i32; 2];
+    let n = load(&table, &mut text);
+    let m = load(&steps, &mut schedule);
+    let k = load(&right, &mut stored);
+    if n <= 1568 {
+        if m <= 40000 {
+            if k <= 40000 {
+                show_beside(
+                    &text[..n],
+                    &schedule[..m],
+                    &stored[..k],
+                    &mut answers,
+                    &mut cells,
+                );
+            }
+        }
+    }
+}
+
+// The table sum.table adds up to 2,147,483,647 in thread 0, and then 1 in thread 1: the cell stays there.
 fn show_sum(text: &[u8]) {
     let mut schedule = [0u8; 6446];
     let mut answers = [99u8; 6446];
     let mut cells = [99i32; 2];
-    show_last(
-        engine::run(text, &schedule[..6443], &mut answers, &mut cells),
-        &cells,
-    );
+    let outcome = engine::run(text, &schedule[..6443], &mut answers, &mut cells);
+    say_left(outcome, &cells);
+    say(b"\n");
     schedule[6443] = 1;
     schedule[6444] = 1;
     schedule[6445] = 1;
-    show_last(
-        engine::run(text, &schedule, &mut answers, &mut cells),
-        &cells,
-    );
-}
-
-// The number of a call and the cells that it left.
-fn show_last(outcome: Outcome, cells: &[i32]) {
-    io::print_decimal(STDOUT_FILENO, outcome.number as u64);
-    say(b", cells");
-    say_cells(cells);
+    let after = engine::run(text, &schedule, &mut answers, &mut cells);
+    say_left(after, &cells);
     say(b"\n");
 }
 
@@ -138,11 +231,21 @@ fn show_edges() {
     }
 }
 
+// The runs of C-17.
+fn show_all_sums() {
+    let mut i = 0;
+    while i < 21 {
+        show_sums(i);
+        i += 1;
+    }
+}
+
 fn main() {
     let mut i = 0;
     while i < 41 {
         show_vector(i);
         i += 1;
     }
+    show_all_sums();
     show_edges();
 }

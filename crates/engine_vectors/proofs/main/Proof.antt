@@ -25,6 +25,9 @@ loop-less c = search needs
 loop-again : tie.Need-loop-again Inv-loop μ-loop
 loop-again c = search needs
 
+show-all-sums-requires : tie.Need-show-all-sums-requires Inv-loop μ-loop
+show-all-sums-requires c κs = search needs
+
 show-edges-requires : tie.Need-show-edges-requires Inv-loop μ-loop
 show-edges-requires c κs = search needs
 
@@ -42,5 +45,6 @@ main-spec =
     add-i
     loop-less
     loop-again
+    show-all-sums-requires
     show-edges-requires
     returns)
