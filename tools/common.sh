@@ -132,8 +132,9 @@ build() {
     say "built in $(($(date +%s) - began)) s"
 }
 
-# made FILE WORDS..: FILE is there and no older than what it is made of, or is made by `rt WORDS`. In a package there are no sources.
-made() {
+# made FILE WORDS..: FILE is there and no older than what it is made of, or is made by `rt WORDS`. In a package there are no sources. In a shell of its
+# own, so that no name of the caller's changes; its status is 3 where it stops.
+made() (
     product=$here/$1
     shift
     for crate; do :; done
@@ -145,7 +146,7 @@ made() {
         newer=${newer%%"$nl"*}
         [ -z "$newer" ] || build "$product" "${product#"$here/"} is older than ${newer#"$here/"}" "$@"
     fi
-}
+)
 
 # Reads standard input, at most $1 bytes, for the command behind it, and prints what it prints and then `end` and its status; or says
 # `unread` first. So a read that fails, an output cut off and a program that died are told from an answer.
