@@ -299,7 +299,9 @@ pub fn schedule(r: &mut Random) -> Vec<u8> {
     (0..length).map(|_| if r.one_in(50) { r.below(256) as u8 } else { r.below(threads) as u8 }).collect()
 }
 
-/// For `sums`: long enough for -99,999 to come to the end of the range.
+/// For `sums`: both threads are started, and most are long enough for -99,999 to come to the end of the range.
 pub fn long_schedule(r: &mut Random) -> Vec<u8> {
-    (0..20_000 + r.below(80_000)).map(|_| if r.one_in(50) { r.below(20) as u8 } else { 1 + r.below(2) as u8 }).collect()
+    let mut out = vec![0; 2];
+    out.extend((0..20_000 + r.below(80_000)).map(|_| if r.one_in(50) { r.below(20) } else { 1 + r.below(2) } as u8));
+    out
 }

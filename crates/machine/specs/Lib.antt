@@ -1,5 +1,6 @@
 pub mod State
 pub mod Step
+pub mod SumLaws
 pub mod Words
 pub mod Engine
 pub mod Notebook
