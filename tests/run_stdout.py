@@ -1,12 +1,12 @@
 #!/usr/bin/env python3
-"""run_stdout.py VECTORS CRATE: the runs of VECTORS and of VECTORS/requests/C-17 into CRATE/data, and what the program has to print of them, out of their
-stored answers and cells, into CRATE/stdout; behind them what sum.table shows at the edges, by hand from the documents."""
+"""run_stdout.py VECTORS CRATE: the runs of VECTORS, as 01-NN, and of VECTORS/requests/C-RR, as RR-NN, with their answers into CRATE/data; and what the
+program has to print of them, by their stored answers and cells, into CRATE/stdout. Behind them what sum.table shows, by hand from the documents."""
 import os
 import shutil
 import sys
 
-# The program's buffers: places for answers and cells, each filled with 99.
-ANSWERS, CELLS, SUMS = 302, 66, 2
+# The program's buffers have so many places for cells and answers, each filled with 99.
+CELLS, ANSWERS = 66, 40001
 EDGES = [
     "0, cells 2147483647 99",  # 485,794 and then 999,999 2,147 times
     "0, cells 2147483647 99",  # C-17: "2,147,483,647 ADD 1 giving 2,147,483,647"
@@ -17,36 +17,19 @@ EDGES = [
 ]
 
 
-def filled(numbers, places):
-    return "".join(" %s" % n for n in list(numbers) + [99] * (places - len(numbers)))
-
-
-def run(folder, stem):
-    with open(os.path.join(folder, stem + ".answers"), "rb") as answers, open(os.path.join(folder, stem + ".cells")) as cells:
-        return answers.read(), [int(word) for word in cells.read().split()]
-
-
-def take(folder, stem, crate, name, ends):
-    for end in ends:
-        shutil.copyfile(os.path.join(folder, stem + end), os.path.join(crate, "data", name + end))
-
-
 def main():
     vectors, crate = sys.argv[1], sys.argv[2]
     out = []
-    for entry in sorted(os.listdir(vectors)):
-        stem, end = os.path.splitext(entry)
-        if end == ".schedule":
-            answers, cells = run(vectors, stem)
-            take(vectors, stem, crate, stem, [".table", ".schedule"])
-            out.append("0 line 0, answers%s, cells%s" % (filled(answers, ANSWERS), filled(cells, CELLS)))
-    folder = os.path.join(vectors, "requests", "C-17")
-    for entry in sorted(os.listdir(folder)):
-        stem, end = os.path.splitext(entry)
-        if end == ".schedule":
-            answers, cells = run(folder, stem)
-            take(folder, stem, crate, "17-" + stem[-2:], [".table", ".schedule", ".answers"])
-            out.append("0, cells%s; %d of %d answers as stored" % (filled(cells, SUMS), len(answers), len(answers)))
+    for request, folder in (("01", vectors), ("17", os.path.join(vectors, "requests", "C-17"))):
+        for entry in sorted(os.listdir(folder)):
+            stem, end = os.path.splitext(entry)
+            if end != ".schedule":
+                continue
+            for end in (".table", ".schedule", ".answers"):
+                shutil.copyfile(os.path.join(folder, stem + end), os.path.join(crate, "data", "%s-%s%s" % (request, stem[-2:], end)))
+            with open(os.path.join(folder, stem + ".cells")) as f:
+                cells = [int(word) for word in f.read().split()]
+            out.append("0, cells%s; %d of %d places as stored" % ("".join(" %d" % x for x in cells + [99] * (CELLS - len(cells))), ANSWERS, ANSWERS))
     with open(os.path.join(crate, "stdout"), "w") as f:
         f.write("".join(line + "\n" for line in out + EDGES))
 

@@ -1,5 +1,6 @@
-// Runs the engine on each table and schedule of data/ and writes its number, its answers and its cells; of C-17's long runs its cells, and how many of
-// its answers are the stored ones; then the edges: an empty schedule, a sum at the top of the range, and buffers one too short and longer than needed.
+// The runs of data/, each with its answers beside it: RR-NN is run NN of request RR, and 01 is document 01. The engine's number, its cells, and at how
+// many places of the answers it leaves what is stored; then the edges: an empty schedule, a sum at the top of the range, and buffers one too short and
+// longer than needed.
 use engine::Outcome;
 use libc::STDOUT_FILENO;
 
@@ -58,38 +59,6 @@ fn load(path: &[u8], buffer: &mut [u8]) -> usize {
     n
 }
 
-// Runs vector `i`, with buffers two places longer than 300 steps and 64 cells need.
-fn show_vector(i: usize) {
-    let tens = (48 + i / 10 % 10) as u8;
-    let ones = (48 + i % 10) as u8;
-    let table = [b'0', tens, ones, b'.', b't', b'a', b'b', b'l', b'e'];
-    let steps = [
-        b'0',
-        tens,
-        ones,
-        b'.',
-        b's',
-        b'c',
-        b'h',
-        b'e',
-        b'd',
-        b'u',
-        b'l',
-        b'e',
-    ];
-    let mut text = [0u8; 32978];
-    let mut schedule = [0u8; 302];
-    let mut answers = [99u8; 302];
-    let mut cells = [99i32; 66];
-    let n = load(&table, &mut text);
-    let m = load(&steps, &mut schedule);
-    if n <= 32978 {
-        if m <= 302 {
-            show(&text[..n], &schedule[..m], &mut answers, &mut cells);
-        }
-    }
-}
-
 // The number of a call and the cells that it left.
 fn say_left(outcome: Outcome, cells: &[i32]) {
     io::print_decimal(STDOUT_FILENO, outcome.number as u64);
@@ -97,7 +66,7 @@ fn say_left(outcome: Outcome, cells: &[i32]) {
     say_cells(cells);
 }
 
-// How many answers, from the first on, are the stored ones.
+// At how many places, from the first on, two lists have the same.
 fn count_same(answers: &[u8], stored: &[u8]) -> usize {
     let mut i = 0;
     while i < answers.len() {
@@ -112,36 +81,37 @@ fn count_same(answers: &[u8], stored: &[u8]) -> usize {
     i
 }
 
-// A run of the engine: its number, its cells, and how many of its answers are the stored ones, up to the first that is not.
+// A run of the engine: its number, all the cells, and at how many places the answers, with what is behind them, are as stored.
 fn show_beside(text: &[u8], schedule: &[u8], stored: &[u8], answers: &mut [u8], cells: &mut [i32]) {
     say_left(engine::run(text, schedule, answers, cells), cells);
     say(b"; ");
     io::print_decimal(STDOUT_FILENO, count_same(answers, stored) as u64);
     say(b" of ");
     io::print_decimal(STDOUT_FILENO, stored.len() as u64);
-    say(b" answers as stored\n");
+    say(b" places as stored\n");
 }
 
-// Runs vector `i` of C-17, whose answers are stored beside it.
-fn show_sums(i: usize) {
+// A table by the schedule and the answers of these names, in buffers longer than any run needs.
+fn show_named(text: &[u8], steps: &[u8], right: &[u8]) {
+    let mut schedule = [0u8; 40001];
+    let mut stored = [99u8; 40001];
+    let mut answers = [99u8; 40001];
+    let mut cells = [99i32; 66];
+    let m = load(steps, &mut schedule);
+    load(right, &mut stored);
+    if m <= 40001 {
+        show_beside(text, &schedule[..m], &stored, &mut answers, &mut cells);
+    }
+}
+
+// Run `i` of the request that two digits name, with its answers beside it.
+fn show_run(r: u8, q: u8, i: usize) {
     let tens = (48 + i / 10 % 10) as u8;
     let ones = (48 + i % 10) as u8;
-    let table = [
-        b'1',
-        b'7',
-        b'-',
-        tens,
-        ones,
-        b'.',
-        b't',
-        b'a',
-        b'b',
-        b'l',
-        b'e',
-    ];
+    let table = [r, q, b'-', tens, ones, b'.', b't', b'a', b'b', b'l', b'e'];
     let steps = [
-        b'1',
-        b'7',
+        r,
+        q,
         b'-',
         tens,
         ones,
@@ -156,8 +126,8 @@ fn show_sums(i: usize) {
         b'e',
     ];
     let right = [
-        b'1',
-        b'7',
+        r,
+        q,
         b'-',
         tens,
         ones,
@@ -170,26 +140,19 @@ fn show_sums(i: usize) {
         b'r',
         b's',
     ];
-    let mut text = [0u8; 1568];
-    let mut schedule = [0u8; 40000];
-    let mut stored = [98u8; 40000];
-    let mut answers = [99u8; 40000];
-    let mut cells = [99i32; 2];
+    let mut text = [0u8; 32978];
     let n = load(&table, &mut text);
-    let m = load(&steps, &mut schedule);
-    let k = load(&right, &mut stored);
-    if n <= 1568 {
-        if m <= 40000 {
-            if k <= 40000 {
-                show_beside(
-                    &text[..n],
-                    &schedule[..m],
-                    &stored[..k],
-                    &mut answers,
-                    &mut cells,
-                );
-            }
-        }
+    if n <= 32978 {
+        show_named(&text[..n], &steps, &right);
+    }
+}
+
+// The first runs of a request, so many.
+fn show_runs(r: u8, q: u8, count: usize) {
+    let mut i = 0;
+    while i < count {
+        show_run(r, q, i);
+        i += 1;
     }
 }
 
@@ -231,21 +194,8 @@ fn show_edges() {
     }
 }
 
-// The runs of C-17.
-fn show_all_sums() {
-    let mut i = 0;
-    while i < 21 {
-        show_sums(i);
-        i += 1;
-    }
-}
-
 fn main() {
-    let mut i = 0;
-    while i < 41 {
-        show_vector(i);
-        i += 1;
-    }
-    show_all_sums();
+    show_runs(b'0', b'1', 41);
+    show_runs(b'1', b'7', 21);
     show_edges();
 }
