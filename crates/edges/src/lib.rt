@@ -86,7 +86,7 @@ fn append_passing(
     let mut m = n;
     let mut j = 0;
     while j < count {
-        m = append(edges, m, table::argument_of(arguments, j), begin + j);
+        m = append(edges, m, attributes::argument_of(arguments, j), begin + j);
         j += 1;
     }
     m
@@ -108,12 +108,12 @@ fn append_flow(
     ensures { λ r. ⌜ Appended (now (edges .entry)) n (now (edges .exit)) r (edgesAt Flow (tableOf (now (numbers .entry))) s) ⌝ }
 {
     let line = base + s;
-    let points = table::points_at(numbers, line);
-    let m = append_to(table::source_at(numbers, line), 0, points, edges, n);
-    let names = table::names_at(numbers, line);
+    let points = attributes::points_at(numbers, line);
+    let m = append_to(attributes::source_at(numbers, line), 0, points, edges, n);
+    let names = attributes::names_at(numbers, line);
     match names {
         Reference::To(q) => {
-            let arguments = table::arguments_at(numbers, line);
+            let arguments = attributes::arguments_at(numbers, line);
             let begin = lists::number_at(handle, q);
             append_passing(arguments, begin, lists::number_at(counts, q), edges, m)
         }
@@ -153,9 +153,9 @@ fn append_naming(
 {
     let line = base + s;
     if starts {
-        return append_from(table::names_at(numbers, line), c, edges, n);
+        return append_from(attributes::names_at(numbers, line), c, edges, n);
     }
-    append_from(table::calls_at(numbers, line), c, edges, n)
+    append_from(attributes::calls_at(numbers, line), c, edges, n)
 }
 
 // Fills the list with the edges up CALLs, or also up STARTs, and returns how many there are.
@@ -194,8 +194,8 @@ fn append_nexts(numbers: &[i32], base: usize, s: usize, edges: &mut [u32], n: us
     ensures { λ r. ⌜ Appended (now (edges .entry)) n (now (edges .exit)) r (edgesAt Nexts (tableOf (now (numbers .entry))) s) ⌝ }
 {
     let line = base + s;
-    let m = append_from(table::target_at(numbers, line), s, edges, n);
-    append_next(table::onward_at(numbers, line), s, edges, m)
+    let m = append_from(attributes::target_at(numbers, line), s, edges, n);
+    append_next(attributes::onward_at(numbers, line), s, edges, m)
 }
 
 // Fills the list with the edges to each statement from what may come next, and returns how many there are.
@@ -229,7 +229,7 @@ fn append_callers(
     requires { ⌜ (end ≡ statements (now numbers)) × (c ≡ ownerOf (tableOf (now numbers)) s) × (c < 2 ^ 32) ⌝ }
     ensures { λ r. ⌜ Appended (now (edges .entry)) n (now (edges .exit)) r (edgesAt Callers (tableOf (now (numbers .entry))) s) ⌝ }
 {
-    let called = table::calls_at(numbers, base + s);
+    let called = attributes::calls_at(numbers, base + s);
     let m = append_to(s, end, called, edges, n);
     append_to(end + c, end, called, edges, m)
 }

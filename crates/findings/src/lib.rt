@@ -65,9 +65,9 @@ fn note_access(
     requires { ⌜ ((i : ℕ) → 64 ≤ i → getD (now noted) i 0 < 2 ^ 32) ⌝ }
     ensures { λ _. ⌜ NotedAt (λ w. ownBy (now (numbers .entry)) (now (flow .entry)) w s) held (now (noted .entry)) (now (noted .exit)) ⌝ }
 {
-    let reads = table::set_on(table::reads_at(numbers, line), flow);
+    let reads = attributes::set_on(attributes::reads_at(numbers, line), flow);
     note(reads, held, 64, noted);
-    let writes = table::set_on(table::writes_at(numbers, line), flow);
+    let writes = attributes::set_on(attributes::writes_at(numbers, line), flow);
     note(writes, held, 128, noted);
 }
 
@@ -124,7 +124,7 @@ fn shared_at(
     requires { ⌜ half + s < 2 ^ 40 ⌝ }
     ensures { λ x. ⌜ x ≡ sharedBy (now (numbers .entry)) (now (reads .entry)) (now (writes .entry)) (now (later .entry)) half s ⌝ }
 {
-    match table::starts_at(numbers, line) {
+    match attributes::starts_at(numbers, line) {
         Reference::To(q) => clash(
             lists::set_at(reads, q),
             lists::set_at(writes, q),
@@ -158,7 +158,7 @@ fn started_at(numbers: &[i32], s: usize, line: usize) -> u64
     requires { ⌜ line ≡ statementLine (now numbers) s ⌝ }
     ensures { λ x. ⌜ x ≡ startedBy (now (numbers .entry)) s ⌝ }
 {
-    match table::starts_at(numbers, line) {
+    match attributes::starts_at(numbers, line) {
         Reference::To(q) => sets::one(q),
         Reference::Nothing => 0,
     }
@@ -184,7 +184,7 @@ pub fn is_stray(numbers: &[i32], s: usize, line: usize, flow: &[u64], held: u64)
     requires { ⌜ line ≡ statementLine (now numbers) s ⌝ }
     ensures { λ b. ⌜ b ≡ strayBy (λ h. getD (now (flow .entry)) h 0) held (statementOf (now (numbers .entry)) s) ⌝ }
 {
-    let gives = table::gives_at(numbers, line);
+    let gives = attributes::gives_at(numbers, line);
     match gives {
         Reference::To(h) => {
             let locks = lists::set_at(flow, h);

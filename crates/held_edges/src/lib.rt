@@ -51,7 +51,7 @@ fn append_routine(
     let mut s = lists::number_at(first, c);
     let mut m = n;
     while s < end {
-        let view = table::view_at(numbers, base + s);
+        let view = attributes::view_at(numbers, base + s);
         m = lock_edges::append_statement(edges, also, m, bases, first, view, s, c);
         s += 1;
     }

@@ -44,12 +44,12 @@ fn touched(numbers: &[i32], line: usize, locks: bool, writes: bool) -> Reference
     ensures { λ r. ⌜ r ≡ touched locks writes (view (statementIn (now (numbers .entry)) line (field (now (numbers .entry)) line 1))) ⌝ }
 {
     if locks {
-        return table::gives_at(numbers, line);
+        return attributes::gives_at(numbers, line);
     }
     if writes {
-        return table::writes_at(numbers, line);
+        return attributes::writes_at(numbers, line);
     }
-    table::reads_at(numbers, line)
+    attributes::reads_at(numbers, line)
 }
 
 // The locks that statement `s` itself may give up, or the cells that it reads or writes; `base` is the line of statement 0.
@@ -57,7 +57,7 @@ fn own_set(numbers: &[i32], base: usize, flow: &[u64], locks: bool, writes: bool
     requires { ⌜ Lined (now numbers) base × (s < statements (now numbers)) ⌝ }
     ensures { λ r. ⌜ r ≡ ownSet locks writes (now (flow .entry)) (statement (tableOf (now (numbers .entry))) s) ⌝ }
 {
-    table::set_on(touched(numbers, base + s, locks, writes), flow)
+    attributes::set_on(touched(numbers, base + s, locks, writes), flow)
 }
 
 // The union of these over the statements of routine `r`.
@@ -124,8 +124,8 @@ fn effect_at(
         return 0;
     }
     let line = base + s;
-    let own = table::set_on(touched(numbers, line, false, writes), flow);
-    sets::union(own, table::set_on(table::names_at(numbers, line), effect))
+    let own = attributes::set_on(touched(numbers, line, false, writes), flow);
+    sets::union(own, attributes::set_on(attributes::names_at(numbers, line), effect))
 }
 
 // The effect of the statement that is referred to, if one is.
@@ -161,9 +161,9 @@ fn nexts_effect(
     ensures { λ r. ⌜ r ≡ nextsEffect writes (now (flow .entry)) (now (effect .entry)) (tableOf (now (numbers .entry))) s ⌝ }
 {
     let line = base + s;
-    let target = table::target_at(numbers, line);
+    let target = attributes::target_at(numbers, line);
     let there = effect_on(numbers, base, end, flow, effect, writes, target);
-    if table::onward_at(numbers, line) {
+    if attributes::onward_at(numbers, line) {
         let next = effect_at(numbers, base, end, flow, effect, writes, s + 1);
         return sets::union(there, next);
     }

@@ -18,7 +18,7 @@ fn named_by(numbers: &[i32], s: usize) -> u64
     requires { ⌜ s < 2 ^ 32 ⌝ }
     ensures { λ x. ⌜ x ≡ namedBy (now (numbers .entry)) s ⌝ }
 {
-    let names = table::names_at(numbers, first_line(numbers) + s);
+    let names = attributes::names_at(numbers, first_line(numbers) + s);
     match names {
         Reference::To(q) => sets::one(q),
         Reference::Nothing => 0,
