@@ -3,36 +3,10 @@
 // longer than needed.
 use engine::Outcome;
 use libc::STDOUT_FILENO;
-
-fn say(text: &[u8]) {
-    io::write_all(STDOUT_FILENO, text);
-}
-
-fn say_number(x: i32) {
-    if x < 0 {
-        say(b"-");
-    }
-    io::print_decimal(STDOUT_FILENO, line_printer::magnitude(x) as u64);
-}
-
-// The answers, a number each.
-fn say_answers(answers: &[u8]) {
-    let mut i = 0;
-    while i < answers.len() {
-        say(b" ");
-        io::print_decimal(STDOUT_FILENO, lists::wide_byte(answers[i]) as u64);
-        i += 1;
-    }
-}
-
-fn say_cells(cells: &[i32]) {
-    let mut i = 0;
-    while i < cells.len() {
-        say(b" ");
-        say_number(cells[i]);
-        i += 1;
-    }
-}
+use run_printer::load;
+use run_printer::say;
+use run_printer::say_answers;
+use run_printer::say_cells;
 
 // A run of the engine: its number and line, all the answers and all the cells.
 fn show(text: &[u8], schedule: &[u8], answers: &mut [u8], cells: &mut [i32]) {
@@ -41,22 +15,10 @@ fn show(text: &[u8], schedule: &[u8], answers: &mut [u8], cells: &mut [i32]) {
     say(b" line ");
     io::print_decimal(STDOUT_FILENO, outcome.line as u64);
     say(b", answers");
-    say_answers(answers);
+    say_answers(answers, answers.len());
     say(b", cells");
     say_cells(cells);
     say(b"\n");
-}
-
-// The bytes of a file, as many as the buffer takes.
-fn load(path: &[u8], buffer: &mut [u8]) -> usize {
-    let file = os::open_read(path);
-    if file < 0 {
-        os::fail(path);
-        return 0;
-    }
-    let n = io::read_full(file, buffer);
-    libc::close(file);
-    n
 }
 
 // The number of a call and the cells that it left.
@@ -99,9 +61,7 @@ fn show_named(text: &[u8], steps: &[u8], right: &[u8]) {
     let mut cells = [99i32; 66];
     let m = load(steps, &mut schedule);
     load(right, &mut stored);
-    if m <= 40001 {
-        show_beside(text, &schedule[..m], &stored, &mut answers, &mut cells);
-    }
+    show_beside(text, &schedule[..m], &stored, &mut answers, &mut cells);
 }
 
 // Run `i` of the request that two digits name, with its answers beside it.
@@ -142,9 +102,7 @@ fn show_run(r: u8, q: u8, i: usize) {
     ];
     let mut text = [0u8; 32978];
     let n = load(&table, &mut text);
-    if n <= 32978 {
-        show_named(&text[..n], &steps, &right);
-    }
+    show_named(&text[..n], &steps, &right);
 }
 
 // The first runs of a request, so many.
@@ -188,10 +146,8 @@ fn show_short(text: &[u8]) {
 fn show_edges() {
     let mut text = [0u8; 32978];
     let n = load(b"sum.table", &mut text);
-    if n <= 32978 {
-        show_sum(&text[..n]);
-        show_short(&text[..n]);
-    }
+    show_sum(&text[..n]);
+    show_short(&text[..n]);
 }
 
 fn main() {

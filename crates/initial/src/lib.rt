@@ -125,7 +125,10 @@ fn effect_at(
     }
     let line = base + s;
     let own = attributes::set_on(touched(numbers, line, false, writes), flow);
-    sets::union(own, attributes::set_on(attributes::names_at(numbers, line), effect))
+    sets::union(
+        own,
+        attributes::set_on(attributes::names_at(numbers, line), effect),
+    )
 }
 
 // The effect of the statement that is referred to, if one is.

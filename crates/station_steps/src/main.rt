@@ -1,6 +1,8 @@
 // Steps a table by a schedule and prints a line a step: 55, thread, answer, five zeros, and then each cell's value; or line 50 on refusal. The first argument names a file with the
 // table text, the second a file with the schedule, each byte a thread number.
 use libc::STDOUT_FILENO;
+use run_printer::say;
+use run_printer::say_number;
 
 // One step: its thread and its answer.
 fn print_step(thread: u8, answer: u8) {
@@ -23,20 +25,11 @@ fn print_steps(schedule: &[u8], answers: &[u8]) {
     }
 }
 
-fn say(text: &[u8]) {
-    io::write_all(STDOUT_FILENO, text);
-}
-
 // A cell and its value: `cell K V`.
 fn print_cell(cell: usize, value: i32) {
     say(b"cell ");
     io::print_decimal(STDOUT_FILENO, cell as u64);
-    if value < 0 {
-        say(b" -");
-    } else {
-        say(b" ");
-    }
-    io::print_decimal(STDOUT_FILENO, line_printer::magnitude(value) as u64);
+    say_number(value);
     say(b"\n");
 }
 

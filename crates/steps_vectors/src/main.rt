@@ -9,43 +9,22 @@ ghost use Rattle.table.specs.Table.{tableOf};
 ghost use Rattle.table.specs.Accepted.{Accepted};
 ghost use Rattle.run_state.specs.Lists.{cellsIn};
 ghost use Rattle.run_state.specs.Shown.{Standing};
-use libc::STDOUT_FILENO;
+use run_printer::load;
+use run_printer::say;
+use run_printer::say_answers;
+use run_printer::say_cells;
 use run_state::Sizes;
 use table::Verdict;
 
-fn say(text: &[u8]) {
-    io::write_all(STDOUT_FILENO, text);
-}
-
-fn say_number(x: i32) {
-    if x < 0 {
-        say(b" -");
-    } else {
-        say(b" ");
-    }
-    io::print_decimal(STDOUT_FILENO, line_printer::magnitude(x) as u64);
-}
-
 // The first answers, so many.
-fn say_answers(answers: &[u8; 300], count: usize) {
+fn say_first(answers: &[u8; 300], count: usize) {
     say(b"answers");
-    let mut i = 0;
-    while i < count {
-        if i < 300 {
-            say(b" ");
-            io::print_decimal(STDOUT_FILENO, lists::wide_byte(answers[i]) as u64);
-        }
-        i += 1;
-    }
+    say_answers(answers, count);
 }
 
-fn say_cells(cells: &[i32]) {
+fn say_left(cells: &[i32]) {
     say(b", cells");
-    let mut i = 0;
-    while i < cells.len() {
-        say_number(cells[i]);
-        i += 1;
-    }
+    say_cells(cells);
     say(b"\n");
 }
 
@@ -54,7 +33,7 @@ fn show_left(registers: &[i32; 80], cells: &mut [i32])
     requires { ⌜ (length (cellsIn (length (now cells)) (now registers)) ≡ length (now cells)) × (length (now cells) ≤ 64) ⌝ }
 {
     run_state::leave(registers, cells);
-    say_cells(cells);
+    say_left(cells);
 }
 
 // Step `i` of a schedule in the lists of a run, by the byte that answers it; 0 past the schedule's end.
@@ -126,10 +105,10 @@ fn take_turns(a: &[i32], b: &[i32], one: &[u8], other: &[u8])
         );
         i += 1;
     }
-    say_answers(&answers_a, one.len());
+    say_first(&answers_a, one.len());
     let mut cells_a = [0i32; 64];
     show_left(&registers_a, &mut cells_a[..sizes_a.cells]);
-    say_answers(&answers_b, other.len());
+    say_first(&answers_b, other.len());
     let mut cells_b = [0i32; 64];
     show_left(&registers_b, &mut cells_b[..sizes_b.cells]);
 }
@@ -178,24 +157,12 @@ fn show_alone(text: &[u8], schedule: &[u8]) {
     let mut answers = [0u8; 300];
     let mut cells = [0i32; 64];
     engine::run(text, schedule, &mut answers, &mut cells);
-    say_answers(&answers, schedule.len());
+    say_first(&answers, schedule.len());
     let header = lines::read_line(text, 0);
     let count = table::field_of(&header.numbers[..], 0, 1);
     if count <= 64 {
-        say_cells(&cells[..count]);
+        say_left(&cells[..count]);
     }
-}
-
-// The bytes of a file, as many as the buffer takes.
-fn load(path: &[u8], buffer: &mut [u8]) -> usize {
-    let file = os::open_read(path);
-    if file < 0 {
-        os::fail(path);
-        return 0;
-    }
-    let n = io::read_full(file, buffer);
-    libc::close(file);
-    n
 }
 
 // The tables and schedules of these names, in turn and by themselves.
@@ -208,18 +175,6 @@ fn show_pair(table_a: &[u8], schedule_a: &[u8], table_b: &[u8], schedule_b: &[u8
     let m = load(table_b, &mut text_b);
     let k = load(schedule_a, &mut one);
     let l = load(schedule_b, &mut other);
-    if 3136 < n {
-        return;
-    }
-    if 3136 < m {
-        return;
-    }
-    if 300 < k {
-        return;
-    }
-    if 300 < l {
-        return;
-    }
     show_turns(&text_a[..n], &text_b[..m], &one[..k], &other[..l]);
     show_alone(&text_a[..n], &one[..k]);
     show_alone(&text_b[..m], &other[..l]);

@@ -17,8 +17,8 @@ slice-aggregate-run-2 c = search needs
 run-requires : tie.Need-run-requires
 run-requires c κs = search needs
 
-say-answers-requires : tie.Need-say-answers-requires
-say-answers-requires c κs = search needs
+say-first-requires : tie.Need-say-first-requires
+say-first-requires c κs = search needs
 
 read-line-requires : tie.Need-read-line-requires
 read-line-requires c κs = search needs
@@ -29,11 +29,11 @@ field-of-requires c κs = search needs
 array-share-prefix-cells : tie.Need-array-share-prefix-cells
 array-share-prefix-cells c = search needs
 
-slice-aggregate-say-cells : tie.Need-slice-aggregate-say-cells
-slice-aggregate-say-cells c = let l : c .before .before .field-of .result ≤ length (c .before .before .before .before .before .before .before .before .before .before .before .run .last .1 .1 .1 .0) = omega (arith, c .before .before .before .before .before .before .before .before .before .before .before .run .kept .1 .1 .1 .0) in sym (length-take-le _ _ l)
+slice-aggregate-say-left : tie.Need-slice-aggregate-say-left
+slice-aggregate-say-left c = let l : c .before .before .field-of .result ≤ length (c .before .before .before .before .before .before .before .before .before .before .before .run .last .1 .1 .1 .0) = omega (arith, c .before .before .before .before .before .before .before .before .before .before .before .run .kept .1 .1 .1 .0) in sym (length-take-le _ _ l)
 
-say-cells-requires : tie.Need-say-cells-requires
-say-cells-requires c κs = search needs
+say-left-requires : tie.Need-say-left-requires
+say-left-requires c κs = search needs
 
 returns : tie.Need-returns
 returns c = search needs
@@ -48,11 +48,11 @@ show-alone-spec =
     slice-aggregate-run
     slice-aggregate-run-2
     run-requires
-    say-answers-requires
+    say-first-requires
     read-line-requires
     field-of-requires
     array-share-prefix-cells
-    slice-aggregate-say-cells
-    say-cells-requires
+    slice-aggregate-say-left
+    say-left-requires
     returns
     returns-2)

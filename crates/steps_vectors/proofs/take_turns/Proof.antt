@@ -65,8 +65,8 @@ loop-less c = omega (arith, c .before .before .before .before .before .before .b
 loop-again : tie.Need-loop-again Inv-loop μ-loop
 loop-again c = record { one = c .before .before .before .before .before .before .step-at .ensures; other = c .step-at2 .ensures; low = omega (arith, c .before .before .before .before .before .before .before .before .before .before .before .before .loop-test .taken) }
 
-say-answers-requires : tie.Need-say-answers-requires Inv-loop μ-loop
-say-answers-requires c κs = search needs
+say-first-requires : tie.Need-say-first-requires Inv-loop μ-loop
+say-first-requires c κs = search needs
 
 array-borrow-prefix-cells-a : tie.Need-array-borrow-prefix-cells-a Inv-loop μ-loop
 array-borrow-prefix-cells-a c = cells-few _ _ _ _ _ _ _ (c .before .before .before .before .loop .inv .one)
@@ -77,8 +77,8 @@ slice-aggregate-show-left c = cut-long {A = ℤ} _ 64 (pos 0) (cells-few _ _ _ _
 show-left-requires : tie.Need-show-left-requires Inv-loop μ-loop
 show-left-requires c κs = let n = c .before .before .before .before .before .before .before .before .before .before .before .before .before .before .before .before .before .before .before .sizes-of .result .cells in let s = c .before .before .before .before .before .loop .inv .one in cells-fit _ _ _ _ _ _ _ s (take n (replicate 64 (pos 0))) (cut-long {A = ℤ} n 64 (pos 0) (cells-few _ _ _ _ _ _ _ s))
 
-say-answers-requires-2 : tie.Need-say-answers-requires-2 Inv-loop μ-loop
-say-answers-requires-2 c κs = search needs
+say-first-requires-2 : tie.Need-say-first-requires-2 Inv-loop μ-loop
+say-first-requires-2 c κs = search needs
 
 array-borrow-prefix-cells-b : tie.Need-array-borrow-prefix-cells-b Inv-loop μ-loop
 array-borrow-prefix-cells-b c = cells-few _ _ _ _ _ _ _ (c .before .before .before .before .before .before .before .before .before .before .loop .inv .other)
@@ -114,11 +114,11 @@ take-turns-spec =
     add-i
     loop-less
     loop-again
-    say-answers-requires
+    say-first-requires
     array-borrow-prefix-cells-a
     slice-aggregate-show-left
     show-left-requires
-    say-answers-requires-2
+    say-first-requires-2
     array-borrow-prefix-cells-b
     slice-aggregate-show-left-2
     show-left-requires-2

@@ -1,24 +1,17 @@
--- `engine_vectors::say_answers` meets its contract. Assumes nothing.
+-- `run_printer::say_answers` meets its contract. Assumes nothing.
 use borrow.Author.Needs.{needs}
 use Prim.Native.Nat.{_≤_, _-_}
-use lib.ListN.{length}
-use Rattle.engine_vectors.proofs.say_answers.Statement.{statement}
-use Rattle.engine_vectors.proofs.say_answers.Tie as tie
+use Rattle.run_printer.proofs.say_answers.Statement.{statement}
+use Rattle.run_printer.proofs.say_answers.Tie as tie
 
 abbrev Inv-loop : tie.InvT-loop
-Inv-loop answers i₀ t3 i = i ≤ length answers
+Inv-loop answers count i₀ i = i ≤ count
 
 abbrev μ-loop : tie.MeasureT-loop
-μ-loop answers i₀ t3 i = length answers - i
+μ-loop answers count i₀ i = count - i
 
 loop-holds : tie.Need-loop-holds Inv-loop μ-loop
 loop-holds c = search needs
-
-slice-aggregate-say : tie.Need-slice-aggregate-say Inv-loop μ-loop
-slice-aggregate-say c = search needs
-
-say-requires : tie.Need-say-requires Inv-loop μ-loop
-say-requires c κs = search needs
 
 shared-slice-read-wide-byte : tie.Need-shared-slice-read-wide-byte Inv-loop μ-loop
 shared-slice-read-wide-byte c = search needs
@@ -26,8 +19,11 @@ shared-slice-read-wide-byte c = search needs
 wide-byte-requires : tie.Need-wide-byte-requires Inv-loop μ-loop
 wide-byte-requires c κs = search needs
 
-print-decimal-requires : tie.Need-print-decimal-requires Inv-loop μ-loop
-print-decimal-requires c κs = search needs
+cast-say-number : tie.Need-cast-say-number Inv-loop μ-loop
+cast-say-number c = search needs
+
+say-number-requires : tie.Need-say-number-requires Inv-loop μ-loop
+say-number-requires c κs = search needs
 
 add-i : tie.Need-add-i Inv-loop μ-loop
 add-i c = search needs
@@ -48,11 +44,10 @@ say-answers-spec =
     Inv-loop
     μ-loop
     loop-holds
-    slice-aggregate-say
-    say-requires
     shared-slice-read-wide-byte
     wide-byte-requires
-    print-decimal-requires
+    cast-say-number
+    say-number-requires
     add-i
     loop-less
     loop-again

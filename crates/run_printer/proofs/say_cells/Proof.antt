@@ -1,24 +1,18 @@
--- `engine_vectors::say_cells` meets its contract. Assumes nothing.
+-- `run_printer::say_cells` meets its contract. Assumes nothing.
 use borrow.Author.Needs.{needs}
 use Prim.Native.Nat.{_≤_, _-_}
 use lib.ListN.{length}
-use Rattle.engine_vectors.proofs.say_cells.Statement.{statement}
-use Rattle.engine_vectors.proofs.say_cells.Tie as tie
+use Rattle.run_printer.proofs.say_cells.Statement.{statement}
+use Rattle.run_printer.proofs.say_cells.Tie as tie
 
 abbrev Inv-loop : tie.InvT-loop
-Inv-loop cells i₀ t3 i = i ≤ length cells
+Inv-loop cells i₀ i = i ≤ length cells
 
 abbrev μ-loop : tie.MeasureT-loop
-μ-loop cells i₀ t3 i = length cells - i
+μ-loop cells i₀ i = length cells - i
 
 loop-holds : tie.Need-loop-holds Inv-loop μ-loop
 loop-holds c = search needs
-
-slice-aggregate-say : tie.Need-slice-aggregate-say Inv-loop μ-loop
-slice-aggregate-say c = search needs
-
-say-requires : tie.Need-say-requires Inv-loop μ-loop
-say-requires c κs = search needs
 
 mul-say-number : tie.Need-mul-say-number Inv-loop μ-loop
 mul-say-number c = search needs
@@ -48,8 +42,6 @@ say-cells-spec =
     Inv-loop
     μ-loop
     loop-holds
-    slice-aggregate-say
-    say-requires
     mul-say-number
     shared-slice-copy-out-say-number
     say-number-requires
