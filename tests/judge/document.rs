@@ -266,6 +266,8 @@ pub struct Findings {
     pub shared: Vec<bool>,
     pub common: Vec<Set>,
     pub stray: Vec<usize>,
+    /// Some READ or WRITE has more than one cell in its handle's set.
+    pub several: bool,
 }
 
 impl Findings {
@@ -286,6 +288,20 @@ fn until_still<T: PartialEq + Clone>(mut value: T, change: impl Fn(&mut T)) -> T
             return value;
         }
     }
+}
+
+/// C-20: the counts of line 51 in one walk over the statements, adding to each cell in the handle's set; reads and writes.
+fn walked(t: &Table, flow: &[Set]) -> [Vec<usize>; 2] {
+    let mut counts = [vec![0; t.cells], vec![0; t.cells]];
+    for op in &t.statements {
+        let (h, write) = match *op {
+            Op::Read(h) => (h, 0),
+            Op::Write(h) => (h, 1),
+            _ => continue,
+        };
+        (0..t.cells).filter(|x| flow[h] >> x & 1 == 1).for_each(|x| counts[write][x] += 1);
+    }
+    counts
 }
 
 pub fn findings(t: &Table) -> Findings {
@@ -372,7 +388,8 @@ pub fn findings(t: &Table) -> Findings {
         }
         *held = new;
     });
-    let mut found = Findings { reads: vec![], writes: vec![], shared: vec![], common: vec![], stray: vec![] };
+    let several = t.statements.iter().any(|op| matches!(*op, Op::Read(h) | Op::Write(h) if flow[h].count_ones() > 1));
+    let mut found = Findings { reads: vec![], writes: vec![], shared: vec![], common: vec![], stray: vec![], several };
     for x in 0..t.cells {
         let has = |set: Set| set >> x & 1 == 1;
         let accesses = |write: bool| {
@@ -396,6 +413,8 @@ pub fn findings(t: &Table) -> Findings {
             _ => false,
         }));
     }
+    let [reads, writes] = walked(t, &flow);
+    assert_eq!((&reads, &writes), (&found.reads, &found.writes), "C-20: the walk and the counts cell by cell");
     for s in 0..n {
         if let Op::Give(h) = t.statements[s] {
             if flow[h].count_ones() != 1 || flow[h] & held[s] == 0 {

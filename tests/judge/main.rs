@@ -101,7 +101,7 @@ fn compare_run(r: &mut Random, text: &[u8], schedule: &[u8], want: &Result<Table
 
 fn compare(seed: u64, texts: usize) {
     let mut r = Random(seed * 2 + 88172645463325252);
-    let (mut reports, mut steps, mut ends, mut loads) = ([0; 20], [0; 20], [0; 2], 0);
+    let (mut reports, mut steps, mut ends, mut loads, mut several) = ([0; 20], [0; 20], [0; 2], 0, 0);
     for i in 0..texts {
         let mut text = if i % 100 == 99 { generate::sums(&mut r) } else { generate::table(&mut r, i % 50 == 0) };
         let schedule = if i % 100 == 99 { generate::long_schedule(&mut r) } else { generate::schedule(&mut r) };
@@ -114,10 +114,12 @@ fn compare(seed: u64, texts: usize) {
         compare_report(&mut r, &text, &want, &mut reports);
         compare_run(&mut r, &text, &schedule, &want, &mut steps, &mut ends);
         let may = unsafe { station_may_load_text(text.as_ptr(), text.len()) };
-        assert_eq!(may, want.as_ref().map_or(false, |t| findings(t).clean()), "the loader's question on\n{}", String::from_utf8_lossy(&text));
+        let found = want.as_ref().ok().map(findings);
+        assert_eq!(may, found.as_ref().map_or(false, |f| f.clean()), "the loader's question on\n{}", String::from_utf8_lossy(&text));
         loads += may as usize;
+        several += found.map_or(false, |f| f.several) as usize;
     }
-    println!("{texts} texts, seed {seed}: refusals 0 to 13 met {:?}; answers to steps 0 and 14 to 19 met {} {:?}; cells left at -2147483648 and at 2147483647 {ends:?}; {loads} may be loaded", &reports[..14], steps[0], &steps[14..]);
+    println!("{texts} texts, seed {seed}: refusals 0 to 13 met {:?}; answers to steps 0 and 14 to 19 met {} {:?}; cells left at -2147483648 and at 2147483647 {ends:?}; {several} with an access of several cells; {loads} may be loaded", &reports[..14], steps[0], &steps[14..]);
     for n in 1..=13 {
         assert!(reports[n] > 0 || texts < 20000, "refusal {n} was never met");
     }
@@ -125,6 +127,7 @@ fn compare(seed: u64, texts: usize) {
         assert!(steps[n] > 0 || texts < 20000, "step answer {n} was never met");
     }
     assert!(ends[0] > 0 && ends[1] > 0 || texts < 20000, "no sum stopped at an end");
+    assert!(several > 0 || texts < 20000, "no statement counted for several cells");
     assert_eq!(steps[19], 0, "step answer 19 was met");
 }
 

@@ -1,6 +1,6 @@
 -- From the sets of a table to what is found, and from what is found to the report's totals. Assumes nothing.
-use mathlib.Core.Path.{_≡_, refl, sym, ap, ap₂, _∙_}
-use mathlib.Core.Bool.{Bool, false, cond}
+use mathlib.Core.Path.{_≡_, refl, sym, ap, ap₂, _∙_, fun-ext}
+use mathlib.Core.Bool.{Bool, true, false, cond}
 use mathlib.Core.List.{List, _++_}
 use Prim.Native.Nat.{ℕ, zero, suc, _+_, _≤_, _<_}
 use native.Mathlib.Omega.{arith}
@@ -10,6 +10,7 @@ use lib.Seq.{getD-append-add}
 use Rattle.sets.specs.Set.{has, firsts, union, inter}
 use Rattle.table.specs.Header.{cells, locks, routines, statements}
 use Rattle.table.specs.Table.{Table, tableOf}
+use Rattle.table.specs.TabulateLaws.{tabulate-same}
 use Rattle.table.specs.Accepted.{Accepted}
 use Rattle.table.specs.LookupLaws.{statement-is, statements-length, routines-length, cells-is, locks-is}
 use Rattle.report.specs.Over.{unionFrom, interFrom, countFrom}
@@ -22,30 +23,32 @@ use Rattle.report.specs.Effect.{effects}
 use Rattle.report.specs.EffectLaws.{effects-sets}
 use Rattle.report.specs.FutureLaws.{futures-sets}
 use Rattle.report.specs.Held.{allLocks}
-use Rattle.report.specs.Findings.{setsOf, sharedAt, sharedCells, ownAccess, touchesAt, commonLocks, strayAt, accessCount, isStray, isUnguarded}
-use Rattle.report.specs.OneCopy.{count-one-copy, stray-one-copy}
+use Rattle.report.specs.Findings.{setsOf, sharedAt, sharedCells, ownAccess, touchesAt, commonLocks, strayAt, statementAccess, accessCount, isStray, isUnguarded}
+use Rattle.report.specs.Counts.{Counts, noCounts, addAccess, walkFrom, walked, cellByCell}
+use Rattle.report.specs.CountsLaws.{walk-is-cell-by-cell}
+use Rattle.report.specs.Report.{bit}
+use Rattle.report.specs.OneCopy.{access-one-copy, stray-one-copy}
 use Rattle.report.specs.ReportLaws.{unguardedCell}
-use Rattle.findings.specs.Steps.{ownBy, accesses, heldAt, sharedBy, strayIn, unguardedIn}
-use Rattle.findings.specs.NoteLaws.{Noted}
+use Rattle.findings.specs.Steps.{ownBy, accesses, heldAt, commonBy, walkBy, notedBy, sharedBy, strayIn, unguardedIn}
+use Rattle.findings.specs.FoldLaws.{fold-same, fold-union, fold-inter, fold-count, fold-walk}
+use Rattle.findings.specs.PartLaws.{threeParts, first-part, second-part, third-part}
+use Rattle.findings.specs.NoteLaws.{countPlace}
 use Rattle.findings.specs.Found.{setsIn, Found}
 
 -- ---- the same at each number
 
-union-same : (from n : ℕ) (g h : ℕ → ℕ) → ((i : ℕ) → i < from + n → g i ≡ h i) → unionFrom from n g ≡ unionFrom from n h
-unfolding unionFrom
-union-same from zero g h e = refl
-union-same from (suc n) g h e = ap₂ union (e from (omega arith)) (union-same (from + 1) n g h (λ i b. e i (omega arith)))
+union-same : (n : ℕ) (g h : ℕ → ℕ) → ((i : ℕ) → i < n → g i ≡ h i) → unionFrom 0 n g ≡ unionFrom 0 n h
+union-same n g h e = sym (fold-union 0 n g) ∙ fold-same _ _ 0 0 n (λ i b. ap union (e i (omega arith))) ∙ fold-union 0 n h
 
-inter-same : (all from n : ℕ) (g h : ℕ → ℕ) → ((i : ℕ) → i < from + n → g i ≡ h i) → interFrom all from n g ≡ interFrom all from n h
-unfolding interFrom
-inter-same all from zero g h e = refl
-inter-same all from (suc n) g h e = ap₂ inter (e from (omega arith)) (inter-same all (from + 1) n g h (λ i b. e i (omega arith)))
+inter-same : (all n : ℕ) (g h : ℕ → ℕ) → ((i : ℕ) → i < n → g i ≡ h i) → interFrom all 0 n g ≡ interFrom all 0 n h
+inter-same all n g h e = sym (fold-inter all 0 n g) ∙ fold-same _ _ all 0 n (λ i b. ap inter (e i (omega arith))) ∙ fold-inter all 0 n h
 
-count-alike : (from n : ℕ) (g h : ℕ → Bool) → ((i : ℕ) → i < from + n → g i ≡ h i) → countFrom from n g ≡ countFrom from n h
-unfolding countFrom
-count-alike from zero g h e = refl
-count-alike from (suc n) g h e =
-    ap₂ (λ (b : Bool) (m : ℕ). cond b 1 0 + m) (e from (omega arith)) (count-alike (from + 1) n g h (λ i b. e i (omega arith)))
+count-same : (n : ℕ) (g h : ℕ → Bool) → ((i : ℕ) → i < n → g i ≡ h i) → countFrom 0 n g ≡ countFrom 0 n h
+count-same n g h e = sym (fold-count 0 n g) ∙ fold-same _ _ 0 0 n (λ i b. ap (λ (x : Bool). _+_ (bit x)) (e i (omega arith))) ∙ fold-count 0 n h
+
+walk-same : (cells n : ℕ) (g h : Bool → ℕ → ℕ) → ((w : Bool) (i : ℕ) → i < n → g w i ≡ h w i) → walkFrom g cells 0 n ≡ walkFrom h cells 0 n
+walk-same cells n g h e =
+    sym (fold-walk g cells 0 n) ∙ fold-same _ _ (noCounts cells) 0 n (λ i b. ap addAccess (fun-ext (λ w. e w i (omega arith)))) ∙ fold-walk h cells 0 n
 
 module _ (f : List ℤ) where
   abbrev t : Table
@@ -86,7 +89,7 @@ module _ (f : List ℤ) where
     pub shared-found : unionFrom 0 (statements f) (sharedBy f reads writes later (statements f + routines f)) ≡ sharedCells t (oneEach t) (setsIn t)
     unfolding sharedCells oneEach
     shared-found =
-        union-same 0 (statements f) _ (sharedAt t (oneEach t) (setsIn t)) (λ i h. shared-at i (omega arith))
+        union-same (statements f) _ (sharedAt t (oneEach t) (setsIn t)) shared-at
         ∙ ap (λ (n : ℕ). unionFrom 0 n (sharedAt t (oneEach t) (setsIn t))) (sym (statements-length f))
 
   -- ---- accesses
@@ -96,13 +99,13 @@ module _ (f : List ℤ) where
     unfolding ownBy ownAccess oneEach
     own-is w p h = rw (statement-is f p h, flow-is)
 
-    counted : (w : Bool) (x : ℕ) → countFrom 0 (statements f) (accesses f flow w x) ≡ accessCount t (oneEach t) (setsIn t) w x
-    unfolding accesses
-    counted w x =
-        count-alike 0 (statements f) (accesses f flow w x) (λ p. has (ownAccess t (oneEach t) (setsIn t) w p) x)
-        (λ i h. ap (λ (s : ℕ). has s x) (own-is w i (omega arith)))
-        ∙ ap (λ (n : ℕ). countFrom 0 n (λ p. has (ownAccess t (oneEach t) (setsIn t) w p) x)) (sym (statements-length f))
-        ∙ sym (count-one-copy t (setsIn t) w x)
+    -- the walk is that of the table, and so gives its counts
+    walk-is : walkBy f flow ≡ cellByCell t (oneEach t) (setsIn t) 64
+    unfolding walkBy walked
+    walk-is =
+        walk-same 64 (statements f) (ownBy f flow) (statementAccess t (oneEach t) (setsIn t)) (λ w s h. own-is w s h ∙ sym (access-one-copy t (setsIn t) w s))
+        ∙ ap (λ (n : ℕ). walkFrom (statementAccess t (oneEach t) (setsIn t)) 64 0 n) (sym (statements-length f))
+        ∙ walk-is-cell-by-cell t (oneEach t) (setsIn t) 64
 
     abbrev left : ℕ → ℕ → ℕ
     left x p = cond (touchesAt t (oneEach t) (setsIn t) x p) (getD (setsIn t .held) p 0) (allLocks t)
@@ -111,23 +114,34 @@ module _ (f : List ℤ) where
     unfolding heldAt accesses touchesAt
     held-at x p h = rw (own-is reading p h, own-is writing p h, held-is, locks-is f)
 
-    common-at : (x : ℕ) → interFrom (firsts (locks f)) 0 (statements f) (heldAt f flow held x) ≡ commonLocks t (oneEach t) (setsIn t) x
-    unfolding commonLocks oneEach
+    common-at : (x : ℕ) → commonBy f flow held x ≡ commonLocks t (oneEach t) (setsIn t) x
+    unfolding commonBy commonLocks oneEach
     common-at x =
-        inter-same (firsts (locks f)) 0 (statements f) (heldAt f flow held x) (left x) (λ i b. held-at x i (omega arith))
+        inter-same (firsts (locks f)) (statements f) (heldAt f flow held x) (left x) (held-at x)
         ∙ ap₂ (λ (s n : ℕ). interFrom s 0 n (left x)) (ap firsts (sym (locks-is f))) (sym (statements-length f))
 
+    noted-is : {noted : List ℕ} → noted ≡ notedBy f flow held
+        → noted ≡ threeParts (commonLocks t (oneEach t) (setsIn t)) (accessCount t (oneEach t) (setsIn t) reading) (accessCount t (oneEach t) (setsIn t) writing)
+    unfolding notedBy cellByCell
+    noted-is e = e ∙ ap₂ (λ (l : List ℕ) (c : Counts). l ++ (c .reads ++ c .writes)) (tabulate-same 64 _ _ (λ x l. common-at x)) walk-is
+
     -- what the walk over the statements noted is what is found
-    pub found : Accepted t → (shared : ℕ) (noted : List ℕ) → shared ≡ sharedCells t (oneEach t) (setsIn t) → Noted f flow held noted → Found f flow held shared noted
-    found acc shared noted shared-is n =
+    pub found : Accepted t → (shared : ℕ) (noted : List ℕ) → shared ≡ sharedCells t (oneEach t) (setsIn t) → noted ≡ notedBy f flow held → Found f flow held shared noted
+    found acc shared noted shared-is e =
         let few : cells f ≤ 64 = cells-few acc in
         record {
           flow-is = flow-is;
           held-is = held-is;
           shared-is = shared-is;
-          common-is = λ x h. n .common-is x (omega (arith, cells-is f)) ∙ common-at x;
-          counts-is = λ w x h. n .counts-is w x (omega (arith, cells-is f)) ∙ counted w x;
+          common-is = λ x h. ap (λ (l : List ℕ). getD l x 0) (noted-is e) ∙ first-part _ _ _ x (omega (arith, cells-is f));
+          counts-is = λ w x h. ap (λ (l : List ℕ). getD l (countPlace w + x) 0) (noted-is e) ∙ counts w x (omega (arith, cells-is f));
         }
+      where
+        counts : (w : Bool) (x : ℕ) → x < 64
+            → getD (threeParts (commonLocks t (oneEach t) (setsIn t)) (accessCount t (oneEach t) (setsIn t) reading) (accessCount t (oneEach t) (setsIn t) writing)) (countPlace w + x) 0
+            ≡ accessCount t (oneEach t) (setsIn t) w x
+        counts false x l = second-part _ _ _ x l
+        counts true x l = third-part _ _ _ x l
 
   -- ---- the totals
 
@@ -138,12 +152,12 @@ module _ (f : List ℤ) where
 
     pub strays-counted : countFrom 0 (statements f) (strayIn f flow held) ≡ countFrom 0 (length (t .statements)) (isStray t (oneEach t) (setsIn t))
     strays-counted =
-        count-alike 0 (statements f) (strayIn f flow held) (isStray t (oneEach t) (setsIn t)) (λ p h. stray-is p (omega arith))
+        count-same (statements f) (strayIn f flow held) (isStray t (oneEach t) (setsIn t)) stray-is
         ∙ ap (λ (n : ℕ). countFrom 0 n (isStray t (oneEach t) (setsIn t))) (sym (statements-length f))
 
     pub unguarded-counted : countFrom 0 (cells f) (unguardedIn shared noted) ≡ countFrom 0 (t .cells) (unguardedCell t (oneEach t))
     unfolding unguardedIn unguardedCell
     unguarded-counted =
-        count-alike 0 (cells f) (unguardedIn shared noted) (unguardedCell t (oneEach t))
+        count-same (cells f) (unguardedIn shared noted) (unguardedCell t (oneEach t))
         (λ x h. ap₂ (λ (s c : ℕ). isUnguarded s c x) (is .shared-is) (is .common-is x (omega (arith, cells-is f))))
         ∙ ap (λ (n : ℕ). countFrom 0 n (unguardedCell t (oneEach t))) (sym (cells-is f))

@@ -1,5 +1,6 @@
 pub mod Steps
 pub mod FoldLaws
+pub mod PartLaws
 pub mod NoteLaws
 pub mod LineLaws
 pub mod Found

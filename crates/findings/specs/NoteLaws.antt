@@ -1,7 +1,7 @@
--- Accesses noted cell by cell, statement by statement: how many read and write each cell, and which locks all of them hold. Assumes nothing.
-use mathlib.Core.Path.{_≡_, refl, sym, ap, _∙_, subst}
+-- Accesses noted statement by statement: which locks all of a cell's accesses hold, and the counts of the walk. Assumes nothing.
+use mathlib.Core.Path.{_≡_, refl, sym, ap, ap₂, _∙_, subst}
 use mathlib.Core.Bool.{Bool, true, false, cond, not, _&&_, _||_}
-use mathlib.Core.List.{List}
+use mathlib.Core.List.{List, _++_}
 use Prim.Native.Nat.{ℕ, zero, suc, _+_, _-_, _^_, _≤_, _<_}
 use native.Mathlib.Omega.{arith}
 use native.Mathlib.Nat.{zero-add}
@@ -15,22 +15,23 @@ use Rattle.sets.specs.Set.{has, inter, minus, one, count, lowest, firsts}
 use Rattle.sets.specs.declared.Which.the-variants.{Element}
 use Rattle.sets.specs.SetLaws.{has-minus, has-one, has-empty, has-inter, same-elements, minus-below, count-inside-less, has-beyond, lowest-is}
 use Rattle.table.specs.Header.{locks, statements}
-use Rattle.table.specs.TabulateLaws.{Begun}
-use Rattle.report.specs.Over.{interFrom, countFrom}
+use Rattle.table.specs.Tabulate.{tabulate}
+use Rattle.table.specs.TabulateLaws.{Begun, getD-tabulate, tabulate-same}
 use Rattle.report.specs.Operations.{reading, writing}
 use Rattle.report.specs.Report.{bit}
-use Rattle.findings.specs.Steps.{foldFrom, ownBy, accesses, heldAt}
-use Rattle.findings.specs.FoldLaws.{Folding, folding-start, folding-next, folding-done, fold-inter, fold-count}
+use Rattle.report.specs.Counts.{Counts, noCounts, addEach, addAccess, walkFrom}
+use Rattle.report.specs.CountsLaws.{add-tabulate, walk-counts, walk-few}
+use Rattle.findings.specs.Steps.{foldFrom, ownBy, accesses, heldAt, commonBy, walkBy, notedBy}
+use Rattle.findings.specs.PartLaws.{parts-long, in-three-parts}
+use Rattle.findings.specs.FoldLaws.{Folding, folding-start, folding-next, folding-done, fold-inter, fold-walk}
 
 -- where the statements that read, or write, a cell are counted: so many places behind its common locks
 abbrev pub countPlace : Bool → ℕ
 countPlace w = cond w 128 64
 
--- what is noted of all statements: for each cell the locks common to all its accesses, and how many statements read and write it
-pub record Noted (f : List ℤ) (flow held noted : List ℕ) : Type 0 where
-  pub long : length noted ≡ 192
-  pub common-is : (x : ℕ) → x < 64 → getD noted x 0 ≡ interFrom (firsts (locks f)) 0 (statements f) (heldAt f flow held x)
-  pub counts-is : (w : Bool) (x : ℕ) → x < 64 → getD noted (countPlace w + x) 0 ≡ countFrom 0 (statements f) (accesses f flow w x)
+-- the counts in a list of what is noted
+abbrev pub countsIn : List ℕ → Counts
+countsIn noted = record { reads = tabulate 64 (λ x. getD noted (countPlace reading + x) 0); writes = tabulate 64 (λ x. getD noted (countPlace writing + x) 0) }
 
 -- ---- the cells of one set
 
@@ -193,7 +194,7 @@ module _ {cells held from : ℕ} {noted₀ noted : List ℕ} {rest : ℕ} (low :
 pub record NotedAt (own : Bool → ℕ) (held : ℕ) (noted₀ noted : List ℕ) : Type 0 where
   pub long : length noted ≡ 192
   pub common-is : (x : ℕ) → x < 64 → getD noted x 0 ≡ cond (has (own reading) x || has (own writing) x) (inter held (getD noted₀ x 0)) (getD noted₀ x 0)
-  pub counts-is : (w : Bool) (x : ℕ) → x < 64 → getD noted (countPlace w + x) 0 ≡ bit (has (own w) x) + getD noted₀ (countPlace w + x) 0
+  pub counts-is : countsIn noted ≡ addAccess own (countsIn noted₀)
 
 -- what is met twice is met once
 inter-again : (a b : ℕ) → inter a (inter a b) ≡ inter a b
@@ -206,10 +207,11 @@ inter-again a b = same-elements _ _ (λ i. has-inter a (inter a b) i ∙ ap (λ 
 -- first what it reads, then what it writes
 pub noted-both : {own : Bool → ℕ} {held read written : ℕ} {noted₀ noted₁ noted : List ℕ} → own reading ≡ read → own writing ≡ written
     → Marked read held 64 noted₀ noted₁ → Marked written held 128 noted₁ noted → NotedAt own held noted₀ noted
+unfolding addAccess
 noted-both {own} {held} {read} {written} {noted₀} {noted₁} {noted} r w m n = record {
   long = n .long;
   common-is = λ x l. n .common-is x l ∙ rw (m .common-is x l, r, w) (both (has read x) (has written x) (getD noted₀ x 0));
-  counts-is = counts;
+  counts-is = ap₂ (λ (a b : List ℕ). record { reads = a; writes = b }) reads-counted writes-counted;
 }
   where
     both : (a b : Bool) (common : ℕ)
@@ -219,26 +221,41 @@ noted-both {own} {held} {read} {written} {noted₀} {noted₁} {noted} r w m n =
     both false true common = refl
     both false false common = refl
 
-    counts : (w : Bool) (x : ℕ) → x < 64 → getD noted (countPlace w + x) 0 ≡ bit (has (own w) x) + getD noted₀ (countPlace w + x) 0
-    counts false x l = n .before (64 + x) (omega arith) (omega arith) ∙ m .counts-is x l ∙ rw r
-    counts true x l = n .counts-is x l ∙ rw (m .behind (128 + x) (omega arith), w)
+    reads-counted : countsIn noted .reads ≡ addEach (own reading) (countsIn noted₀ .reads)
+    reads-counted =
+        tabulate-same 64 _ _ (λ x l. n .before (64 + x) (omega arith) (omega arith) ∙ m .counts-is x l ∙ rw r)
+        ∙ sym (add-tabulate (own reading) 64 (λ x. getD noted₀ (64 + x) 0))
+
+    writes-counted : countsIn noted .writes ≡ addEach (own writing) (countsIn noted₀ .writes)
+    writes-counted =
+        tabulate-same 64 _ _ (λ x l. n .counts-is x l ∙ rw (m .behind (128 + x) (omega arith), w))
+        ∙ sym (add-tabulate (own writing) 64 (λ x. getD noted₀ (128 + x) 0))
 
 -- ---- all statements, from the last to the first
 
-pub record Noting (f : List ℤ) (flow held noted : List ℕ) (s : ℕ) : Type 0 where
-  pub long : length noted ≡ 192
-  pub common-is : (x : ℕ) → x < 64 → Folding inter (firsts (locks f)) (statements f) (heldAt f flow held x) (getD noted x 0) s
-  pub counts-is : (w : Bool) (x : ℕ) → x < 64 → Folding _+_ 0 (statements f) (λ p. bit (accesses f flow w x p)) (getD noted (countPlace w + x) 0) s
-  pub counts-few : (w : Bool) (x : ℕ) → x < 64 → getD noted (countPlace w + x) 0 + s ≤ statements f
-  pub few : s ≤ statements f
+module _ (f : List ℤ) (flow held : List ℕ) where
+  -- what one statement leaves of the locks common to all accesses of a cell, and what it adds to the counts
+  abbrev meet : ℕ → ℕ → ℕ → ℕ
+  meet x s common = inter (heldAt f flow held x s) common
+
+  abbrev add : ℕ → Counts → Counts
+  add s c = addAccess (λ w. ownBy f flow w s) c
+
+  pub record Noting (noted : List ℕ) (s : ℕ) : Type 0 where
+    pub long : length noted ≡ 192
+    pub common-is : (x : ℕ) → x < 64 → Folding (meet x) (firsts (locks f)) (statements f) (getD noted x 0) s
+    pub counts-is : Folding add (noCounts 64) (statements f) (countsIn noted) s
 
 -- the intersection with all changes nothing
-fold-within : (all : ℕ) (from n : ℕ) (g : ℕ → ℕ) (i : ℕ) → has (foldFrom inter all from n g) i ≡ true → has all i ≡ true
+fold-within : (all : ℕ) (from n : ℕ) (g : ℕ → ℕ) (i : ℕ) → has (foldFrom (λ s. inter (g s)) all from n) i ≡ true → has all i ≡ true
 unfolding foldFrom
 fold-within all from zero g i h = h
 fold-within all from (suc n) g i h =
-    fold-within all (from + 1) n g i (second (has (g from) i) (has (foldFrom inter all (from + 1) n g) i) (sym (has-inter (g from) (foldFrom inter all (from + 1) n g) i) ∙ h))
+    fold-within all (from + 1) n g i (second (has (g from) i) (has (behind from) i) (sym (has-inter (g from) (behind from) i) ∙ h))
   where
+    behind : ℕ → ℕ
+    behind p = foldFrom (λ s. inter (g s)) all (p + 1) n
+
     second : (a b : Bool) → (a && b) ≡ true → b ≡ true
     second true b e = e
     second false b e = absurd (let w : _≡_ {A = ℕ} 0 1 = cc in omega arith)
@@ -251,36 +268,49 @@ inter-all all acc h = same-elements (inter all acc) acc (λ i. has-inter all acc
     both true false k = refl
     both false false k = refl
 
-count-behind : (w : Bool) (x : ℕ) → 64 ≤ countPlace w + x
-count-behind true x = omega arith
-count-behind false x = omega arith
-
 pub noting-start : (f : List ℤ) (flow held noted : List ℕ) (n : ℕ) → n ≡ statements f → Begun (λ x. firsts (locks f)) noted 192 64 → Noting f flow held noted n
+unfolding noCounts
 noting-start f flow held noted n z b =
-    subst (λ (s : ℕ). Noting f flow held noted s) (sym z)
+    subst (Noting f flow held noted) (sym z)
     (record {
       long = b .filled .long;
       common-is = λ x l.
-          subst (λ (c : ℕ). Folding inter (firsts (locks f)) (statements f) (heldAt f flow held x) c (statements f)) (sym (b .filled .holds x l))
-          (folding-start inter (firsts (locks f)) (statements f) (heldAt f flow held x));
-      counts-is = λ w x l.
-          subst (λ (c : ℕ). Folding _+_ 0 (statements f) (λ p. bit (accesses f flow w x p)) c (statements f)) (sym (b .behind (countPlace w + x) (count-behind w x)))
-          (folding-start _+_ 0 (statements f) (λ p. bit (accesses f flow w x p)));
-      counts-few = λ w x l. omega (arith, b .behind (countPlace w + x) (count-behind w x));
-      few = omega arith;
+          subst (λ (c : ℕ). Folding (meet f flow held x) (firsts (locks f)) (statements f) c (statements f)) (sym (b .filled .holds x l))
+          (folding-start (meet f flow held x) (firsts (locks f)) (statements f));
+      counts-is =
+          subst (λ (c : Counts). Folding (add f flow held) (noCounts 64) (statements f) c (statements f)) (sym none)
+          (folding-start (add f flow held) (noCounts 64) (statements f));
     })
+  where
+    none : countsIn noted ≡ noCounts 64
+    none =
+        ap₂ (λ (r w : List ℕ). record { reads = r; writes = w }) (tabulate-same 64 _ _ (λ x l. b .behind (64 + x) (omega arith)))
+        (tabulate-same 64 _ _ (λ x l. b .behind (128 + x) (omega arith)))
 
 module _ {f : List ℤ} {flow held noted : List ℕ} {s : ℕ} (n : Noting f flow held noted s) where
+  -- the counts are the walk's, as far as it has come
+  walked-here : countsIn noted ≡ walkFrom (ownBy f flow) 64 s (statements f - s)
+  walked-here = n .counts-is .joined ∙ fold-walk (ownBy f flow) 64 s (statements f - s)
+
   -- a count is small
   pub noting-few : statements f ≤ 512 → (i : ℕ) → 64 ≤ i → getD noted i 0 < 2 ^ 32
   noting-few most i low = go (decLt i 128) (decLt i 192)
     where
-      at : (w : Bool) (x : ℕ) → x < 64 → i ≡ countPlace w + x → getD noted i 0 < 2 ^ 32
-      at w x l e = omega (arith, n .counts-few w x l, ap (λ (k : ℕ). getD noted k 0) e)
+      few : (x : ℕ) → x < 64 → (getD (countsIn noted .reads) x 0 ≤ statements f - s) × (getD (countsIn noted .writes) x 0 ≤ statements f - s)
+      few x l =
+          subst (λ (c : Counts). (getD (c .reads) x 0 ≤ statements f - s) × (getD (c .writes) x 0 ≤ statements f - s)) (sym walked-here)
+          (walk-few (ownBy f flow) 64 s (statements f - s) x l)
+
+      at : (w : Bool) (x : ℕ) → x < 64 → getD noted (countPlace w + x) 0 ≤ statements f - s
+      at false x l = subst (λ (m : ℕ). m ≤ statements f - s) (getD-tabulate 64 _ x 0 l) (few x l .0)
+      at true x l = subst (λ (m : ℕ). m ≤ statements f - s) (getD-tabulate 64 _ x 0 l) (few x l .1)
+
+      small : (j : ℕ) → i ≡ j → getD noted j 0 ≤ statements f - s → getD noted i 0 < 2 ^ 32
+      small j e h = omega (arith, ap (λ (k : ℕ). getD noted k 0) e)
 
       go : Dec (i < 128) → Dec (i < 192) → getD noted i 0 < 2 ^ 32
-      go (yes a) b = at reading (i - 64) (omega arith) (omega arith)
-      go (no a) (yes b) = at writing (i - 128) (omega arith) (omega arith)
+      go (yes a) b = small (64 + (i - 64)) (omega arith) (at reading (i - 64) (omega arith))
+      go (no a) (yes b) = small (128 + (i - 128)) (omega arith) (at writing (i - 128) (omega arith))
       go (no a) (no b) = omega (arith, List·getD-eq-default noted 0 {n = i} (omega (arith, n .long)))
 
   module _ {noted′ : List ℕ} (p : 0 < s) (at : NotedAt (λ w. ownBy f flow w (s - 1)) (getD held (s - 1) 0) noted noted′) where
@@ -294,29 +324,30 @@ module _ {f : List ℤ} {flow held noted : List ℕ} {s : ℕ} (n : Noting f flo
         (λ i h. fold-within (firsts (locks f)) s (statements f - s) (heldAt f flow held x) i (sym (ap (λ (m : ℕ). has m i) (n .common-is x l .joined)) ∙ h))))
 
     pub noting-next : Noting f flow held noted′ (s - 1)
-    unfolding accesses
     noting-next = record {
       long = at .long;
       common-is = λ x l.
-          subst (λ (m : ℕ). Folding inter (firsts (locks f)) (statements f) (heldAt f flow held x) m (s - 1)) (sym (common-next x l _ refl))
-          (folding-next inter (firsts (locks f)) (statements f) (heldAt f flow held x) (getD noted x 0) s (n .common-is x l) p);
-      counts-is = λ w x l.
-          subst (λ (m : ℕ). Folding _+_ 0 (statements f) (λ q. bit (accesses f flow w x q)) m (s - 1)) (sym (at .counts-is w x l))
-          (folding-next _+_ 0 (statements f) (λ q. bit (accesses f flow w x q)) (getD noted (countPlace w + x) 0) s (n .counts-is w x l) p);
-      counts-few = λ w x l. omega (arith, at .counts-is w x l, n .counts-few w x l, bit-few (has (ownBy f flow w (s - 1)) x));
-      few = omega (arith, n .few);
+          subst (λ (c : ℕ). Folding (meet f flow held x) (firsts (locks f)) (statements f) c (s - 1)) (sym (common-next x l _ refl))
+          (folding-next (meet f flow held x) (firsts (locks f)) (statements f) (getD noted x 0) s (n .common-is x l) p);
+      counts-is =
+          subst (λ (c : Counts). Folding (add f flow held) (noCounts 64) (statements f) c (s - 1)) (sym (at .counts-is))
+          (folding-next (add f flow held) (noCounts 64) (statements f) (countsIn noted) s (n .counts-is) p);
     }
 
-  pub noting-done : s ≤ 0 → Noted f flow held noted
-  noting-done z = record {
-    long = n .long;
-    common-is = λ x l.
-        folding-done inter (firsts (locks f)) (statements f) (heldAt f flow held x) (getD noted x 0) s (n .common-is x l) z
-        ∙ fold-inter (firsts (locks f)) 0 (statements f) (heldAt f flow held x);
-    counts-is = λ w x l.
-        folding-done _+_ 0 (statements f) (λ p. bit (accesses f flow w x p)) (getD noted (countPlace w + x) 0) s (n .counts-is w x l) z
-        ∙ fold-count 0 (statements f) (accesses f flow w x);
-  }
+  pub noting-done : s ≤ 0 → noted ≡ notedBy f flow held
+  unfolding notedBy walkBy commonBy
+  noting-done z =
+      in-three-parts noted (n .long)
+      ∙ ap₂ (λ (l : List ℕ) (c : Counts). l ++ (c .reads ++ c .writes))
+      (tabulate-same 64 _ _
+      (λ x l.
+      folding-done (meet f flow held x) (firsts (locks f)) (statements f) (getD noted x 0) s (n .common-is x l) z
+      ∙ fold-inter (firsts (locks f)) 0 (statements f) (heldAt f flow held x)))
+      (folding-done (add f flow held) (noCounts 64) (statements f) (countsIn noted) s (n .counts-is) z ∙ fold-walk (ownBy f flow) 64 0 (statements f))
+
+pub noted-long : (f : List ℤ) (flow held : List ℕ) → length (notedBy f flow held) ≡ 192
+unfolding notedBy walkBy
+noted-long f flow held = rw (walk-counts (ownBy f flow) 64 0 (statements f)) (parts-long _ _ _)
 
 -- ---- the lowest element
 

@@ -11,8 +11,8 @@ ghost use Rattle.table.specs.Accepted.{Accepted};
 ghost use Rattle.report.specs.Over.{unionFrom, countFrom};
 ghost use Rattle.report.specs.Findings.{clash, strayBy};
 ghost use Rattle.report.specs.Report.{bit};
-ghost use Rattle.findings.specs.Steps.{ownBy, sharedBy, startedBy, strayIn, unguardedIn};
-ghost use Rattle.findings.specs.NoteLaws.{Noted, NotedAt, Marked};
+ghost use Rattle.findings.specs.Steps.{ownBy, notedBy, sharedBy, startedBy, strayIn, unguardedIn};
+ghost use Rattle.findings.specs.NoteLaws.{NotedAt, Marked};
 use sets::Which;
 use table::Reference;
 
@@ -87,7 +87,7 @@ fn fill_common(noted: &mut [u64; 192], all: u64)
 pub fn note_accesses(numbers: &[i32], flow: &[u64], held: &[u64], noted: &mut [u64; 192])
     requires { ⌜ Accepted (tableOf (now numbers)) ⌝ }
     requires { ⌜ now noted ≡ replicate 192 0 ⌝ }
-    ensures { λ _. ⌜ Noted (now (numbers .entry)) (now (flow .entry)) (now (held .entry)) (now (noted .exit)) ⌝ }
+    ensures { λ _. ⌜ now (noted .exit) ≡ notedBy (now (numbers .entry)) (now (flow .entry)) (now (held .entry)) ⌝ }
 {
     let all = sets::firsts(table::field_of(numbers, 0, 2));
     fill_common(noted, all);

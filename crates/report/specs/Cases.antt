@@ -10,7 +10,7 @@ use Rattle.table.specs.Until.{until}
 use Rattle.table.specs.Fields.{plain}
 use Rattle.table.specs.Handles.{handlesFrom, parameters}
 use Rattle.table.specs.Routines.{firstOf}
-use Rattle.table.specs.Table.{argumentsIn, statementIn, statementOf, declarationOf, routineAt, tableOf}
+use Rattle.table.specs.Table.{Table, argumentsIn, statementIn, statementOf, declarationOf, routineAt, tableOf}
 use Rattle.table.specs.Tabulate.{tabulateFrom, tabulate}
 use Rattle.report.specs.Over.{joinedFrom, unionFrom, interFrom, countFrom, unionAt}
 use Rattle.report.specs.Greatest.{leaving, narrow, narrowAll, leftOut, greatest}
@@ -20,7 +20,8 @@ use Rattle.report.specs.Flow.{startOf, passing, flowEdges, allFlowEdges,
 use Rattle.report.specs.Effect.{overCopy, upFrom, namingEdges, callEdges, effects, gives, effectOf}
 use Rattle.report.specs.Held.{entry, onlyLock, atReturns, gained, lost, heldAfter, waysFrom, allWays, heldSets}
 use Rattle.report.specs.Future.{callers, nextEffects, futureEdges, futureInitials, futures}
-use Rattle.report.specs.Findings.{setsOf, clash, sharedAt, sharedCells, ownAccess, touchesAt, commonLocks, isUnguarded, strayBy, strayAt, accessCount, isStray}
+use Rattle.report.specs.Findings.{setsOf, clash, sharedAt, sharedCells, ownAccess, touchesAt, commonLocks, isUnguarded, strayBy, strayAt, statementAccess, accessCount, isStray}
+use Rattle.report.specs.Counts.{Counts, noCounts, addEach, addAccess, walkFrom, walked}
 use Rattle.report.specs.Report.{cellLine, cellLines, strayLine, strayLines, countLines, saysUnguarded, saysStray, totalLine, findingLines, linesFor, reportLines}
 
 pub record Case : Type 0 where
@@ -37,9 +38,14 @@ inOneList (l ∷ ls) = l ++ inOneList ls
 
 -- the reports of the cases, as the definitions give them and as they are to be
 unfoldable pub asComputed : List Case → List (List (List ℤ))
-unfolding onesIn has firsts one union inter minus subset isEmpty count isSingle same room settle settled putInto along passEdges least lowest until plain handlesFrom parameters firstOf tabulateFrom tabulate argumentsIn statementIn statementOf declarationOf routineAt tableOf joinedFrom unionFrom interFrom countFrom unionAt leaving narrow narrowAll leftOut greatest named isIn ownerOf oneEach nexts accessed given startOf passing flowEdges allFlowEdges flowInitials flowSets overCopy upFrom namingEdges callEdges effects gives effectOf entry onlyLock atReturns gained lost heldAfter waysFrom allWays heldSets callers nextEffects futureEdges futureInitials futures setsOf clash sharedAt sharedCells ownAccess touchesAt commonLocks isUnguarded strayBy strayAt accessCount isStray cellLine cellLines strayLine strayLines countLines saysUnguarded saysStray totalLine findingLines linesFor reportLines
+unfolding onesIn has firsts one union inter minus subset isEmpty count isSingle same room settle settled putInto along passEdges least lowest until plain handlesFrom parameters firstOf tabulateFrom tabulate argumentsIn statementIn statementOf declarationOf routineAt tableOf joinedFrom unionFrom interFrom countFrom unionAt leaving narrow narrowAll leftOut greatest named isIn ownerOf oneEach nexts accessed given startOf passing flowEdges allFlowEdges flowInitials flowSets overCopy upFrom namingEdges callEdges effects gives effectOf entry onlyLock atReturns gained lost heldAfter waysFrom allWays heldSets callers nextEffects futureEdges futureInitials futures setsOf clash sharedAt sharedCells ownAccess touchesAt commonLocks isUnguarded strayBy strayAt statementAccess accessCount isStray cellLine cellLines strayLine strayLines countLines saysUnguarded saysStray totalLine findingLines linesFor reportLines
 asComputed [] = []
 asComputed (c ∷ cs) = reportLines (tableOf (inOneList (c .lines))) ∷ asComputed cs
+
+-- the counts of a case's lines 51, summed in one walk
+unfoldable pub walkOf : Case → Counts
+unfolding asComputed noCounts addEach addAccess walkFrom walked
+walkOf c = let t : Table = tableOf (inOneList (c .lines)) in walked t (oneEach t) (setsOf t (oneEach t)) (t .cells)
 
 abbrev pub asGiven : List Case → List (List (List ℤ))
 asGiven [] = []

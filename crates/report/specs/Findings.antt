@@ -91,9 +91,13 @@ strayAt t k a p = strayBy (flowAt k (a .flow) (k .statementCopy p)) (getD (a .he
 
 -- ---- by statements of the table
 
--- "reading statements, writing statements": how many statements read, or write, cell x in some copy
+-- the cells that statement s reads, or writes, itself in some copy
+unfoldable pub statementAccess : Table → Layout → Sets → Bool → ℕ → ℕ
+statementAccess t k a w s = unionAt (k .placesOf s) (ownAccess t k a w)
+
+-- "reading statements, writing statements": how many statements read, or write, cell x; for all cells in one walk: Counts
 unfoldable pub accessCount : Table → Layout → Sets → Bool → ℕ → ℕ
-accessCount t k a w x = countFrom 0 (length (t .statements)) (λ s. has (unionAt (k .placesOf s) (ownAccess t k a w)) x)
+accessCount t k a w x = countFrom 0 (length (t .statements)) (λ s. has (statementAccess t k a w s) x)
 
 -- statement s is a stray GIVE in some copy
 unfoldable pub isStray : Table → Layout → Sets → ℕ → Bool

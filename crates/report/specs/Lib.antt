@@ -9,6 +9,7 @@ pub mod Effect
 pub mod Held
 pub mod Future
 pub mod Findings
+pub mod Counts
 pub mod Report
 pub mod Cases
 pub mod Notebook
@@ -28,4 +29,5 @@ pub mod FindingsLaws
 pub mod OneCopy
 pub mod ReportLaws
 pub mod ReportTextLaws
+pub mod CountsLaws
 pub mod ValueLaws

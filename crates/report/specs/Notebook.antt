@@ -2,7 +2,7 @@
 -- Assumes nothing.
 use mathlib.Core.Path.{_≡_, refl}
 use mathlib.Core.List.{List, [], _∷_}
-use Rattle.report.specs.Cases.{Case, row, asComputed, asGiven}
+use Rattle.report.specs.Cases.{Case, row, asComputed, asGiven, walkOf}
 
 -- ---- the starred entries
 
@@ -323,9 +323,39 @@ never-reached = record {
   report = row 51 0 0 1 0 1 0 0 ∷ row 59 0 0 0 0 0 0 0 ∷ [];
 }
 
+-- a statement counts once for each cell that its handle may be: READ, WRITE by a handle of cells 0 and 2, READ of cell 2, WRITE of cell 3
+abbrev pub two-cells : Case
+two-cells = record {
+  lines =
+      row 1 4 0 3 1 6 0 0
+      ∷ row 2 0 1 1 0 0 0 0
+      ∷ row 2 0 1 1 2 0 0 0
+      ∷ row 2 0 1 1 3 0 0 0
+      ∷ row 3 6 0 0 0 0 0 0
+      ∷ row 4 7 0 1 0 0 0 0
+      ∷ row 4 1 0 0 0 0 0 0
+      ∷ row 4 2 0 0 0 0 0 0
+      ∷ row 4 1 1 0 0 0 0 0
+      ∷ row 4 2 2 0 0 0 0 0
+      ∷ row 4 12 0 0 0 0 0 0
+      ∷ [];
+  report =
+      row 51 0 1 1 0 0 0 0
+      ∷ row 51 1 0 0 0 0 0 0
+      ∷ row 51 2 2 1 0 0 0 0
+      ∷ row 51 3 0 1 0 0 0 0
+      ∷ row 59 0 0 0 0 0 0 0
+      ∷ [];
+}
+
+-- so does the walk of C-20
+pub two-cells-walked : walkOf two-cells ≡ record { reads = 1 ∷ 0 ∷ 2 ∷ 0 ∷ []; writes = 1 ∷ 0 ∷ 1 ∷ 1 ∷ [] }
+unfolding walkOf
+two-cells-walked = refl
+
 abbrev pub traps : List Case
 traps =
-    given-by-call ∷ starts-in-effect ∷ future-of-callers ∷ given-by-start ∷ every-way-in ∷ called-and-started ∷ no-return ∷ never-reached ∷ []
+    two-cells ∷ given-by-call ∷ starts-in-effect ∷ future-of-callers ∷ given-by-start ∷ every-way-in ∷ called-and-started ∷ no-return ∷ never-reached ∷ []
 
 pub traps-hold : asComputed traps ≡ asGiven traps
 unfolding asComputed

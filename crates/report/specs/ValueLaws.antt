@@ -17,7 +17,7 @@ use Rattle.report.specs.Flow.{startOf, passing, flowEdges, allFlowEdges,
 use Rattle.report.specs.Effect.{overCopy, namingEdges, callEdges, effects, gives, effectOf}
 use Rattle.report.specs.Future.{nextEffects, futureEdges, futureInitials, futures}
 use Rattle.report.specs.Held.{entry, atReturns, gained, lost, heldAfter, waysFrom, allWays, heldSets}
-use Rattle.report.specs.Findings.{Sets, setsOf, sharedAt, sharedCells, ownAccess, touchesAt, commonLocks, strayBy, strayAt, accessCount, isStray}
+use Rattle.report.specs.Findings.{Sets, setsOf, sharedAt, sharedCells, ownAccess, touchesAt, commonLocks, strayBy, strayAt, statementAccess, accessCount, isStray}
 use Rattle.report.specs.Report.{cellLine, cellLines, strayLines, findingLines, linesFor, reportLines, reportText}
 
 -- the tables have the same parts, and their statements, one by one, what R says of two
@@ -94,7 +94,7 @@ module _ (t u : Table) (alike : Alike t u) where
     touches-by-view a x p = rw (access-by-view a reading, access-by-view a writing)
 
     findings-by-view : (a : Sets) → cellLines t k a ++ strayLines t k a ≡ cellLines u k a ++ strayLines u k a
-    unfolding cellLines cellLine accessCount commonLocks sharedCells strayLines isStray strayAt strayBy
+    unfolding cellLines cellLine accessCount statementAccess commonLocks sharedCells strayLines isStray strayAt strayBy
     findings-by-view a = simp (views-same, cells-same, locks-same, count-same, shared-by-view, access-by-view, touches-by-view)
 
     -- the lines

@@ -1,14 +1,14 @@
 -- What stands where in a list by the numbers of its places. Assumes nothing.
 use mathlib.Core.Path.{_≡_, refl, sym, ap, _∙_}
-use mathlib.Core.List.{List}
+use mathlib.Core.List.{List, _++_}
 use Prim.Native.Nat.{ℕ, zero, suc, _+_, _≤_, _<_, min}
 use native.Mathlib.Omega.{arith}
 use native.Mathlib.Nat.{add-zero, zero-add, le-of-suc-le-suc, not-suc-le-zero}
 use mathlib.Core.Bool.{Bool, true, false}
 use lib.Dec.{ltb}
-use lib.ListN.{length, getD, set, replicate, length-set, length-replicate, List·getD-eq-default}
+use lib.ListN.{length, getD, set, replicate, length-set, length-replicate, List·getD-eq-default, List·getD-append}
 use borrow.Author.Tests.{ltb-true, ltb-false, lt-ltb, le-ltb}
-use lib.Seq.{ext-getD, getD-set-same, getD-set-other}
+use lib.Seq.{ext-getD, getD-append-add, getD-set-same, getD-set-other}
 use native.Mathlib.Decide.{ℕ-discrete}
 use Rattle.table.specs.Tabulate.{tabulateFrom, tabulate, below}
 
@@ -38,6 +38,17 @@ module _ {A : Type 0} where
   is-tabulate n g l d e h =
       ext-getD d l (tabulate n g) (e ∙ sym (length-tabulate n g))
       (λ i b. let b′ : i < n = omega (arith, e) in h i b′ ∙ sym (getD-tabulate n g i d b′))
+
+  -- two functions that say the same below n
+  pub tabulate-same : (n : ℕ) (g h : ℕ → A) → ((k : ℕ) → k < n → g k ≡ h k) → tabulate n g ≡ tabulate n h
+  tabulate-same n g h e = is-tabulate n h (tabulate n g) (g 0) (length-tabulate n g) (λ k b. getD-tabulate n g k (g 0) b ∙ e k b)
+
+  -- a place of the first of two lists, and of the second
+  pub getD-front : (n : ℕ) (g : ℕ → A) (r : List A) (k : ℕ) (d : A) → k < n → getD (tabulate n g ++ r) k d ≡ g k
+  getD-front n g r k d h = List·getD-append (tabulate n g) r d k (omega (arith, length-tabulate n g)) ∙ getD-tabulate n g k d h
+
+  pub getD-behind : (n : ℕ) (g : ℕ → A) (r : List A) (k : ℕ) (d : A) → getD (tabulate n g ++ r) (n + k) d ≡ getD r k d
+  getD-behind n g r k d = ap (λ (m : ℕ). getD (tabulate n g ++ r) (m + k) d) (sym (length-tabulate n g)) ∙ getD-append-add (tabulate n g) r k d
 
 -- ---- a list that a loop fills from its front
 

@@ -13,7 +13,7 @@ use Rattle.findings.proofs.shared_cells.Statement.{statement}
 use Rattle.findings.proofs.shared_cells.Tie as tie
 
 abbrev Inv-loop : tie.InvT-loop
-Inv-loop numbers reads writes later base count half shared₀ s₀ shared s = Folding union 0 (statements numbers) (sharedBy numbers reads writes later (statements numbers + routines numbers)) shared s × (statements numbers ≤ 512) × (base ≡ statementLine numbers 0) × (base < 2 ^ 33) × (half ≡ statements numbers + routines numbers) × (half < 2 ^ 33)
+Inv-loop numbers reads writes later base count half shared₀ s₀ shared s = Folding (λ p. union (sharedBy numbers reads writes later (statements numbers + routines numbers) p)) 0 (statements numbers) shared s × (statements numbers ≤ 512) × (base ≡ statementLine numbers 0) × (base < 2 ^ 33) × (half ≡ statements numbers + routines numbers) × (half < 2 ^ 33)
 
 abbrev μ-loop : tie.MeasureT-loop
 μ-loop numbers reads writes later base count half shared₀ s₀ shared s = s
@@ -34,7 +34,7 @@ loop-holds : tie.Need-loop-holds Inv-loop μ-loop
 loop-holds c = let few = statements-few (now (c .before .before .before .before .before .before .args .numbers)) (c .before .before .before .before .before .before .pre) in
     let a = c .before .field-of .ensures in
     let b = c .field-of2 .ensures in
-    (rw (a .0) (folding-start _ _ _ _), few, c .before .before .first-line .ensures .0, c .before .before .first-line .ensures .1, omega (arith, a .0, b .0), omega (arith, a .1, b .1))
+    (rw (a .0) (folding-start _ _ _), few, c .before .before .first-line .ensures .0, c .before .before .first-line .ensures .1, omega (arith, a .0, b .0), omega (arith, a .1, b .1))
 
 sub-s : tie.Need-sub-s Inv-loop μ-loop
 sub-s c = search needs
@@ -53,10 +53,10 @@ loop-less c = search needs
 
 loop-again : tie.Need-loop-again Inv-loop μ-loop
 loop-again c = let inv = c .before .before .before .loop .inv in
-    (rw (c .union .ensures, c .before .shared-at .ensures, inv .4) (folding-next _ _ _ _ _ _ (inv .0) (c .before .before .loop-test .taken)), inv .1, inv .2, inv .3, inv .4, inv .5)
+    (rw (c .union .ensures, c .before .shared-at .ensures, inv .4) (folding-next _ _ _ _ _ (inv .0) (c .before .before .loop-test .taken)), inv .1, inv .2, inv .3, inv .4, inv .5)
 
 returns : tie.Need-returns Inv-loop μ-loop
-returns c = folding-done _ _ _ _ _ _ (c .before .loop .inv .0) (c .loop-test .left) ∙ fold-union _ _ _
+returns c = folding-done _ _ _ _ _ (c .before .loop .inv .0) (c .loop-test .left) ∙ fold-union _ _ _
 
 pub shared-cells-spec : {M : Type 1} → statement M
 shared-cells-spec =

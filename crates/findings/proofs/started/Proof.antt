@@ -13,7 +13,7 @@ use Rattle.findings.proofs.started.Statement.{statement}
 use Rattle.findings.proofs.started.Tie as tie
 
 abbrev Inv-loop : tie.InvT-loop
-Inv-loop numbers base all₀ s₀ all s = Folding union 0 (statements numbers) (startedBy numbers) all s × (statements numbers ≤ 512) × (base ≡ statementLine numbers 0) × (base < 2 ^ 33)
+Inv-loop numbers base all₀ s₀ all s = Folding (λ p. union (startedBy numbers p)) 0 (statements numbers) all s × (statements numbers ≤ 512) × (base ≡ statementLine numbers 0) × (base < 2 ^ 33)
 
 abbrev μ-loop : tie.MeasureT-loop
 μ-loop numbers base all₀ s₀ all s = s
@@ -27,7 +27,7 @@ field-of-requires c κs = tt
 loop-holds : tie.Need-loop-holds Inv-loop μ-loop
 loop-holds c =
     let few = statements-few (now (c .before .before .args .numbers)) (c .before .before .pre) in
-    (rw (c .field-of .ensures .0) (folding-start _ _ _ _), few, c .before .first-line .ensures .0, c .before .first-line .ensures .1)
+    (rw (c .field-of .ensures .0) (folding-start _ _ _), few, c .before .first-line .ensures .0, c .before .first-line .ensures .1)
 
 sub-s : tie.Need-sub-s Inv-loop μ-loop
 sub-s c = search needs
@@ -47,10 +47,10 @@ loop-less c = search needs
 loop-again : tie.Need-loop-again Inv-loop μ-loop
 loop-again c =
     let inv = c .before .before .before .loop .inv in
-    (rw (c .union .ensures, c .before .started-at .ensures) (folding-next _ _ _ _ _ _ (inv .0) (c .before .before .loop-test .taken)), inv .1, inv .2, inv .3)
+    (rw (c .union .ensures, c .before .started-at .ensures) (folding-next _ _ _ _ _ (inv .0) (c .before .before .loop-test .taken)), inv .1, inv .2, inv .3)
 
 returns : tie.Need-returns Inv-loop μ-loop
-returns c = folding-done _ _ _ _ _ _ (c .before .loop .inv .0) (c .loop-test .left) ∙ fold-union _ _ _
+returns c = folding-done _ _ _ _ _ (c .before .loop .inv .0) (c .loop-test .left) ∙ fold-union _ _ _
 
 pub started-spec : {M : Type 1} → statement M
 started-spec =

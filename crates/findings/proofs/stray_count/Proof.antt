@@ -13,7 +13,7 @@ use Rattle.findings.proofs.stray_count.Statement.{statement}
 use Rattle.findings.proofs.stray_count.Tie as tie
 
 abbrev Inv-loop : tie.InvT-loop
-Inv-loop numbers flow held base n₀ s₀ n s = Folding _+_ 0 (statements numbers) (λ p. bit (strayIn numbers flow held p)) n s × (n + s ≤ statements numbers) × (statements numbers ≤ 512) × (base ≡ statementLine numbers 0) × (base < 2 ^ 33)
+Inv-loop numbers flow held base n₀ s₀ n s = Folding (λ p. _+_ (bit (strayIn numbers flow held p))) 0 (statements numbers) n s × (n + s ≤ statements numbers) × (statements numbers ≤ 512) × (base ≡ statementLine numbers 0) × (base < 2 ^ 33)
 
 abbrev μ-loop : tie.MeasureT-loop
 μ-loop numbers flow held base n₀ s₀ n s = s
@@ -26,7 +26,7 @@ field-of-requires c κs = tt
 
 loop-holds : tie.Need-loop-holds Inv-loop μ-loop
 loop-holds c = let few = statements-few (now (c .before .before .before .before .args .numbers)) (c .before .before .before .before .pre) in
-    (rw (c .field-of .ensures .0) (folding-start _ _ _ _), omega (arith, c .field-of .ensures .0), few, c .before .first-line .ensures .0, c .before .first-line .ensures .1)
+    (rw (c .field-of .ensures .0) (folding-start _ _ _), omega (arith, c .field-of .ensures .0), few, c .before .first-line .ensures .0, c .before .first-line .ensures .1)
 
 sub-s : tie.Need-sub-s Inv-loop μ-loop
 sub-s c = search needs
@@ -51,10 +51,10 @@ loop-less c = search needs
 
 loop-again : tie.Need-loop-again Inv-loop μ-loop
 unfolding strayIn
-loop-again c = (rw (c .mark .ensures .0, c .before .is-stray .ensures, c .before .before .set-at .ensures) (folding-next _ _ _ _ _ _ (c .before .before .before .before .loop .inv .0) (c .before .before .before .loop-test .taken)), omega arith, c .before .before .before .before .loop .inv .2, c .before .before .before .before .loop .inv .3, c .before .before .before .before .loop .inv .4)
+loop-again c = (rw (c .mark .ensures .0, c .before .is-stray .ensures, c .before .before .set-at .ensures) (folding-next _ _ _ _ _ (c .before .before .before .before .loop .inv .0) (c .before .before .before .loop-test .taken)), omega arith, c .before .before .before .before .loop .inv .2, c .before .before .before .before .loop .inv .3, c .before .before .before .before .loop .inv .4)
 
 returns : tie.Need-returns Inv-loop μ-loop
-returns c = (folding-done _ _ _ _ _ _ (c .before .loop .inv .0) (c .loop-test .left) ∙ fold-count _ _ _, omega arith)
+returns c = (folding-done _ _ _ _ _ (c .before .loop .inv .0) (c .loop-test .left) ∙ fold-count _ _ _, omega arith)
 
 pub stray-count-spec : {M : Type 1} → statement M
 stray-count-spec =

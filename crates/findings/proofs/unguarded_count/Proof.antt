@@ -11,13 +11,13 @@ use Rattle.findings.proofs.unguarded_count.Statement.{statement}
 use Rattle.findings.proofs.unguarded_count.Tie as tie
 
 abbrev Inv-loop : tie.InvT-loop
-Inv-loop shared noted cells n₀ x₀ n x = Folding _+_ 0 cells (λ i. bit (unguardedIn shared noted i)) n x × (n + x ≤ cells)
+Inv-loop shared noted cells n₀ x₀ n x = Folding (λ i. _+_ (bit (unguardedIn shared noted i))) 0 cells n x × (n + x ≤ cells)
 
 abbrev μ-loop : tie.MeasureT-loop
 μ-loop shared noted cells n₀ x₀ n x = x
 
 loop-holds : tie.Need-loop-holds Inv-loop μ-loop
-loop-holds c = (folding-start _ _ _ _, omega arith)
+loop-holds c = (folding-start _ _ _, omega arith)
 
 sub-x : tie.Need-sub-x Inv-loop μ-loop
 sub-x c = search needs
@@ -42,10 +42,10 @@ loop-less c = search needs
 
 loop-again : tie.Need-loop-again Inv-loop μ-loop
 unfolding unguardedIn isUnguarded
-loop-again c = (rw (c .mark .ensures .0, c .before .is-empty .ensures, c .before .before .set-at .ensures, c .before .before .before .has .ensures) (folding-next _ _ _ _ _ _ (c .before .before .before .before .before .loop .inv .0) (c .before .before .before .before .loop-test .taken)), omega arith)
+loop-again c = (rw (c .mark .ensures .0, c .before .is-empty .ensures, c .before .before .set-at .ensures, c .before .before .before .has .ensures) (folding-next _ _ _ _ _ (c .before .before .before .before .before .loop .inv .0) (c .before .before .before .before .loop-test .taken)), omega arith)
 
 returns : tie.Need-returns Inv-loop μ-loop
-returns c = (folding-done _ _ _ _ _ _ (c .before .loop .inv .0) (c .loop-test .left) ∙ fold-count _ _ _, omega arith)
+returns c = (folding-done _ _ _ _ _ (c .before .loop .inv .0) (c .loop-test .left) ∙ fold-count _ _ _, omega arith)
 
 pub unguarded-count-spec : {M : Type 1} → statement M
 unguarded-count-spec =

@@ -1,5 +1,8 @@
 -- `stages::print_found` meets its contract. Assumes nothing.
 use denote.Ref.{now}
+use mathlib.Core.Path.{ap, _∙_}
+use lib.ListN.{length}
+use Rattle.findings.specs.NoteLaws.{noted-long}
 use Rattle.findings.specs.FoundLaws.{found}
 use borrow.Author.Needs.{needs}
 use Rattle.stages.proofs.print_found.Statement.{statement}
@@ -9,7 +12,7 @@ note-accesses-requires : tie.Need-note-accesses-requires
 note-accesses-requires c κs = search needs
 
 slice-aggregate-print-report : tie.Need-slice-aggregate-print-report
-slice-aggregate-print-report c = search needs
+slice-aggregate-print-report c = let long = ap length (c .before .note-accesses .ensures) ∙ noted-long _ _ _ in search needs
 
 print-report-requires : tie.Need-print-report-requires
 print-report-requires c κs = let p = c .before .before .before .before .before .before .before .pre in
