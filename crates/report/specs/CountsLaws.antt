@@ -1,18 +1,18 @@
 -- C-20: "this walk and summing cell by cell give the same counts on every table", over any copies. Assumes nothing.
 use mathlib.Core.Path.{_≡_, refl, sym, ap, ap₂, _∙_, subst}
 use mathlib.Core.Bool.{Bool, cond}
-use mathlib.Core.List.{List}
+use mathlib.Core.List.{List, [], _∷_, _++_, append-assoc}
 use Prim.Native.Nat.{ℕ, zero, suc, _+_, _≤_, _<_}
 use lib.ListN.{length, getD}
 use Rattle.sets.specs.Set.{has}
 use Rattle.table.specs.Table.{Table}
-use Rattle.table.specs.Tabulate.{tabulate}
-use Rattle.table.specs.TabulateLaws.{length-tabulate, getD-tabulate, tabulate-same}
-use Rattle.report.specs.Over.{countFrom}
+use Rattle.table.specs.Tabulate.{tabulateFrom, tabulate}
+use Rattle.table.specs.TabulateLaws.{length-tabulate, getD-tabulate, tabulate-same, getD-front}
+use Rattle.report.specs.Over.{joinedFrom, countFrom}
 use Rattle.report.specs.Layout.{Layout}
 use Rattle.report.specs.Operations.{reading, writing}
-use Rattle.report.specs.Findings.{Sets, statementAccess, accessCount}
-use Rattle.report.specs.Report.{cellLine}
+use Rattle.report.specs.Findings.{Sets, setsOf, sharedCells, statementAccess, accessCount}
+use Rattle.report.specs.Report.{cellLine, cellLines, strayLines, totalLine, findingLines, linesFor}
 use Rattle.report.specs.ReportTextLaws.{count-most}
 use Rattle.report.specs.Counts.{Counts, noCounts, addEach, addAccess, walkFrom, walked, cellByCell}
 
@@ -48,9 +48,30 @@ pub walk-is-cell-by-cell : (t : Table) (k : Layout) (a : Sets) (cells : ℕ) →
 unfolding walked cellByCell accessCount
 walk-is-cell-by-cell t k a cells = walk-counts (statementAccess t k a) cells 0 (length (t .statements))
 
--- the two counts that line 51 of a cell prints are the walk's
-pub line-by-walk : (t : Table) (k : Layout) (a : Sets) (shared x : ℕ) → x < t .cells
-    → (getD (cellLine t k a shared x) 2 0 ≡ getD (walked t k a (t .cells) .reads) x 0) × (getD (cellLine t k a shared x) 3 0 ≡ getD (walked t k a (t .cells) .writes) x 0)
-unfolding cellLine cellByCell
-line-by-walk t k a shared x h =
-    rw (walk-is-cell-by-cell t k a (t .cells), getD-tabulate (t .cells) (accessCount t k a reading) x 0 h, getD-tabulate (t .cells) (accessCount t k a writing) x 0 h) (refl, refl)
+-- ---- as the report has it
+
+-- a line for each number
+lines-of : (from n : ℕ) (f : ℕ → List ℕ) → joinedFrom from n (λ x. f x ∷ []) ≡ tabulateFrom from n f
+unfolding joinedFrom tabulateFrom
+lines-of from zero f = refl
+lines-of from (suc n) f = ap (λ (ls : List (List ℕ)). f from ∷ ls) (lines-of (from + 1) n f)
+
+module _ (t : Table) (k : Layout) (x : ℕ) (there : x < t .cells) where
+  -- line x of the report, from 0 on, is line 51 of cell x
+  pub line-51 : getD (linesFor t k) x [] ≡ cellLine t k (setsOf t k) (sharedCells t k (setsOf t k)) x
+  unfolding linesFor findingLines cellLines tabulate
+  line-51 =
+      ap (λ (ls : List (List ℕ)). getD ls x []) (append-assoc (cellLines t k (setsOf t k)) (strayLines t k (setsOf t k)) (totalLine (findingLines t k) ∷ []))
+      ∙ ap (λ (ls : List (List ℕ)). getD (ls ++ rest) x []) (lines-of 0 (t .cells) (cellLine t k (setsOf t k) (sharedCells t k (setsOf t k))))
+      ∙ getD-front (t .cells) (cellLine t k (setsOf t k) (sharedCells t k (setsOf t k))) rest x [] there
+    where
+      rest : List (List ℕ)
+      rest = strayLines t k (setsOf t k) ++ (totalLine (findingLines t k) ∷ [])
+
+  -- its counts are the walk's
+  pub line-by-walk : (getD (getD (linesFor t k) x []) 2 0 ≡ getD (walked t k (setsOf t k) (t .cells) .reads) x 0)
+      × (getD (getD (linesFor t k) x []) 3 0 ≡ getD (walked t k (setsOf t k) (t .cells) .writes) x 0)
+  unfolding cellLine cellByCell
+  line-by-walk =
+      rw (line-51, walk-is-cell-by-cell t k (setsOf t k) (t .cells), getD-tabulate (t .cells) (accessCount t k (setsOf t k) reading) x 0 there, getD-tabulate (t .cells) (accessCount t k (setsOf t k) writing) x 0 there)
+      (refl, refl)
