@@ -1,66 +1,53 @@
 -- A list of edges that is filled from the front: what one more edge, and one more part, leave in it. Assumes nothing.
 use Prim.Native.Nat.{ℕ, zero, suc, _+_, _-_, _*_, _≤_, _<_}
-use mathlib.Core.Path.{_≡_, refl, sym, ap, ap₂, _∙_, subst}
-use mathlib.Core.List.{List, [], _∷_, _++_, map, map-append, List·Memᴰ, List·Memᴰ·head, Memᴰ·append-left, Memᴰ·append-right, append-nil, append-assoc}
-use native.Mathlib.Nat.{zero-add}
+use mathlib.Core.Path.{_≡_, refl, sym, ap, ap₂, _∙_}
+use mathlib.Core.List.{List, [], _∷_, _++_, map, map-append}
 use native.Mathlib.Numerals.{add-one}
 use native.Mathlib.Omega.{arith}
 use lib.ListN.{length, set, take, drop, length-append, length-set, length-map, take-append-drop}
 use lib.Seq.{take-suc-set, length-take-le, take-append-add, take-append-seam, drop-append-seam}
 use Rattle.sets.specs.Least.{Edge, edgeOf}
 use Rattle.sets.specs.LeastLaws.{edge-packed}
+use Rattle.sets.specs.AppendLaws.{Small, Room, Kind, room-left, appended-same, appended-none, appended-both, appended-not}
+use Rattle.sets.specs.AppendLaws as A
 use Rattle.report.specs.Over.{joinedFrom}
-use Rattle.report.specs.OverLaws.{Within, joined-last}
+use Rattle.report.specs.OverLaws.{Within, joined-next}
 use Rattle.edges.specs.Equations.{edge}
 
--- the first n places of a list of a places are the edges
-pub record Holds (a : ℕ) (edges : List ℕ) (n : ℕ) (es : List Edge) : Type 0 where
-  pub count : n ≡ length es
-  pub long : length edges ≡ a
-  pub is : map edgeOf (take n edges) ≡ es
+-- a list and how many edges are in it
+pub record Listed : Type 0 where
+  pub edges : List ℕ
+  pub count : ℕ
 
--- a list of a places has room for the edges
-pub record Room (a : ℕ) (es : List Edge) : Type 0 where
-  pub room : length es ≤ a
-  pub small : (e : Edge) → List·Memᴰ e es → (e .from < 65536) × (e .to < 65536)
+abbrev pub listed : List ℕ → ℕ → Listed
+listed edges n = record { edges = edges; count = n }
 
--- the list keeps its length, and where it held some edges it holds the new ones behind them, if there is room for all
-pub record Appended (edges : List ℕ) (n : ℕ) (edges′ : List ℕ) (n′ : ℕ) (new : List Edge) : Type 0 where
-  pub same : length edges′ ≡ length edges
-  pub then : (a : ℕ) (es : List Edge) → Holds a edges n es → Room a (es ++ new) → Holds a edges′ n′ (es ++ new)
+-- it has a places, and the first of these are the edges
+pub record Holds (a : ℕ) (x : Listed) (es : List Edge) : Type 0 where
+  pub count : x .count ≡ length es
+  pub long : length (x .edges) ≡ a
+  pub is : map edgeOf (take (x .count) (x .edges)) ≡ es
 
-room-left : (a : ℕ) (es new : List Edge) → Room a (es ++ new) → Room a es
-room-left a es new f = record { room = omega (arith, f .room, length-append es new); small = λ e m. f .small e (Memᴰ·append-left new m) }
-
--- ---- parts behind each other
-
-module _ {edges edges′ : List ℕ} {n n′ : ℕ} where
-  pub appended-same : (a b : List Edge) → a ≡ b → Appended edges n edges′ n′ a → Appended edges n edges′ n′ b
-  appended-same a b e h = subst (λ (l : List Edge). Appended edges n edges′ n′ l) e h
-
-pub appended-none : {edges : List ℕ} {n : ℕ} → Appended edges n edges n []
-appended-none {edges} {n} = record { same = refl; then = λ a es h f. subst (Holds a edges n) (sym (append-nil es)) h }
-
-pub appended-both : {edges edges′ edges″ : List ℕ} {n n′ n″ : ℕ} {a b : List Edge} → Appended edges n edges′ n′ a → Appended edges′ n′ edges″ n″ b
-    → Appended edges n edges″ n″ (a ++ b)
-appended-both {edges″ = edges″} {n″ = n″} {a} {b} p q = record {
-  same = q .same ∙ p .same;
-  then = λ k es h f.
-      let g : Room k ((es ++ a) ++ b) = subst (Room k) (sym (append-assoc es a b)) f in
-      subst (Holds k edges″ n″) (append-assoc es a b) (q .then k (es ++ a) (p .then k es h (room-left k (es ++ a) b g)) g);
+abbrev pub oneList : Kind Listed
+oneList = record {
+  Holds = Holds;
+  Same = λ x y. length (y .edges) ≡ length (x .edges);
+  same-none = λ x. refl;
+  same-both = λ x y z p q. q ∙ p;
 }
+
+-- where the first n places held some edges, the first n′ hold the new ones behind them
+abbrev pub Appended : List ℕ → ℕ → List ℕ → ℕ → List Edge → Type 0
+Appended edges n edges′ n′ new = A.Appended oneList (listed edges n) (listed edges′ n′) new
 
 -- ---- one more edge
 
 module _ (edges : List ℕ) (n f t : ℕ) where
-  abbrev one-more : List Edge
-  one-more = edge f t ∷ []
-
   pub appended-one : n < length edges → t < 65536 → Appended edges n (set edges n (f * 65536 + t)) (n + 1) (edge f t ∷ [])
   appended-one p q = record {
     same = length-set edges n (f * 65536 + t);
     then = λ a es h r. record {
-      count = omega (arith, h .count, length-append es one-more);
+      count = omega (arith, h .count, length-append es (edge f t ∷ []));
       long = length-set edges n (f * 65536 + t) ∙ h .long;
       is =
           let front : take (n + 1) (set edges n (f * 65536 + t)) ≡ take n edges ++ ((f * 65536 + t) ∷ []) =
@@ -71,22 +58,12 @@ module _ (edges : List ℕ) (n f t : ℕ) where
     };
   }
 
-  -- the last edge is among them
-  last-small : (a : ℕ) (es : List Edge) → Room a (es ++ one-more) → (f < 65536) × (t < 65536)
-  last-small a es r = r .small (edge f t) (Memᴰ·append-right es (List·Memᴰ·head refl))
-
-  -- where the edge is left out, there was no room for it
-  left-out : ((a : ℕ) (es : List Edge) → Holds a edges n es → Room a (es ++ one-more) → ⊥) → Appended edges n edges n (edge f t ∷ [])
-  left-out d = record { same = refl; then = λ a es h r. absurd (d a es h r) }
-
   pub appended-full : length edges ≤ n → Appended edges n edges n (edge f t ∷ [])
-  appended-full p = left-out (λ a es h r. omega (arith, h .count, h .long, r .room, length-append es one-more))
+  appended-full p = appended-not (λ a es h l m. omega (arith, h .count, h .long))
 
-  pub appended-from-large : 65536 ≤ f → Appended edges n edges n (edge f t ∷ [])
-  appended-from-large p = left-out (λ a es h r. omega (arith, last-small a es r .0))
-
-  pub appended-to-large : 65536 ≤ t → Appended edges n edges n (edge f t ∷ [])
-  appended-to-large p = left-out (λ a es h r. omega (arith, last-small a es r .1))
+  -- a place does not fit into 16 bits
+  pub appended-large : (Small (edge f t) → ⊥) → Appended edges n edges n (edge f t ∷ [])
+  appended-large d = appended-not (λ a es h l m. d m)
 
 -- ---- a loop that appends a part for each number
 
@@ -108,10 +85,7 @@ growing-start part end = record { so-far = appended-none; inside = omega arith }
 
 pub growing-next : {part : ℕ → List Edge} {end : ℕ} {edges edges′ edges″ : List ℕ} {n n′ n″ i : ℕ}
     → Growing part end edges n edges′ n′ i → i < end → Appended edges′ n′ edges″ n″ (part i) → Growing part end edges n edges″ n″ (i + 1)
-growing-next {part} {i = i} g l a = record { so-far = appended-same _ _ next (appended-both (g .so-far) a); inside = omega arith }
-  where
-    next : joinedFrom 0 i part ++ part i ≡ joinedFrom 0 (i + 1) part
-    next = rw (add-one i) (ap {B = List Edge} (λ (j : ℕ). joinedFrom 0 i part ++ part j) (sym (zero-add i)) ∙ sym (joined-last 0 i part))
+growing-next {part} {i = i} g l a = record { so-far = appended-same _ _ (joined-next i part) (appended-both (g .so-far) a); inside = omega arith }
 
 pub growing-done : {part : ℕ → List Edge} {end : ℕ} {edges edges′ : List ℕ} {n n′ i : ℕ}
     → Growing part end edges n edges′ n′ i → end ≤ i → Appended edges n edges′ n′ (joinedFrom 0 end part)

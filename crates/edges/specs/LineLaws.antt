@@ -27,7 +27,8 @@ use Rattle.report.specs.Operations.{nexts}
 use Rattle.report.specs.OneEach.{names-there}
 use Rattle.report.specs.Flow.{passing, flowEdges}
 use Rattle.edges.specs.Equations.{Equation, Nexts, Callers, upwards, edge, edgesAt, edgesFor, upEdges, nextEdges, callEdges}
-use Rattle.edges.specs.EdgeLaws.{Appended, appended-same, Growing, growing-done}
+use Rattle.sets.specs.AppendLaws.{appended-same}
+use Rattle.edges.specs.EdgeLaws.{Appended, Growing, growing-done}
 
 -- `base` is the line of statement 0, and there are few lines
 pub record Lined (f : List ℤ) (base : ℕ) : Type 0 where

@@ -9,6 +9,7 @@ use native.Mathlib.Omega.{arith}
 use lib.IntN.{ℤ}
 use lib.ListN.{length, getD, length-append}
 use Rattle.sets.specs.Least.{Edge}
+use Rattle.sets.specs.AppendLaws.{Room, room-none, room-one, room-both, room-more}
 use Rattle.table.specs.Header.{statements}
 use Rattle.table.specs.Table.{Table, tableOf, routine, statement, passed, InRoutine}
 use Rattle.table.specs.Accepted.{Accepted, Operands, Passes, RoutineFacts}
@@ -26,29 +27,11 @@ use Rattle.report.specs.Layout.{named, isIn, ownerOf, oneEach}
 use Rattle.report.specs.OneEach.{statement-below}
 use Rattle.report.specs.Flow.{passing, flowEdges}
 use Rattle.edges.specs.Equations.{Equation, Flow, Effects, Gives, Nexts, Callers, edge, upEdges, nextEdges, callEdges, edgesAt, edgesFor}
-use Rattle.edges.specs.EdgeLaws.{Room, Appended, Ready, ready, Parts, parts}
+use Rattle.edges.specs.EdgeLaws.{Appended, Ready, ready, Parts, parts}
 use Rattle.edges.specs.LineLaws.{next-parts}
 
--- at most m edges, and every number small
-record Few (m : ℕ) (es : List Edge) : Type 0 where
-  few : length es ≤ m
-  small : (e : Edge) → List·Memᴰ e es → (e .from < 65536) × (e .to < 65536)
-
-few-none : {m : ℕ} → Few m []
-few-none = record { few = omega arith; small = λ e i. elim i [ ] }
-
-few-one : (m f t : ℕ) → f < 65536 → t < 65536 → Few (m + 1) (edge f t ∷ [])
-few-one m f t p q = record { few = omega arith; small = λ e i. subst (λ (d : Edge). (d .from < 65536) × (d .to < 65536)) (sym (List·Memᴰ·eq-of-singleton i)) (p, q) }
-
-few-both : {m n : ℕ} (a b : List Edge) → Few m a → Few n b → Few (m + n) (a ++ b)
-few-both a b p q = record { few = omega (arith, length-append a b, p .few, q .few); small = λ e i. go e (List·Memᴰ·append-cases a i) }
-  where
-    go : (e : Edge) → List·Memᴰ e a ⊎ List·Memᴰ e b → (e .from < 65536) × (e .to < 65536)
-    go e (inl i) = p .small e i
-    go e (inr i) = q .small e i
-
-few-more : {m : ℕ} (n : ℕ) {a : List Edge} → m ≤ n → Few m a → Few n a
-few-more n h p = record { few = omega (arith, p .few); small = p .small }
+room-edge : (m f t : ℕ) → f < 65536 → t < 65536 → Room (m + 1) (edge f t ∷ [])
+room-edge m f t p q = room-one m (edge f t) (record { from = p; also = p; to = q })
 
 joined-length : (m from n : ℕ) (f : ℕ → List Edge) → ((i : ℕ) → Within from n i → length (f i) ≤ m) → length (joinedFrom from n f) ≤ m * n
 unfolding joinedFrom
@@ -59,18 +42,18 @@ joined-length m from (suc n) f h =
     joined-length m (from + 1) n f (λ i w. h i (record { low = omega (arith, w .low); high = omega (arith, w .high) })) in
     omega (arith, mul-suc m n, length-append (f from) (joinedFrom (from + 1) n f))
 
-few-joined : (m from n : ℕ) (f : ℕ → List Edge) → ((i : ℕ) → Within from n i → Few m (f i)) → Few (m * n) (joinedFrom from n f)
-few-joined m from n f h = record {
-  few = joined-length m from n f (λ i w. h i w .few);
+room-joined : (m from n : ℕ) (f : ℕ → List Edge) → ((i : ℕ) → Within from n i → Room m (f i)) → Room (m * n) (joinedFrom from n f)
+room-joined m from n f h = record {
+  room = joined-length m from n f (λ i w. h i w .room);
   small = λ e i. let r : (j : ℕ) × Within from n j × List·Memᴰ e (f j) = joined-from from n f e i in h (r .0) (r .1) .small e (r .2);
 }
 
-few-on : {m : ℕ} (r : Reference) (f : ℕ → List Edge) → ((n : ℕ) → r ≡ To n → Few m (f n)) → Few m (listOn r f)
-few-on {m} r f h = on-or (Few m) r f [] h few-none
+room-on : {m : ℕ} (r : Reference) (f : ℕ → List Edge) → ((n : ℕ) → r ≡ To n → Room m (f n)) → Room m (listOn r f)
+room-on {m} r f h = on-or (Room m) r f [] h room-none
 
-few-when : {m : ℕ} (b : Bool) (l : List Edge) → Few m l → Few m (when b l)
-few-when true l h = h
-few-when false l h = few-none
+room-when : {m : ℕ} (b : Bool) (l : List Edge) → Room m l → Room m (when b l)
+room-when true l h = h
+room-when false l h = room-none
 
 module _ (t : Table) (acc : Accepted t) where
   -- ---- the numbers of a statement
@@ -85,20 +68,20 @@ module _ (t : Table) (acc : Accepted t) where
 
   -- ---- flow
 
-  few-passing : (r q : ℕ) (a : Arguments) → Passes t r q a → Few 4 (passing t (oneEach t) 0 0 q a)
+  room-passing : (r q : ℕ) (a : Arguments) → Passes t r q a → Room 4 (passing t (oneEach t) 0 0 q a)
   unfolding passing oneEach
-  few-passing r q a p =
+  room-passing r q a p =
       let facts : RoutineFacts t q = acc .routine-facts q (p .there) in
-      few-more 4 (omega (arith, facts .few-parameters))
-      (few-joined 1 0 (routine t q .parameters) _
+      room-more 4 (omega (arith, facts .few-parameters))
+      (room-joined 1 0 (routine t q .parameters) _
       (λ j w.
       let l : j < routine t q .parameters = within-below w in
-      few-one 0 (getD (passed a) j 0) (routine t q .handle + j) (omega (arith, p .argument j l .own .there, acc .handles-most))
+      room-edge 0 (getD (passed a) j 0) (routine t q .handle + j) (omega (arith, p .argument j l .own .there, acc .handles-most))
       (omega (arith, facts .parameters-among, facts .handles-there, acc .handles-most))))
 
-  few-flow : (r s : ℕ) (σ : Statement) → Operands t r σ → Few 4 (flowEdges t (oneEach t) 0 s σ)
+  room-flow : (r s : ℕ) (σ : Statement) → Operands t r σ → Room 4 (flowEdges t (oneEach t) 0 s σ)
   unfolding flowEdges oneEach passing
-  few-flow r s σ o = go (points-or-names σ)
+  room-flow r s σ o = go (points-or-names σ)
     where
       points : Reference → List Edge
       points r = listOn r (λ h. edge (view σ .source) h ∷ [])
@@ -106,25 +89,25 @@ module _ (t : Table) (acc : Accepted t) where
       named-edges : Reference → List Edge
       named-edges r = listOn r (λ q. passing t (oneEach t) 0 0 q (view σ .arguments))
 
-      go : (view σ .points ≡ Nothing) ⊎ (view σ .names ≡ Nothing) → Few 4 (flowEdges t (oneEach t) 0 s σ)
+      go : (view σ .points ≡ Nothing) ⊎ (view σ .names ≡ Nothing) → Room 4 (flowEdges t (oneEach t) 0 s σ)
       go (inl e) =
-          few-both {m = 0} {n = 4} (points (view σ .points)) (named-edges (view σ .names)) (subst (λ r. Few 0 (points r)) (sym e) few-none)
-          (few-on (view σ .names) _ (λ q n. few-passing r q (view σ .arguments) (o .passes q n)))
+          room-both {m = 0} {n = 4} (points (view σ .points)) (named-edges (view σ .names)) (subst (λ r. Room 0 (points r)) (sym e) room-none)
+          (room-on (view σ .names) _ (λ q n. room-passing r q (view σ .arguments) (o .passes q n)))
       go (inr e) =
-          few-both {m = 1} {n = 3} (points (view σ .points)) (named-edges (view σ .names))
-          (few-on (view σ .points) _
+          room-both {m = 1} {n = 3} (points (view σ .points)) (named-edges (view σ .names))
+          (room-on (view σ .points) _
           (λ h n.
           let own = o .points h n in
-          few-one 0 (view σ .source) h (omega (arith, own .1 .there, acc .handles-most)) (omega (arith, own .0 .there, acc .handles-most))))
-          (subst (λ r. Few 3 (named-edges r)) (sym e) few-none)
+          room-edge 0 (view σ .source) h (omega (arith, own .1 .there, acc .handles-most)) (omega (arith, own .0 .there, acc .handles-most))))
+          (subst (λ r. Room 3 (named-edges r)) (sym e) room-none)
 
   -- ---- effects and given-up locks
 
-  few-up : (starts : Bool) (c : ℕ) (r : ℕ) (σ : Statement) → Operands t r σ → c < 512 → Few 1 (upEdges starts c σ)
+  room-up : (starts : Bool) (c : ℕ) (r : ℕ) (σ : Statement) → Operands t r σ → c < 512 → Room 1 (upEdges starts c σ)
   unfolding upEdges
-  few-up starts c r σ o l =
-      few-on (cond starts (view σ .names) (calls (view σ))) (λ q. edge (named σ) c ∷ [])
-      (λ q e. few-one 0 (named σ) c (omega (arith, named-small r σ o)) (omega arith))
+  room-up starts c r σ o l =
+      room-on (cond starts (view σ .names) (calls (view σ))) (λ q. edge (named σ) c ∷ [])
+      (λ q e. room-edge 0 (named σ) c (omega (arith, named-small r σ o)) (omega arith))
 
   -- ---- futures
 
@@ -132,43 +115,43 @@ module _ (t : Table) (acc : Accepted t) where
     target-small : (z : ℕ) → InRoutine t r z → z < 65536
     target-small z i = omega (arith, statement-below t acc r z b i, acc .statements-most)
 
-    few-next : (σ : Statement) → Operands t r σ → Few 2 (nextEdges s σ)
-    few-next σ o =
-        subst (Few 2) (next-parts t s σ refl)
-        (few-both {m = 1} {n = 1} (listOn (view σ .target) (λ n. edge n s ∷ [])) (when (view σ .onward) (edge (s + 1) s ∷ []))
-        (few-on (view σ .target) (λ n. edge n s ∷ []) (λ n e. few-one 0 n s (target-small n (o .target n e)) (omega arith)))
-        (few-when (view σ .onward) (edge (s + 1) s ∷ []) (few-one 0 (s + 1) s (omega arith) (omega arith))))
+    room-next : (σ : Statement) → Operands t r σ → Room 2 (nextEdges s σ)
+    room-next σ o =
+        subst (Room 2) (next-parts t s σ refl)
+        (room-both {m = 1} {n = 1} (listOn (view σ .target) (λ n. edge n s ∷ [])) (when (view σ .onward) (edge (s + 1) s ∷ []))
+        (room-on (view σ .target) (λ n. edge n s ∷ []) (λ n e. room-edge 0 n s (target-small n (o .target n e)) (omega arith)))
+        (room-when (view σ .onward) (edge (s + 1) s ∷ []) (room-edge 0 (s + 1) s (omega arith) (omega arith))))
 
-    few-call : (p : ℕ) (σ : Statement) → p < 65536 → Operands t r σ → Few 1 (callEdges (length (t .statements)) p σ)
+    room-call : (p : ℕ) (σ : Statement) → p < 65536 → Operands t r σ → Room 1 (callEdges (length (t .statements)) p σ)
     unfolding callEdges
-    few-call p σ h o =
-        few-on (calls (view σ)) (λ q. edge p (length (t .statements) + named σ) ∷ [])
-        (λ q e. few-one 0 p (length (t .statements) + named σ) h (omega (arith, named-small r σ o, acc .statements-most)))
+    room-call p σ h o =
+        room-on (calls (view σ)) (λ q. edge p (length (t .statements) + named σ) ∷ [])
+        (λ q e. room-edge 0 p (length (t .statements) + named σ) h (omega (arith, named-small r σ o, acc .statements-most)))
 
-    few-callers : (σ : Statement) → Operands t r σ
-        → Few 2 (callEdges (length (t .statements)) s σ ++ callEdges (length (t .statements)) (length (t .statements) + ownerOf t s) σ)
-    few-callers σ o =
-        few-both {m = 1} {n = 1} (callEdges (length (t .statements)) s σ) _ (few-call s σ (omega arith) o)
-        (few-call (length (t .statements) + ownerOf t s) σ (omega (arith, owner-small s, acc .statements-most)) o)
+    room-callers : (σ : Statement) → Operands t r σ
+        → Room 2 (callEdges (length (t .statements)) s σ ++ callEdges (length (t .statements)) (length (t .statements) + ownerOf t s) σ)
+    room-callers σ o =
+        room-both {m = 1} {n = 1} (callEdges (length (t .statements)) s σ) _ (room-call s σ (omega arith) o)
+        (room-call (length (t .statements) + ownerOf t s) σ (omega (arith, owner-small s, acc .statements-most)) o)
 
   -- ---- every equation
 
-  few-at : (q : Equation) (s : ℕ) → s < length (t .statements) → Few 4 (edgesAt q t s)
+  room-at : (q : Equation) (s : ℕ) → s < length (t .statements) → Room 4 (edgesAt q t s)
   unfolding edgesAt
-  few-at q s l = go q (acc .owner s l)
+  room-at q s l = go q (acc .owner s l)
     where
-      go : (q : Equation) → (r : ℕ) × (r < length (t .routines)) × InRoutine t r s → Few 4 (edgesAt q t s)
-      go Flow o = few-flow (o .0) s (statement t s) (acc .operands (o .0) s (o .1) (o .2))
-      go Effects o = few-more 4 (omega arith) (few-up true (ownerOf t s) (o .0) (statement t s) (acc .operands (o .0) s (o .1) (o .2)) (owner-small s))
-      go Gives o = few-more 4 (omega arith) (few-up false (ownerOf t s) (o .0) (statement t s) (acc .operands (o .0) s (o .1) (o .2)) (owner-small s))
-      go Nexts o = few-more 4 (omega arith) (few-next s (o .0) (omega (arith, acc .statements-most)) (o .1) (statement t s) (acc .operands (o .0) s (o .1) (o .2)))
-      go Callers o = few-more 4 (omega arith) (few-callers s (o .0) (omega (arith, acc .statements-most)) (o .1) (statement t s) (acc .operands (o .0) s (o .1) (o .2)))
+      go : (q : Equation) → (r : ℕ) × (r < length (t .routines)) × InRoutine t r s → Room 4 (edgesAt q t s)
+      go Flow o = room-flow (o .0) s (statement t s) (acc .operands (o .0) s (o .1) (o .2))
+      go Effects o = room-more 4 (omega arith) (room-up true (ownerOf t s) (o .0) (statement t s) (acc .operands (o .0) s (o .1) (o .2)) (owner-small s))
+      go Gives o = room-more 4 (omega arith) (room-up false (ownerOf t s) (o .0) (statement t s) (acc .operands (o .0) s (o .1) (o .2)) (owner-small s))
+      go Nexts o = room-more 4 (omega arith) (room-next s (o .0) (omega (arith, acc .statements-most)) (o .1) (statement t s) (acc .operands (o .0) s (o .1) (o .2)))
+      go Callers o = room-more 4 (omega arith) (room-callers s (o .0) (omega (arith, acc .statements-most)) (o .1) (statement t s) (acc .operands (o .0) s (o .1) (o .2)))
 
   edges-room : (q : Equation) (a : ℕ) → 4 * length (t .statements) ≤ a → Room a (edgesFor q t)
   unfolding edgesFor
   edges-room q a p =
-      let all = few-joined 4 0 (length (t .statements)) (edgesAt q t) (λ s w. few-at q s (within-below w)) in
-      record { room = omega (arith, all .few); small = all .small }
+      let all = room-joined 4 0 (length (t .statements)) (edgesAt q t) (λ s w. room-at q s (within-below w)) in
+      room-more a (omega arith) all
 
   -- the two stages of futures together
   stages-room : (a : ℕ) → 4 * length (t .statements) ≤ a → Room a (edgesFor Nexts t ++ edgesFor Callers t)
@@ -176,16 +159,16 @@ module _ (t : Table) (acc : Accepted t) where
   stages-room a p =
       let n = length (t .statements) in
       let all =
-      few-both {m = 2 * n} {n = 2 * n} (edgesFor Nexts t) (edgesFor Callers t)
-      (few-joined 2 0 n (edgesAt Nexts t) (λ s w. at-next s (within-below w) (acc .owner s (within-below w))))
-      (few-joined 2 0 n (edgesAt Callers t) (λ s w. at-callers s (within-below w) (acc .owner s (within-below w)))) in
-      record { room = omega (arith, all .few); small = all .small }
+      room-both {m = 2 * n} {n = 2 * n} (edgesFor Nexts t) (edgesFor Callers t)
+      (room-joined 2 0 n (edgesAt Nexts t) (λ s w. at-next s (within-below w) (acc .owner s (within-below w))))
+      (room-joined 2 0 n (edgesAt Callers t) (λ s w. at-callers s (within-below w) (acc .owner s (within-below w)))) in
+      room-more a (omega arith) all
     where
-      at-next : (s : ℕ) → s < length (t .statements) → (r : ℕ) × (r < length (t .routines)) × InRoutine t r s → Few 2 (edgesAt Nexts t s)
-      at-next s l o = few-next s (o .0) (omega (arith, acc .statements-most)) (o .1) (statement t s) (acc .operands (o .0) s (o .1) (o .2))
+      at-next : (s : ℕ) → s < length (t .statements) → (r : ℕ) × (r < length (t .routines)) × InRoutine t r s → Room 2 (edgesAt Nexts t s)
+      at-next s l o = room-next s (o .0) (omega (arith, acc .statements-most)) (o .1) (statement t s) (acc .operands (o .0) s (o .1) (o .2))
 
-      at-callers : (s : ℕ) → s < length (t .statements) → (r : ℕ) × (r < length (t .routines)) × InRoutine t r s → Few 2 (edgesAt Callers t s)
-      at-callers s l o = few-callers s (o .0) (omega (arith, acc .statements-most)) (o .1) (statement t s) (acc .operands (o .0) s (o .1) (o .2))
+      at-callers : (s : ℕ) → s < length (t .statements) → (r : ℕ) × (r < length (t .routines)) × InRoutine t r s → Room 2 (edgesAt Callers t s)
+      at-callers s l o = room-callers s (o .0) (omega (arith, acc .statements-most)) (o .1) (statement t s) (acc .operands (o .0) s (o .1) (o .2))
 
 -- so a list with that much room holds an equation's edges, whatever stood in it before
 pub ready-for : (q : Equation) (f : List ℤ) → Accepted (tableOf f) → {edges edges′ : List ℕ} {n : ℕ} → 4 * statements f ≤ length edges

@@ -1,15 +1,14 @@
 -- Edges in two lists that are filled from the front, part after part: what a loop over the parts leaves in them. Assumes nothing.
 use Prim.Native.Nat.{ℕ, _+_, _≤_}
-use mathlib.Core.Path.{_≡_, refl, sym, ap, _∙_, subst}
+use mathlib.Core.Path.{_≡_, refl, subst}
 use mathlib.Core.List.{List, [], _++_}
-use native.Mathlib.Nat.{zero-add}
-use native.Mathlib.Numerals.{add-one}
 use native.Mathlib.Omega.{arith}
 use lib.ListN.{length, take}
 use Rattle.sets.specs.Least.{Edge, edgesOf}
 use Rattle.report.specs.Over.{joinedFrom}
-use Rattle.report.specs.OverLaws.{joined-last}
-use Rattle.lock_edges.specs.StoreLaws.{Store, store, Room, Appended, appended-same, appended-none, appended-both}
+use Rattle.report.specs.OverLaws.{joined-next}
+use Rattle.sets.specs.AppendLaws.{Room, appended-same, appended-none, appended-both}
+use Rattle.lock_edges.specs.StoreLaws.{Store, store, Same, twoLists, Appended}
 
 -- ---- a loop that appends a part for each number
 
@@ -22,10 +21,7 @@ unfolding joinedFrom
 growing-start part = record { so-far = appended-none }
 
 pub growing-next : {part : ℕ → List Edge} {x y z : Store} {i : ℕ} → Growing part x y i → Appended y z (part i) → Growing part x z (i + 1)
-growing-next {part} {i = i} g a = record { so-far = appended-same _ _ next (appended-both (g .so-far) a) }
-  where
-    next : joinedFrom 0 i part ++ part i ≡ joinedFrom 0 (i + 1) part
-    next = rw (add-one i) (ap {B = List Edge} (λ (j : ℕ). joinedFrom 0 i part ++ part j) (sym (zero-add i)) ∙ sym (joined-last 0 i part))
+growing-next {part} {i = i} g a = record { so-far = appended-same _ _ (joined-next i part) (appended-both (g .so-far) a) }
 
 -- ---- the lists as the solver takes them
 
@@ -47,22 +43,17 @@ ready {ends} {also} a l m p r =
 
 -- where the parts below i were appended, those below j are then
 pub record Going (part : ℕ → List Edge) (x : Store) (i : ℕ) (y : Store) (j : ℕ) : Type 0 where
-  pub same : length (y .ends) ≡ length (x .ends)
-  pub also-same : length (y .also) ≡ length (x .also)
+  pub same : Same x y
   pub then : (z : Store) → Growing part z x i → Growing part z y j
 
 pub going-start : {part : ℕ → List Edge} {x : Store} {i j : ℕ} → i ≡ j → Going part x i x j
-going-start {part} {x} e = record { same = refl; also-same = refl; then = λ z g. subst (Growing part z x) e g }
+going-start {part} {x} e = record { same = twoLists .same-none x; then = λ z g. subst (Growing part z x) e g }
 
 pub going-next : {part : ℕ → List Edge} {x y z : Store} {i j : ℕ} → Going part x i y j → Appended y z (part j) → Going part x i z (j + 1)
-going-next g a = record {
-  same = a .same ∙ g .same;
-  also-same = a .also-same ∙ g .also-same;
-  then = λ w h. growing-next (g .then w h) a;
-}
+going-next {x = x} {y} {z} g a = record { same = twoLists .same-both x y z (g .same) (a .same); then = λ w h. growing-next (g .then w h) a }
 
 pub going-both : {part : ℕ → List Edge} {x y z : Store} {i j k : ℕ} → Going part x i y j → Going part y j z k → Going part x i z k
-going-both g h = record { same = h .same ∙ g .same; also-same = h .also-same ∙ g .also-same; then = λ w a. h .then w (g .then w a) }
+going-both {x = x} {y} {z} g h = record { same = twoLists .same-both x y z (g .same) (h .same); then = λ w a. h .then w (g .then w a) }
 
 pub going-as : {part : ℕ → List Edge} {x y : Store} {i j i′ j′ : ℕ} → i ≡ i′ → j ≡ j′ → Going part x i y j → Going part x i′ y j′
 going-as {part} {x} {y} {i} {j} {i′} {j′} p q g = subst (λ (m : ℕ). Going part x m y j′) p (subst (Going part x i y) q g)

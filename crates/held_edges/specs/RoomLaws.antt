@@ -31,7 +31,8 @@ use Rattle.report.specs.PlaceLaws.{place-at, of-some}
 use Rattle.report.specs.Rules.{Place}
 use Rattle.report.specs.Held.{entry}
 use Rattle.held_edges.specs.HeldEdges.{backPlace, givenPlace, flowPlace, otherPlace, everyPlace, placeCount, metPlace, edgesAt, heldEdges}
-use Rattle.lock_edges.specs.StoreLaws.{store, Room, Appended}
+use Rattle.sets.specs.AppendLaws.{Room}
+use Rattle.lock_edges.specs.StoreLaws.{store, Appended}
 use Rattle.held_edges.specs.GoingLaws.{Ready, ready}
 use Rattle.held_edges.specs.EdgePlaceLaws.{place-there, entry-there, handle-there, operands-of, next-there, leads-there, met-there}
 
@@ -159,7 +160,7 @@ held-room t acc = record {
   small = λ e m.
       let r = all-there t (oneEach t) acc (one-each-fits t acc) e m in
       let n : placeCount (oneEach t) ≤ 65536 = omega (arith, acc .statements-most, acc .routines-most, acc .handles-most) in
-      (omega (arith, r .0), omega (arith, r .1), omega (arith, r .2));
+      record { from = omega (arith, r .0); also = omega (arith, r .1); to = omega (arith, r .2) };
 }
 
 pub held-ready : (f : List ℤ) → Accepted (tableOf f) → {ends also ends′ also′ : List ℕ} {n : ℕ} → 3 * statements f + 1 ≤ length ends → 3 * statements f + 1 ≤ length also

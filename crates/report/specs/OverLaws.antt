@@ -4,7 +4,8 @@ use mathlib.Core.Path.{_≡_, refl, sym, ap, _∙_, subst}
 use mathlib.Core.Bool.{Bool, true, false, _&&_}
 use mathlib.Core.Logic.{_⊎_, inl, inr}
 use mathlib.Core.List.{List, [], _∷_, _++_, List·Memᴰ, List·Memᴰ·head, List·Memᴰ·tail, Memᴰ·append-left, Memᴰ·append-right, List·Memᴰ·append-cases, append-nil, append-assoc}
-use native.Mathlib.Nat.{add-zero, le-refl}
+use native.Mathlib.Nat.{add-zero, zero-add, le-refl}
+use native.Mathlib.Numerals.{add-one}
 use native.Mathlib.Omega.{arith}
 use lib.Dec.{eqb, ltb}
 use lib.ListN.{length, getD, List·getD-eq-default}
@@ -89,6 +90,9 @@ module _ {A : Type 0} where
     where
       next : (a b : ℕ) → a + 1 + b ≡ a + suc b
       next a b = omega arith
+
+  pub joined-next : (n : ℕ) (f : ℕ → List A) → joinedFrom 0 n f ++ f n ≡ joinedFrom 0 (n + 1) f
+  joined-next n f = rw (add-one n) (ap {B = List A} (λ (j : ℕ). joinedFrom 0 n f ++ f j) (sym (zero-add n)) ∙ sym (joined-last 0 n f))
 
   pub joined-from : (from n : ℕ) (f : ℕ → List A) (x : A) → List·Memᴰ x (joinedFrom from n f) → (i : ℕ) × Within from n i × List·Memᴰ x (f i)
   unfolding joinedFrom

@@ -5,3 +5,4 @@ pub mod InsideLaws
 pub mod Rules
 pub mod Settled
 pub mod LeastLaws
+pub mod AppendLaws

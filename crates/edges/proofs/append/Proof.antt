@@ -1,5 +1,6 @@
 -- `edges::append` meets its contract. Assumes nothing.
-use Rattle.edges.specs.EdgeLaws.{appended-one, appended-full, appended-from-large, appended-to-large}
+use native.Mathlib.Omega.{arith}
+use Rattle.edges.specs.EdgeLaws.{appended-one, appended-full, appended-large}
 use borrow.Author.Needs.{needs}
 use Rattle.edges.proofs.append.Statement.{statement}
 use Rattle.edges.proofs.append.Tie as tie
@@ -29,10 +30,10 @@ returns : tie.Need-returns
 returns c = appended-one _ _ _ _ (search needs) (search needs)
 
 returns-2 : tie.Need-returns-2
-returns-2 c = appended-to-large _ _ _ _ (c .if3 .left)
+returns-2 c = appended-large _ _ _ _ (λ m. omega (arith, c .if3 .left))
 
 returns-3 : tie.Need-returns-3
-returns-3 c = appended-from-large _ _ _ _ (c .if2 .left)
+returns-3 c = appended-large _ _ _ _ (λ m. omega (arith, c .if2 .left))
 
 returns-4 : tie.Need-returns-4
 returns-4 c = appended-full _ _ _ _ (c .if1 .left)

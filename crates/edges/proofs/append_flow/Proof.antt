@@ -3,7 +3,7 @@ use mathlib.Core.Path.{refl}
 use native.Mathlib.Omega.{arith}
 use Rattle.table.specs.ViewLaws.{flowing-is}
 use Rattle.edges.specs.Equations.{edgesAt}
-use Rattle.edges.specs.EdgeLaws.{appended-same, appended-both}
+use Rattle.sets.specs.AppendLaws.{appended-same, appended-both}
 use Rattle.edges.specs.LineLaws.{viewed, names-routine, flow-plain}
 use Rattle.edges.specs.RoutineLaws.{passing-parts, flow-passing}
 use borrow.Author.Needs.{needs}

@@ -5,7 +5,7 @@ use Prim.Native.Nat.{ℕ}
 use Rattle.sets.specs.Least.{Edge}
 use Rattle.table.specs.View.{listOn}
 use Rattle.edges.specs.Equations.{edge}
-use Rattle.edges.specs.EdgeLaws.{appended-same, appended-none}
+use Rattle.sets.specs.AppendLaws.{appended-same, appended-none}
 use borrow.Author.Needs.{needs}
 use Rattle.edges.proofs.append_from.Statement.{statement}
 use Rattle.edges.proofs.append_from.Tie as tie

@@ -2,7 +2,7 @@
 use denote.Ref.{now}
 use mathlib.Core.Path.{refl}
 use Rattle.table.specs.Table.{tableOf}
-use Rattle.edges.specs.EdgeLaws.{appended-same}
+use Rattle.sets.specs.AppendLaws.{appended-same}
 use Rattle.edges.specs.LineLaws.{viewed, up-all, up-calls}
 use borrow.Author.Needs.{needs}
 use Rattle.edges.proofs.append_naming.Statement.{statement}

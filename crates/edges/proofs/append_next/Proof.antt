@@ -5,7 +5,7 @@ use Prim.Native.Nat.{_+_}
 use Rattle.sets.specs.Least.{Edge}
 use Rattle.table.specs.View.{when}
 use Rattle.edges.specs.Equations.{edge}
-use Rattle.edges.specs.EdgeLaws.{appended-same, appended-none}
+use Rattle.sets.specs.AppendLaws.{appended-same, appended-none}
 use mathlib.Core.Bool.{Bool}
 use borrow.Author.Needs.{needs}
 use Rattle.edges.proofs.append_next.Statement.{statement}

@@ -7,7 +7,8 @@ use mathlib.Core.List.{List, [], _∷_}
 use lib.ListN.{getD}
 use Rattle.table.specs.Table.{passed}
 use Rattle.edges.specs.Equations.{edge}
-use Rattle.edges.specs.EdgeLaws.{Growing, growing-start, growing-next, growing-done, appended-same}
+use Rattle.sets.specs.AppendLaws.{appended-same}
+use Rattle.edges.specs.EdgeLaws.{Growing, growing-start, growing-next, growing-done}
 use borrow.Author.Needs.{needs}
 use Rattle.edges.proofs.append_passing.Statement.{statement}
 use Rattle.edges.proofs.append_passing.Tie as tie

@@ -5,7 +5,8 @@ use Prim.Native.Nat.{ℕ, _+_}
 use Rattle.sets.specs.Least.{Edge}
 use Rattle.table.specs.View.{listOn}
 use Rattle.edges.specs.Equations.{edge}
-use Rattle.edges.specs.EdgeLaws.{appended-same, appended-none, appended-to-large}
+use Rattle.sets.specs.AppendLaws.{appended-same, appended-none}
+use Rattle.edges.specs.EdgeLaws.{appended-large}
 use native.Mathlib.Omega.{arith}
 use borrow.Author.Needs.{needs}
 use Rattle.edges.proofs.append_to.Statement.{statement}
@@ -30,7 +31,7 @@ enum-told : tie.Need-enum-told
 enum-told c = search needs
 
 returns-2 : tie.Need-returns-2
-returns-2 c = appended-same _ _ (ap {B = List Edge} (λ r. listOn r (λ (q : ℕ). edge (c .before .before .before .before .before .args .f) (c .before .before .before .before .before .args .base + q) ∷ [])) (sym (c .before .before .r .given .1))) (appended-to-large _ _ _ _ (omega (arith, c .if1 .left)))
+returns-2 c = appended-same _ _ (ap {B = List Edge} (λ r. listOn r (λ (q : ℕ). edge (c .before .before .before .before .before .args .f) (c .before .before .before .before .before .args .base + q) ∷ [])) (sym (c .before .before .r .given .1))) (appended-large _ _ _ _ (λ m. omega (arith, c .if1 .left)))
 
 returns-3 : tie.Need-returns-3
 returns-3 c = appended-same _ _ (ap {B = List Edge} (λ r. listOn r (λ (q : ℕ). edge (c .before .before .before .args .f) (c .before .before .before .args .base + q) ∷ [])) (sym (c .enum-told .given .1))) appended-none

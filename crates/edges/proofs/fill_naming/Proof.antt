@@ -1,5 +1,5 @@
 -- `edges::fill_naming` meets its contract. Assumes nothing.
-use Rattle.edges.specs.EdgeLaws.{appended-same}
+use Rattle.sets.specs.AppendLaws.{appended-same}
 use Rattle.edges.specs.LineLaws.{lined, every-edge, up-at}
 use native.Mathlib.Omega.{arith}
 use Prim.Native.Nat.{_-_}

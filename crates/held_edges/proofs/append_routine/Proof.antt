@@ -4,7 +4,8 @@ use Prim.Native.Nat.{_-_, _≤_}
 use lib.ListN.{getD}
 use native.Mathlib.Omega.{arith}
 use Rattle.held_edges.specs.TableEdges.{partOf}
-use Rattle.lock_edges.specs.StoreLaws.{store, appended-same}
+use Rattle.sets.specs.AppendLaws.{appended-same}
+use Rattle.lock_edges.specs.StoreLaws.{store}
 use Rattle.held_edges.specs.GoingLaws.{Going, going-start, going-next, going-as}
 use Rattle.held_edges.specs.RoutineEdgeLaws.{few-routines, first-grows-at, small-here, fits-here, part-here}
 use borrow.Author.Needs.{needs}
@@ -54,10 +55,10 @@ loop-again : tie.Need-loop-again Inv-loop μ-loop
 loop-again c = (omega (arith, c .before .before .before .before .before .before .before .before .before .loop .inv .0), omega (arith, c .before .before .before .before .before .before .before .before .loop-test .taken), going-next (c .before .before .before .before .before .before .before .before .before .loop .inv .2) (appended-same _ _ (part-here (c .before .before .before .before .before .before .before .before .before .before .before .before .before .before .before .before .before .args .numbers .now) (c .before .before .before .before .before .before .before .before .before .before .before .before .before .before .before .before .before .args .first .now) (c .before .before .before .before .before .before .before .before .before .before .before .before .before .before .before .before .before .pre .0) (c .before .before .before .before .before .before .before .before .before .before .before .before .before .before .before .before .before .pre .1 .0) (c .before .before .before .before .before .before .before .before .before .before .before .before .before .before .before .before .before .args .c) (c .before .before .before .before .before .before .before .before .before .loop .s) (c .before .before .before .before .before .before .before .before .before .before .before .before .first-line .result) (c .before .before .before .before .before .before .before .before .before .before .before .before .before .before .before .before .before .pre .1 .1) (c .before .before .before .before .before .before .before .before .before .loop .inv .0) (omega (arith, c .before .before .before .before .before .before .before .before .loop-test .taken, c .before .before .before .before .before .before .before .before .before .before .before .number-at .ensures)) (c .before .before .before .before .before .before .before .before .before .before .before .before .first-line .ensures .0) (c .before .before .before .before .before .before .before .before .before .before .before .before .before .bases-of .ensures) (c .before .before .before .before .before .before .before .view-at .ensures)) (c .before .before .before .before .append-statement .ensures)))
 
 same-length : tie.Need-same-length Inv-loop μ-loop
-same-length c = c .before .loop .inv .2 .same
+same-length c = c .before .loop .inv .2 .same .ends
 
 same-length-2 : tie.Need-same-length-2 Inv-loop μ-loop
-same-length-2 c = c .before .loop .inv .2 .also-same
+same-length-2 c = c .before .loop .inv .2 .same .also
 
 returns : tie.Need-returns Inv-loop μ-loop
 returns c = going-as refl (omega (arith, c .loop-test .left, c .before .loop .inv .1, c .before .before .before .number-at .ensures)) (c .before .loop .inv .2)

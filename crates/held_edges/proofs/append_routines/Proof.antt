@@ -36,10 +36,10 @@ loop-again : tie.Need-loop-again Inv-loop μ-loop
 loop-again c = (omega (arith, c .before .before .before .before .before .before .before .loop-test .taken), going-both (c .before .before .before .before .before .before .before .before .loop .inv .1) (c .before .before .before .before .append-routine .ensures))
 
 same-length : tie.Need-same-length Inv-loop μ-loop
-same-length c = c .before .loop .inv .1 .same
+same-length c = c .before .loop .inv .1 .same .ends
 
 same-length-2 : tie.Need-same-length-2 Inv-loop μ-loop
-same-length-2 c = c .before .loop .inv .1 .also-same
+same-length-2 c = c .before .loop .inv .1 .same .also
 
 returns : tie.Need-returns Inv-loop μ-loop
 returns c = going-done (going-as refl (first-end (c .before .before .before .before .before .before .args .numbers .now) (c .before .before .before .before .before .before .args .first .now) (c .before .before .before .before .before .before .pre .0) (c .before .before .before .before .before .before .pre .1) _ (omega (arith, c .loop-test .left, c .before .loop .inv .0, c .before .before .field-of .ensures .0))) (c .before .loop .inv .1))

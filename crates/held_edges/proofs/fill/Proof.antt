@@ -1,6 +1,6 @@
 -- `held_edges::fill` meets its contract. Assumes nothing.
 use mathlib.Core.Path.{_∙_}
-use Rattle.lock_edges.specs.StoreLaws.{appended-same, appended-both}
+use Rattle.sets.specs.AppendLaws.{appended-same, appended-both}
 use Rattle.held_edges.specs.RoomLaws.{held-ready}
 use Rattle.held_edges.specs.RoutineEdgeLaws.{all-edges}
 use borrow.Author.Needs.{needs}
@@ -20,10 +20,10 @@ append-routines-requires : tie.Need-append-routines-requires
 append-routines-requires c κs = (c .before .before .before .before .before .before .before .before .before .before .before .before .before .before .pre .0, c .before .before .before .before .before .before .before .before .before .before .before .before .before .before .pre .1 .0)
 
 same-length : tie.Need-same-length
-same-length c = c .before .before .before .before .append-routines .ensures .same ∙ c .before .before .before .before .before .before .before .before .before .before .before .append .ensures .same
+same-length c = c .before .before .before .before .append-routines .ensures .same .ends ∙ c .before .before .before .before .before .before .before .before .before .before .before .append .ensures .same .ends
 
 same-length-2 : tie.Need-same-length-2
-same-length-2 c = c .before .before .before .before .append-routines .ensures .also-same ∙ c .before .before .before .before .before .before .before .before .before .before .before .append .ensures .also-same
+same-length-2 c = c .before .before .before .before .append-routines .ensures .same .also ∙ c .before .before .before .before .before .before .before .before .before .before .before .append .ensures .same .also
 
 returns : tie.Need-returns
 returns c = held-ready (c .before .before .before .before .before .before .before .before .before .before .before .before .before .before .before .before .before .before .before .args .numbers .now) (c .before .before .before .before .before .before .before .before .before .before .before .before .before .before .before .before .before .before .before .pre .0) (c .before .before .before .before .before .before .before .before .before .before .before .before .before .before .before .before .before .before .before .pre .1 .1 .0) (c .before .before .before .before .before .before .before .before .before .before .before .before .before .before .before .before .before .before .before .pre .1 .1 .1) (appended-same _ _ (all-edges (c .before .before .before .before .before .before .before .before .before .before .before .before .before .before .before .before .before .before .before .args .numbers .now) (c .before .before .before .before .before .before .before .before .before .before .before .before .before .before .before .before .before .before .before .args .first .now) (c .before .before .before .before .before .before .before .before .before .before .before .before .before .before .before .before .before .before .before .pre .0) (c .before .before .before .before .before .before .before .before .before .before .before .before .before .before .before .before .before .before .before .pre .1 .0) (c .before .before .before .before .before .before .before .before .before .before .before .before .before .before .before .bases-of .ensures) (c .before .before .before .before .before .before .before .before .before .before .before .before .number-at .ensures)) (appended-both (c .before .before .before .before .before .before .before .before .before .before .before .append .ensures) (c .before .before .before .before .append-routines .ensures)))

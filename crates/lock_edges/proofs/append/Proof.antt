@@ -1,6 +1,6 @@
 -- `lock_edges::append` meets its contract. Assumes nothing.
 use native.Mathlib.Omega.{arith}
-use Rattle.lock_edges.specs.StoreLaws.{appended-one, appended-not, appended-full, appended-also-full}
+use Rattle.lock_edges.specs.StoreLaws.{appended-one, appended-full, appended-also-full, appended-large}
 use borrow.Author.Needs.{needs}
 use Rattle.lock_edges.proofs.append.Statement.{statement}
 use Rattle.lock_edges.proofs.append.Tie as tie
@@ -42,13 +42,13 @@ returns : tie.Need-returns
 returns c = appended-one _ _ _ _ _ (search needs) (search needs) (search needs)
 
 returns-2 : tie.Need-returns-2
-returns-2 c = appended-not _ _ _ _ _ (λ a es h l u v w. omega (arith, c .if5 .left))
+returns-2 c = appended-large _ _ _ _ _ (λ m. omega (arith, c .if5 .left))
 
 returns-3 : tie.Need-returns-3
-returns-3 c = appended-not _ _ _ _ _ (λ a es h l u v w. omega (arith, c .if4 .left))
+returns-3 c = appended-large _ _ _ _ _ (λ m. omega (arith, c .if4 .left))
 
 returns-4 : tie.Need-returns-4
-returns-4 c = appended-not _ _ _ _ _ (λ a es h l u v w. omega (arith, c .if3 .left))
+returns-4 c = appended-large _ _ _ _ _ (λ m. omega (arith, c .if3 .left))
 
 returns-5 : tie.Need-returns-5
 returns-5 c = appended-also-full _ _ _ _ _ (c .if2 .left)

@@ -1,6 +1,6 @@
 -- `lock_edges::append_call` meets its contract. Assumes nothing.
 use native.Mathlib.Omega.{arith}
-use Rattle.lock_edges.specs.StoreLaws.{appended-same, appended-none, appended-both}
+use Rattle.sets.specs.AppendLaws.{appended-same, appended-none, appended-both}
 use Rattle.lock_edges.specs.ViewEdgeLaws.{call-is, start-no-call, none-no-call}
 use borrow.Author.Needs.{needs}
 use Rattle.lock_edges.proofs.append_call.Statement.{statement}

@@ -1,6 +1,6 @@
 -- `lock_edges::append_give` meets its contract. Assumes nothing.
 use native.Mathlib.Omega.{arith}
-use Rattle.lock_edges.specs.StoreLaws.{appended-same, appended-none}
+use Rattle.sets.specs.AppendLaws.{appended-same, appended-none}
 use Rattle.lock_edges.specs.ViewEdgeLaws.{give-is, none-no-give}
 use borrow.Author.Needs.{needs}
 use Rattle.lock_edges.proofs.append_give.Statement.{statement}

@@ -1,5 +1,5 @@
 -- `lock_edges::append_nexts` meets its contract. Assumes nothing.
-use Rattle.lock_edges.specs.StoreLaws.{appended-same, appended-both}
+use Rattle.sets.specs.AppendLaws.{appended-same, appended-both}
 use Rattle.lock_edges.specs.ViewEdgeLaws.{nexts-onward, nexts-not-onward}
 use borrow.Author.Needs.{needs}
 use Rattle.lock_edges.proofs.append_nexts.Statement.{statement}

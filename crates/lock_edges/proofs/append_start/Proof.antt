@@ -1,5 +1,5 @@
 -- `lock_edges::append_start` meets its contract. Assumes nothing.
-use Rattle.lock_edges.specs.StoreLaws.{appended-same, appended-none}
+use Rattle.sets.specs.AppendLaws.{appended-same, appended-none}
 use Rattle.lock_edges.specs.ViewEdgeLaws.{start-is, call-no-start, none-no-start}
 use borrow.Author.Needs.{needs}
 use Rattle.lock_edges.proofs.append_start.Statement.{statement}

@@ -1,7 +1,7 @@
 -- `lock_edges::append_statement` meets its contract. Assumes nothing.
 use mathlib.Core.Path.{_∙_}
 use Rattle.lock_edges.specs.ViewEdges.{viewEdges}
-use Rattle.lock_edges.specs.StoreLaws.{appended-same, appended-both}
+use Rattle.sets.specs.AppendLaws.{appended-same, appended-both}
 use Rattle.lock_edges.specs.ViewEdgeLaws.{kept-is}
 use borrow.Author.Needs.{needs}
 use Rattle.lock_edges.proofs.append_statement.Statement.{statement}
@@ -26,10 +26,10 @@ append-end-requires : tie.Need-append-end-requires
 append-end-requires c κs = (c .before .before .before .before .before .before .before .before .before .before .before .before .before .before .before .before .before .before .before .before .before .before .before .before .before .before .before .before .before .before .before .before .before .before .pre .2, c .before .before .before .before .before .before .before .before .before .before .before .before .before .before .before .before .before .before .before .before .before .before .before .before .before .before .before .before .before .before .before .before .before .before .pre .1)
 
 same-length : tie.Need-same-length
-same-length c = c .before .before .before .before .append-end .ensures .same ∙ c .before .before .before .before .before .before .before .before .before .before .before .append-start .ensures .same ∙ c .before .before .before .before .before .before .before .before .before .before .before .before .before .before .before .before .before .before .append-give .ensures .same ∙ c .before .before .before .before .before .before .before .before .before .before .before .before .before .before .before .before .before .before .before .before .before .before .before .before .before .append-nexts .ensures .same ∙ c .before .before .before .before .before .before .before .before .before .before .before .before .before .before .before .before .before .before .before .before .before .before .before .before .before .before .before .before .before .before .before .before .before .append-call .ensures .same
+same-length c = c .before .before .before .before .append-end .ensures .same .ends ∙ c .before .before .before .before .before .before .before .before .before .before .before .append-start .ensures .same .ends ∙ c .before .before .before .before .before .before .before .before .before .before .before .before .before .before .before .before .before .before .append-give .ensures .same .ends ∙ c .before .before .before .before .before .before .before .before .before .before .before .before .before .before .before .before .before .before .before .before .before .before .before .before .before .append-nexts .ensures .same .ends ∙ c .before .before .before .before .before .before .before .before .before .before .before .before .before .before .before .before .before .before .before .before .before .before .before .before .before .before .before .before .before .before .before .before .before .append-call .ensures .same .ends
 
 same-length-2 : tie.Need-same-length-2
-same-length-2 c = c .before .before .before .before .append-end .ensures .also-same ∙ c .before .before .before .before .before .before .before .before .before .before .before .append-start .ensures .also-same ∙ c .before .before .before .before .before .before .before .before .before .before .before .before .before .before .before .before .before .before .append-give .ensures .also-same ∙ c .before .before .before .before .before .before .before .before .before .before .before .before .before .before .before .before .before .before .before .before .before .before .before .before .before .append-nexts .ensures .also-same ∙ c .before .before .before .before .before .before .before .before .before .before .before .before .before .before .before .before .before .before .before .before .before .before .before .before .before .before .before .before .before .before .before .before .before .append-call .ensures .also-same
+same-length-2 c = c .before .before .before .before .append-end .ensures .same .also ∙ c .before .before .before .before .before .before .before .before .before .before .before .append-start .ensures .same .also ∙ c .before .before .before .before .before .before .before .before .before .before .before .before .before .before .before .before .before .before .append-give .ensures .same .also ∙ c .before .before .before .before .before .before .before .before .before .before .before .before .before .before .before .before .before .before .before .before .before .before .before .before .before .append-nexts .ensures .same .also ∙ c .before .before .before .before .before .before .before .before .before .before .before .before .before .before .before .before .before .before .before .before .before .before .before .before .before .before .before .before .before .before .before .before .before .append-call .ensures .same .also
 
 returns : tie.Need-returns
 unfolding viewEdges

@@ -1,5 +1,5 @@
 -- `lock_edges::append_to` meets its contract. Assumes nothing.
-use Rattle.lock_edges.specs.StoreLaws.{appended-same, appended-none}
+use Rattle.sets.specs.AppendLaws.{appended-same, appended-none}
 use Rattle.lock_edges.specs.ViewEdgeLaws.{to-is, to-none}
 use borrow.Author.Needs.{needs}
 use Rattle.lock_edges.proofs.append_to.Statement.{statement}
