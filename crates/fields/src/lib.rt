@@ -205,5 +205,5 @@ pub fn read_field(text: &[u8], at: usize) -> Field
     if text.len() - 6 < at {
         return Field::Bad;
     }
-    field_of(&text[at..at + 6])
+    field_in(text, at)
 }
