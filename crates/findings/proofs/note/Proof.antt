@@ -63,15 +63,15 @@ one-requires c κs = tt
 difference-requires : tie.Need-difference-requires Inv-loop μ-loop
 difference-requires c κs = tt
 
-loop-less : tie.Need-loop-less Inv-loop μ-loop
-loop-less c = let inv = c .before .before .before .before .before .before .before .loop .inv in
-    let at = c .before .before .before .before .before .lowest-cell in
-    rw (c .difference .ensures, c .before .one .ensures) (marking-less (inv .1) (inv .2) (inv .0) (at .result) (at .ensures .0) (at .ensures .1))
-
 loop-again : tie.Need-loop-again Inv-loop μ-loop
 loop-again c = let inv = c .before .before .before .before .before .before .before .loop .inv in
     let at = c .before .before .before .before .before .lowest-cell in
     (rw (c .difference .ensures, c .before .one .ensures, c .before .before .before .intersection .ensures) (marking-next (inv .1) (inv .2) (inv .0) (at .result) (at .ensures .0) (at .ensures .1)), inv .1, inv .2)
+
+loop-less : tie.Need-loop-less Inv-loop μ-loop
+loop-less c = let inv = c .before .before .before .before .before .before .before .loop .inv in
+    let at = c .before .before .before .before .before .lowest-cell in
+    rw (c .difference .ensures, c .before .one .ensures) (marking-less (inv .1) (inv .2) (inv .0) (at .result) (at .ensures .0) (at .ensures .1))
 
 returns : tie.Need-returns Inv-loop μ-loop
 returns c = marking-done (c .before .loop .inv .1) (c .before .loop .inv .2) (c .before .loop .inv .0) (c .loop-test .left)
