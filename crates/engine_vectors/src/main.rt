@@ -4,9 +4,26 @@
 use engine::Outcome;
 use libc::STDOUT_FILENO;
 use run_printer::load;
-use run_printer::say;
-use run_printer::say_answers;
-use run_printer::say_cells;
+
+fn say(text: &[u8]) {
+    io::write_all(STDOUT_FILENO, text);
+}
+
+// All the cells, a space before each.
+fn say_cells(cells: &[i32]) {
+    let mut out = [0u8; 2048];
+    let start = run_printer::put_values(&mut out, 2048, cells);
+    say(b", cells");
+    say(&out[start..]);
+}
+
+// All the answers, a space before each.
+fn say_answers(answers: &[u8]) {
+    let mut out = [0u8; 2048];
+    let start = run_printer::put_answers(&mut out, 2048, answers);
+    say(b", answers");
+    say(&out[start..]);
+}
 
 // A run of the engine: its number and line, all the answers and all the cells.
 fn show(text: &[u8], schedule: &[u8], answers: &mut [u8], cells: &mut [i32]) {
@@ -14,9 +31,7 @@ fn show(text: &[u8], schedule: &[u8], answers: &mut [u8], cells: &mut [i32]) {
     io::print_decimal(STDOUT_FILENO, outcome.number as u64);
     say(b" line ");
     io::print_decimal(STDOUT_FILENO, outcome.line as u64);
-    say(b", answers");
-    say_answers(answers, answers.len());
-    say(b", cells");
+    say_answers(answers);
     say_cells(cells);
     say(b"\n");
 }
@@ -24,7 +39,6 @@ fn show(text: &[u8], schedule: &[u8], answers: &mut [u8], cells: &mut [i32]) {
 // The number of a call and the cells that it left.
 fn say_left(outcome: Outcome, cells: &[i32]) {
     io::print_decimal(STDOUT_FILENO, outcome.number as u64);
-    say(b", cells");
     say_cells(cells);
 }
 

@@ -1,8 +1,6 @@
 // Steps a table by a schedule and prints a line a step: 55, thread, answer, five zeros, and then each cell's value; or line 50 on refusal. The first argument names a file with the
 // table text, the second a file with the schedule, each byte a thread number.
 use libc::STDOUT_FILENO;
-use run_printer::say;
-use run_printer::say_number;
 
 // One step: its thread and its answer.
 fn print_step(thread: u8, answer: u8) {
@@ -25,29 +23,20 @@ fn print_steps(schedule: &[u8], answers: &[u8]) {
     }
 }
 
-// A cell and its value: `cell K V`.
-fn print_cell(cell: usize, value: i32) {
-    say(b"cell ");
-    io::print_decimal(STDOUT_FILENO, cell as u64);
-    say_number(value);
-    say(b"\n");
-}
-
-// The first cells, so many.
-fn print_cells(cells: &[i32], count: usize) {
-    let mut i = 0;
-    while i < count {
-        if i < cells.len() {
-            print_cell(i, cells[i]);
-        }
-        i += 1;
-    }
+// The lines of cells, 20 bytes each at most.
+fn print_cells(cells: &[i32]) {
+    let mut out = [0u8; 2048];
+    let start = run_printer::put_cells(&mut out, 2048, cells);
+    io::write_all(STDOUT_FILENO, &out[start..]);
 }
 
 // The cells of an accepted text: as many as its header says.
 fn print_cells_of(text: &[u8], cells: &[i32]) {
     let header = lines::read_line(text, 0);
-    print_cells(cells, table::field_of(&header.numbers[..], 0, 1));
+    let count = table::field_of(&header.numbers[..], 0, 1);
+    if count <= cells.len() {
+        print_cells(&cells[..count]);
+    }
 }
 
 fn print_refusal(number: u32, line: usize) {

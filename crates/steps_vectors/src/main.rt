@@ -9,23 +9,36 @@ ghost use Rattle.table.specs.Table.{tableOf};
 ghost use Rattle.table.specs.Accepted.{Accepted};
 ghost use Rattle.run_state.specs.Lists.{cellsIn};
 ghost use Rattle.run_state.specs.Shown.{Standing};
+use libc::STDOUT_FILENO;
 use run_printer::load;
-use run_printer::say;
-use run_printer::say_answers;
-use run_printer::say_cells;
 use run_state::Sizes;
 use table::Verdict;
 
-// The first answers, so many.
+// The answers, so many as there are.
+fn say_answers(answers: &[u8]) {
+    let mut out = [0u8; 2048];
+    let words = run_printer::put_answers(&mut out, 2048, answers);
+    let start = run_printer::put_text(&mut out, words, b"answers");
+    io::write_all(STDOUT_FILENO, &out[start..]);
+}
+
+// The first answers, so many; none if there are fewer.
+fn say_some(answers: &[u8], count: usize) {
+    if count <= answers.len() {
+        say_answers(&answers[..count]);
+    }
+}
+
 fn say_first(answers: &[u8; 300], count: usize) {
-    say(b"answers");
-    say_answers(answers, count);
+    say_some(answers, count);
 }
 
 fn say_left(cells: &[i32]) {
-    say(b", cells");
-    say_cells(cells);
-    say(b"\n");
+    let mut out = [0u8; 2048];
+    let end = run_printer::put_text(&mut out, 2048, b"\n");
+    let words = run_printer::put_values(&mut out, end, cells);
+    let start = run_printer::put_text(&mut out, words, b", cells");
+    io::write_all(STDOUT_FILENO, &out[start..]);
 }
 
 // The cells of a run, by a list that just fits them.
