@@ -13,11 +13,11 @@ use lib.ListN.{length, getD, take, drop, set, length-set, drop-of-length-le}
 use lib.Seq.{drop-cons, take-all}
 use Rattle.fields.specs.Field.{decimalText}
 use Rattle.fields.specs.FieldLaws.{text-last, text-more}
-use Rattle.run_printer.specs.Words.{Ending, ending, putAt, put, puts, textsFrom, wordText, cellText}
+use Rattle.run_printer.specs.Words.{Ending, ending, putAt, put, puts, textsFrom, wordText, cellText, cellsText}
 
 -- ---- one byte
 
-pub put-none : (b : ℕ) (l : List ℕ) (s : ℕ) → s ≡ 0 → ending l 0 ≡ put b (ending l s)
+pub put-none : (b : ℕ) (l : List ℕ) (s : ℕ) → s ≡ 0 → ending l s ≡ put b (ending l s)
 unfolding put putAt
 put-none b l s e = rw e
 
@@ -34,6 +34,17 @@ set-past (x ∷ l) (suc i) b h = ap (λ (k : List ℕ). x ∷ k) (set-past l i b
 
 pub put-past : (b : ℕ) (l : List ℕ) (s : ℕ) → 0 < s → length l ≤ s - 1 → ending l (s - 1) ≡ put b (ending l s)
 put-past b l s p h = ap (λ (k : List ℕ). ending k (s - 1)) (sym (set-past l (s - 1) b h)) ∙ put-one b l s p
+
+-- ---- texts behind each other
+
+pub puts-both : (a b : List ℕ) (e : Ending) → puts (a ++ b) e ≡ puts a (puts b e)
+unfolding puts
+puts-both [] b e = refl
+puts-both (x ∷ a) b e = ap (put x) (puts-both a b e)
+
+pub puts-one : (b : ℕ) (e : Ending) → puts (b ∷ []) e ≡ put b e
+unfolding puts
+puts-one b e = refl
 
 -- ---- a buffer keeps its length
 
@@ -65,17 +76,6 @@ starts-within (b ∷ t) e = omega (arith, put-within b (puts t e .bytes) (puts t
 
 pub puts-within : (t : List ℕ) (e e′ : Ending) → e′ ≡ puts t e → e′ .start ≤ e .start
 puts-within t e e′ p = omega (arith, ap (λ (d : Ending). d .start) p, starts-within t e)
-
--- ---- texts behind each other
-
-pub puts-both : (a b : List ℕ) (e : Ending) → puts (a ++ b) e ≡ puts a (puts b e)
-unfolding puts
-puts-both [] b e = refl
-puts-both (x ∷ a) b e = ap (put x) (puts-both a b e)
-
-pub puts-one : (b : ℕ) (e : Ending) → puts (b ∷ []) e ≡ put b e
-unfolding puts
-puts-one b e = refl
 
 -- ---- loops over a list from its last element to its first
 
@@ -204,3 +204,16 @@ puts-ends (b ∷ t) out = ap (put b) (puts-ends t out) ∙ go (length out - leng
         let all : length t - length out ≡ 0 = omega arith in
         let none : suc (length t) - length out ≡ 0 = omega arith in
         rw (left, all, none) (ap (λ (l : List ℕ). ending l s) (set-front s b out t (omega arith)))
+
+-- ---- by example
+
+-- `cell 0 7` and `cell 1 -12`, each with its line feed
+two-cells : cellsText (pos 7 ∷ negsuc 11 ∷ [])
+    ≡ 99 ∷ 101 ∷ 108 ∷ 108 ∷ 32 ∷ 48 ∷ 32 ∷ 55 ∷ 10 ∷ 99 ∷ 101 ∷ 108 ∷ 108 ∷ 32 ∷ 49 ∷ 32 ∷ 45 ∷ 49 ∷ 50 ∷ 10 ∷ []
+unfolding cellsText textsFrom cellText wordText decimalText
+two-cells = refl
+
+-- three bytes into a buffer of two: the first is lost
+too-short : puts (1 ∷ 2 ∷ 3 ∷ []) (ending (9 ∷ 9 ∷ []) 2) ≡ ending (2 ∷ 3 ∷ []) 0
+unfolding puts put putAt
+too-short = refl

@@ -11,7 +11,7 @@ fn put_byte(out: &mut [u8], start: usize, byte: u8) -> usize
     ensures { λ r. ⌜ ending (now (out .exit)) r ≡ put byte (ending (now (out .entry)) start) ⌝ }
 {
     if start == 0 {
-        return 0;
+        return start;
     }
     let place = start - 1;
     if place < out.len() {

@@ -1,5 +1,6 @@
 -- `run_printer::put_digits` meets its contract. Assumes nothing.
 use borrow.Author.Needs.{needs}
+use native.Mathlib.Omega.{arith}
 use mathlib.Core.Path.{_∙_}
 use Rattle.run_printer.specs.Words.{ending}
 use Rattle.run_printer.specs.WordsLaws.{Spelling, spelling-start, spelling-next, spelling-done, put-long}
@@ -28,7 +29,7 @@ loop-less : tie.Need-loop-less Inv-loop μ-loop
 loop-less c = search needs
 
 loop-again : tie.Need-loop-again Inv-loop μ-loop
-loop-again c = spelling-next (c .before .before .before .before .before .loop .inv) (c .before .before .before .before .loop-test .taken) (c .before .before .put-byte .ensures)
+loop-again c = spelling-next (c .before .before .before .before .before .loop .inv) (omega (arith, c .before .before .before .before .loop-test .taken)) (c .before .before .put-byte .ensures)
 
 cast-put-byte-2 : tie.Need-cast-put-byte-2 Inv-loop μ-loop
 cast-put-byte-2 c = search needs
