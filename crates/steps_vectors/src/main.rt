@@ -14,7 +14,7 @@ use run_printer::load;
 use run_state::Sizes;
 use table::Verdict;
 
-// The answers, so many as there are.
+// `answers` and the answers, a space before each.
 fn say_answers(answers: &[u8]) {
     let mut out = [0u8; 2048];
     let words = run_printer::put_answers(&mut out, 2048, answers);
@@ -29,10 +29,12 @@ fn say_some(answers: &[u8], count: usize) {
     }
 }
 
+// The same, of an array.
 fn say_first(answers: &[u8; 300], count: usize) {
     say_some(answers, count);
 }
 
+// `, cells` and the values of the cells, a space before each; a line feed.
 fn say_left(cells: &[i32]) {
     let mut out = [0u8; 2048];
     let end = run_printer::put_text(&mut out, 2048, b"\n");
