@@ -87,9 +87,6 @@ pub fn run(text: &[u8], schedule: &[u8], answers: &mut [u8], cells: &mut [i32]) 
                     if l.op == START && started == 16 {
                         frame[1] -= 1;
                         18
-                    } else if l.op == CALL && depth[n] == 32 {
-                        frame[1] -= 1;
-                        19
                     } else if l.op == CALL {
                         depth[n] += 1;
                         open(&mut frames[n][depth[n] - 1], q, passed);

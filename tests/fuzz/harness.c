@@ -177,7 +177,7 @@ static void run_once(struct input in, struct station_answer text_said, size_t ce
     memcpy(copy, answers, steps);
     memcpy(copy + steps, values, written);
     for (size_t i = 0; i < steps; i++) {
-        DEMAND(answers[i] == 0 || (answers[i] >= 14 && answers[i] <= 18)); /* never 19: docs/TRIAL.md */
+        DEMAND(answers[i] == 0 || (answers[i] >= 14 && answers[i] <= 18)); /* no 19: docs/GUARANTEE.md */
         answers_met[answers[i]]++;
         meet(3, (i ? answers[i - 1] : 31u) * 32 + answers[i]);
     }

@@ -492,7 +492,6 @@ impl State {
         let Some(frame) = self.threads[n].frames.last() else { return 15 };
         let s = frame.next;
         let started = self.threads.len();
-        let depth = self.threads[n].frames.len();
         let refers = |h: usize| self.refers(t, n, h);
         let mut next = s + 1;
         match t.statements[s] {
@@ -532,14 +531,13 @@ impl State {
                 if limited && !call && started == 16 {
                     return 18;
                 }
-                if limited && call && depth == 32 {
-                    return 19;
-                }
                 let passed: Vec<usize> = (0..t.routines[q].parameters).map(|k| refers(a[k])).collect();
                 let opened = State::frame(t, q, &passed);
                 self.threads[n].frames.last_mut().unwrap().next = next;
                 if call {
                     self.threads[n].frames.push(opened);
+                    // C-16: "so 32 frames always suffice".
+                    assert!(self.threads[n].frames.len() <= 32, "thread {n} has 33 frames");
                 } else {
                     self.threads.push(Thread { accumulator: 0, frames: vec![opened] });
                 }

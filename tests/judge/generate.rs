@@ -29,6 +29,28 @@ fn line(out: &mut Vec<u8>, numbers: &[i64]) {
 /// Handles of a routine: (kind, parameter, start).
 type Own = Vec<(i64, bool, i64)>;
 
+/// The text of a table with these handles and statements of each routine.
+fn written(cells: usize, locks: usize, own: &[Own], bodies: &[Vec<Vec<i64>>]) -> Vec<u8> {
+    let mut out = vec![];
+    let handles: usize = own.iter().map(|h| h.len()).sum();
+    let statements: usize = bodies.iter().map(|b| b.len()).sum();
+    line(&mut out, &[1, cells as i64, locks as i64, handles as i64, own.len() as i64, statements as i64]);
+    for (q, mine) in own.iter().enumerate() {
+        for &(kind, parameter, start) in mine {
+            line(&mut out, &[2, q as i64, kind, !parameter as i64, start]);
+        }
+    }
+    for b in bodies {
+        line(&mut out, &[3, b.len() as i64]);
+    }
+    for s in bodies.iter().flatten() {
+        let mut numbers = vec![4];
+        numbers.extend(s);
+        line(&mut out, &numbers);
+    }
+    out
+}
+
 /// A table text that keeps the rules: routines name higher ones only.
 pub fn table(r: &mut Random, largest: bool) -> Vec<u8> {
     let routines = if largest { 1 + r.below(32) } else { 1 + r.below(5) };
@@ -93,26 +115,7 @@ pub fn table(r: &mut Random, largest: bool) -> Vec<u8> {
             }
         }
     }
-    let mut out = vec![];
-    let handles: usize = own.iter().map(|h| h.len()).sum();
-    let statements: usize = bodies.iter().map(|b| b.len()).sum();
-    line(&mut out, &[1, cells as i64, locks as i64, handles as i64, routines as i64, statements as i64]);
-    for (q, mine) in own.iter().enumerate() {
-        for &(kind, parameter, start) in mine {
-            line(&mut out, &[2, q as i64, kind, !parameter as i64, start]);
-        }
-    }
-    for b in &bodies {
-        line(&mut out, &[3, b.len() as i64]);
-    }
-    for b in &bodies {
-        for s in b {
-            let mut numbers = vec![4];
-            numbers.extend(s);
-            line(&mut out, &numbers);
-        }
-    }
-    out
+    written(cells, locks, &own, &bodies)
 }
 
 /// A block: READ or WRITE of a cell, mostly between TAKE and GIVE of its lock; handles 0 and 1 of the routine are cells, 2 and 3 their locks.
@@ -158,24 +161,8 @@ pub fn guarded(r: &mut Random) -> Vec<u8> {
         body.push(if r.one_in(6) { vec![10, target] } else { vec![12] });
         bodies.push(body);
     }
-    let statements: usize = bodies.iter().map(|b| b.len()).sum();
-    let mut out = vec![];
-    line(&mut out, &[1, 2, 2, 4 * routines as i64, routines as i64, statements as i64]);
-    for q in 0..routines {
-        for k in 0..4 {
-            let parameter = passed && q > 0;
-            line(&mut out, &[2, q as i64, 1 + k / 2, !parameter as i64, if parameter { 0 } else { k % 2 }]);
-        }
-    }
-    for b in &bodies {
-        line(&mut out, &[3, b.len() as i64]);
-    }
-    for s in bodies.iter().flatten() {
-        let mut numbers = vec![4];
-        numbers.extend(s);
-        line(&mut out, &numbers);
-    }
-    out
+    let own: Vec<Own> = (0..routines).map(|q| (0..4).map(|k| (1 + k / 2, passed && q > 0, if passed && q > 0 { 0 } else { k % 2 })).collect()).collect();
+    written(2, 2, &own, &bodies)
 }
 
 fn pick(r: &mut Random, mine: &Own, base: usize, kind: i64) -> Option<i64> {
@@ -236,21 +223,30 @@ pub fn sums(r: &mut Random) -> Vec<u8> {
         body.extend([vec![2, q as i64 - 1], vec![10, first as i64]]);
         bodies.push(body);
     }
-    let statements: usize = bodies.iter().map(|b| b.len()).sum();
-    let mut out = vec![];
-    line(&mut out, &[1, routines as i64 - 1, 0, routines as i64 - 1, routines as i64, statements as i64]);
-    for q in 1..routines as i64 {
-        line(&mut out, &[2, q, 1, 1, q - 1]);
+    let own: Vec<Own> = (0..routines).map(|q| if q == 0 { vec![] } else { vec![(1, false, q as i64 - 1)] }).collect();
+    written(routines - 1, 0, &own, &bodies)
+}
+
+/// A table text whose routines, mostly all 32, call each other down a chain and work on the cells that they were passed, the two exchanged at each call:
+/// a thread comes to as many frames as there are routines. One CALL in thirty is a START.
+pub fn chain(r: &mut Random) -> Vec<u8> {
+    let routines = if r.one_in(4) { 2 + r.below(31) } else { 32 };
+    let own: Vec<Own> = (0..routines).map(|q| (0..2).map(|k| (1, q > 0, if q > 0 { 0 } else { k })).collect()).collect();
+    let mut bodies: Vec<Vec<Vec<i64>>> = vec![];
+    for q in 0..routines {
+        let (one, other) = (2 * q as i64, 2 * q as i64 + 1);
+        let mut body = vec![];
+        if q + 1 < routines {
+            body.push(vec![8 + r.one_in(30) as i64, q as i64 + 1, other, one]);
+        }
+        body.extend([vec![1, one], vec![4, q as i64 + 1], vec![2, one]]);
+        if r.one_in(3) {
+            body.push(vec![7, one, other]);
+        }
+        body.push(vec![12]);
+        bodies.push(body);
     }
-    for b in &bodies {
-        line(&mut out, &[3, b.len() as i64]);
-    }
-    for s in bodies.iter().flatten() {
-        let mut numbers = vec![4];
-        numbers.extend(s);
-        line(&mut out, &numbers);
-    }
-    out
+    written(2, 0, &own, &bodies)
 }
 
 /// One change: a field, a byte, the length, or two lines exchanged.
@@ -304,4 +300,9 @@ pub fn long_schedule(r: &mut Random) -> Vec<u8> {
     let mut out = vec![0; 2];
     out.extend((0..20_000 + r.below(80_000)).map(|_| if r.one_in(50) { r.below(20) } else { 1 + r.below(2) } as u8));
     out
+}
+
+/// For `chain`: mostly long enough to come to the end of the chain, and half of them back.
+pub fn deep_schedule(r: &mut Random) -> Vec<u8> {
+    (0..20 + r.below(400)).map(|_| if r.one_in(5) { r.below(4) } else { 0 } as u8).collect()
 }

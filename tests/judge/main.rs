@@ -60,14 +60,15 @@ fn report_into(text: &[u8], want: &Result<Table, (u32, u32)>, bytes: &[u8], leng
     answer
 }
 
-fn compare_report(r: &mut Random, text: &[u8], want: &Result<Table, (u32, u32)>, count: &mut [usize; 20]) {
+fn compare_report(r: &mut Random, text: &[u8], want: &Result<Table, (u32, u32)>, count: &mut [usize; 14]) {
     let bytes = want.as_ref().map_or(vec![], report);
     let length = length_near(r, bytes.len());
     count[(report_into(text, want, &bytes, length) >> 48) as usize] += 1;
 }
 
-/// A run, held to the document: its answer, all answers and all cells. Counts the answers to steps, and the cells left at either end of the range.
-fn compare_run(r: &mut Random, text: &[u8], schedule: &[u8], want: &Result<Table, (u32, u32)>, count: &mut [usize; 20], ends: &mut [usize; 2]) {
+/// A run, held to the document: its answer, all answers and all cells. Counts the answers to steps, the cells left at either end of the range, and the
+/// most frames that a thread had open.
+fn compare_run(r: &mut Random, text: &[u8], schedule: &[u8], want: &Result<Table, (u32, u32)>, count: &mut [usize; 19], ends: &mut [usize; 2], deepest: &mut usize) {
     let cells_needed = want.as_ref().map_or(3, |t| t.cells);
     let (answers_length, cells_length) = (length_near(r, schedule.len()), length_near(r, cells_needed));
     let mut said = 0;
@@ -86,6 +87,7 @@ fn compare_run(r: &mut Random, text: &[u8], schedule: &[u8], want: &Result<Table
             for (i, &n) in schedule.iter().enumerate() {
                 expected[i] = state.step(t, n as usize, true);
                 count[expected[i] as usize] += 1;
+                *deepest = state.threads.iter().map(|thread| thread.frames.len()).fold(*deepest, usize::max);
             }
             expected_cells[..t.cells].copy_from_slice(&state.cells);
             for (end, most) in ends.iter_mut().zip([i32::MIN, i32::MAX]) {
@@ -101,10 +103,13 @@ fn compare_run(r: &mut Random, text: &[u8], schedule: &[u8], want: &Result<Table
 
 fn compare(seed: u64, texts: usize) {
     let mut r = Random(seed * 2 + 88172645463325252);
-    let (mut reports, mut steps, mut ends, mut loads, mut several) = ([0; 20], [0; 20], [0; 2], 0, 0);
+    let (mut reports, mut steps, mut ends, mut deepest, mut loads, mut several) = ([0; 14], [0; 19], [0; 2], 0, 0, 0);
     for i in 0..texts {
-        let mut text = if i % 100 == 99 { generate::sums(&mut r) } else { generate::table(&mut r, i % 50 == 0) };
-        let schedule = if i % 100 == 99 { generate::long_schedule(&mut r) } else { generate::schedule(&mut r) };
+        let (mut text, schedule) = match i % 100 {
+            99 => (generate::sums(&mut r), generate::long_schedule(&mut r)),
+            49 => (generate::chain(&mut r), generate::deep_schedule(&mut r)),
+            _ => (generate::table(&mut r, i % 50 == 0), generate::schedule(&mut r)),
+        };
         if r.one_in(3) {
             for _ in 0..1 + r.below(2) {
                 generate::damage(&mut r, &mut text);
@@ -112,14 +117,14 @@ fn compare(seed: u64, texts: usize) {
         }
         let want = read(&text);
         compare_report(&mut r, &text, &want, &mut reports);
-        compare_run(&mut r, &text, &schedule, &want, &mut steps, &mut ends);
+        compare_run(&mut r, &text, &schedule, &want, &mut steps, &mut ends, &mut deepest);
         let may = unsafe { station_may_load_text(text.as_ptr(), text.len()) };
         let found = want.as_ref().ok().map(findings);
         assert_eq!(may, found.as_ref().map_or(false, |f| f.clean()), "the loader's question on\n{}", String::from_utf8_lossy(&text));
         loads += may as usize;
         several += found.map_or(false, |f| f.several) as usize;
     }
-    println!("{texts} texts, seed {seed}: refusals 0 to 13 met {:?}; answers to steps 0 and 14 to 19 met {} {:?}; cells left at -2147483648 and at 2147483647 {ends:?}; {several} with an access of several cells; {loads} may be loaded", &reports[..14], steps[0], &steps[14..]);
+    println!("{texts} texts, seed {seed}: refusals 0 to 13 met {reports:?}; answers to steps 0 and 14 to 18 met {} {:?}; cells left at -2147483648 and at 2147483647 {ends:?}; at most {deepest} frames open; {several} with an access of several cells; {loads} may be loaded", steps[0], &steps[14..]);
     for n in 1..=13 {
         assert!(reports[n] > 0 || texts < 20000, "refusal {n} was never met");
     }
@@ -128,7 +133,7 @@ fn compare(seed: u64, texts: usize) {
     }
     assert!(ends[0] > 0 && ends[1] > 0 || texts < 20000, "no sum stopped at an end");
     assert!(several > 0 || texts < 20000, "no statement counted for several cells");
-    assert_eq!(steps[19], 0, "step answer 19 was met");
+    assert!(deepest == 32 || texts < 20000, "no thread had 32 frames open");
 }
 
 /// What the states of a table say: whether one is unsafe, whether all were seen, how many, and the most threads in one.

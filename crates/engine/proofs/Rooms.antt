@@ -19,7 +19,7 @@ room-lines m n lines l e = sym (room m n l) ∙ ap (λ (k : ℕ). 8 * k) e
 
 module _ (t : Table) (words values : List ℕ) (registers : List ℤ) (state : State) (n : ℕ) (s : ListsShow t words values registers state) (e : n ≡ t .cells) where
   pub cells-long : length (cellsIn n registers) ≡ n
-  cells-long = subst (λ (k : ℕ). length (cellsIn k registers) ≡ k) (sym e) (s .lengths .cells)
+  cells-long = subst (λ (k : ℕ). length (cellsIn k registers) ≡ k) (sym e) (s .shows .lengths .cells)
 
   pub cells-shown : (cells : List ℤ) → cells ≡ cellsIn n registers → cells ≡ state .cells
-  cells-shown cells q = q ∙ ap (λ (k : ℕ). cellsIn k registers) e ∙ sym (s .cells-are)
+  cells-shown cells q = q ∙ ap (λ (k : ℕ). cellsIn k registers) e ∙ sym (s .shows .cells-are)

@@ -5,7 +5,7 @@ use mathlib.Core.Bool.{true, false}
 use mathlib.Core.List.{List, _++_}
 use borrow.Author.Tests.{le-leb, lt-leb}
 use lib.IntN.{ℤ}
-use lib.ListN.{length, drop}
+use lib.ListN.{length, getD, drop, List·getD-append}
 use Rattle.lines.specs.Line.{numbersOf}
 use Rattle.table.specs.Header.{statements, statementLine}
 use Rattle.table.specs.Table.{tableOf, countsOf}
@@ -18,7 +18,7 @@ use Rattle.table.specs.declared.Verdict as Declared
 use Rattle.table.specs.declared.Counts.{Counts}
 use Rattle.machine.specs.State.{State, start}
 use Rattle.machine.specs.Step.{run}
-use Rattle.machine.specs.EngineLaws.{unlimited, engine-runs-as-machine}
+use Rattle.machine.specs.EngineLaws.{unlimited, engine-runs-as-machine, Answered, answers-answered, answers-long}
 use Rattle.machine.specs.Engine.{engineRun, answers}
 use Rattle.engine.specs.declared.Outcome.{Outcome}
 use Rattle.engine.specs.Run.{tableIn, hasRoom, outcomeOf, answersLeft, cellsLeft}
@@ -89,10 +89,19 @@ module _ (text schedule lent : List ℕ) (cells : List ℤ) where
           ),
         )
 
--- the cells that an accepted call leaves are the machine's after the schedule without the steps that are answered 18 or 19
+-- the cells that an accepted call leaves are the machine's after the schedule without the steps that are answered 18
 pub cells-of-the-machine : (text schedule lent : List ℕ) (cells : List ℤ) → verdict text ≡ Declared.Verdict.Accepted → hasRoom text schedule lent cells ≡ true
     → cellsLeft text schedule lent cells
     ≡ run (tableIn text) (start (tableIn text)) (unlimited (tableIn text) (start (tableIn text)) schedule) .cells ++ drop (tableIn text .cells) cells
 unfolding cellsLeft
 cells-of-the-machine text schedule lent cells v f =
     rw (v, f) (ap (λ (s : State). s .cells ++ drop (tableIn text .cells) cells) (engine-runs-as-machine (tableIn text) (start (tableIn text)) schedule))
+
+-- the answers that an accepted call leaves are 0 and 14 to 18: no 19 (C-16)
+pub answered-numbers : (text schedule lent : List ℕ) (cells : List ℤ) → verdict text ≡ Declared.Verdict.Accepted → hasRoom text schedule lent cells ≡ true
+    → (i : ℕ) → i < length schedule → Answered (getD (answersLeft text schedule lent cells) i 0)
+unfolding answersLeft
+answered-numbers text schedule lent cells v f i l =
+    let t = tableIn text in
+    rw (v, f, List·getD-append (answers t (start t) schedule) (drop (length schedule) lent) 0 i (subst (λ (k : ℕ). i < k) (sym (answers-long t (start t) schedule)) l))
+    (answers-answered t (start t) schedule i l)

@@ -13,9 +13,9 @@ use Rattle.table.specs.Accepted.{Accepted, Passes}
 use Rattle.table.specs.View.{view, calls}
 use Rattle.table.specs.declared.Arguments.{Arguments}
 use Rattle.table.specs.declared.Statement.{Statement}
+use Rattle.machine.specs.Lists.{set-case}
 use Rattle.machine.specs.State.{Holder, entered, opened}
 use Rattle.report.specs.Rules.{Copies, Families, Rules, Passing}
-use Rattle.guarantee.specs.Lists.{set-case}
 use Rattle.table.specs.TabulateLaws.{getD-tabulate}
 use Rattle.guarantee.specs.Invariant.{Mark, Fits, Valued, Has, AllWait, Good}
 

@@ -7,14 +7,6 @@ use lib.Dec.{eqb}
 use lib.ListN.{getD, length, set}
 use borrow.Author.Tests.{eqb-true, eqb-false}
 
--- what stands at j after `set` is the new element, at its place alone, or what stood there
-pub set-case : {A : Type 0} (P : A → Type 0) (l : List A) (i j : ℕ) (a d : A) → (j ≡ i → P a) → P (getD l j d) → P (getD (set l i a) j d)
-set-case P [] i j a d new old = old
-set-case P (x ∷ l) zero zero a d new old = new refl
-set-case P (x ∷ l) zero (suc j) a d new old = old
-set-case P (x ∷ l) (suc i) zero a d new old = old
-set-case P (x ∷ l) (suc i) (suc j) a d new old = set-case P l i j a d (λ e. new (ap suc e)) old
-
 -- one more element changes nothing at the other places
 pub getD-snoc-other : {A : Type 0} (l : List A) (a d : A) (j : ℕ) → (j ≡ length l → ⊥) → getD (l ++ a ∷ []) j d ≡ getD l j d
 getD-snoc-other [] a d zero other = absurd (other refl)

@@ -21,9 +21,10 @@ use Rattle.table.specs.declared.Statement.{Statement}
 use Rattle.table.specs.declared.Statement.the-variants.{Read, Write, Set, Add, Take, Give, Point, Call, Start, Jump, JumpZero, Return}
 use Rattle.machine.specs.State.{State, Frame, Holder, free, holder, opened}
 use Rattle.machine.specs.State as Machine
+use Rattle.machine.specs.Lists.{set-case}
 use Rattle.machine.specs.Step.{Answer, moved, refused, operate, taking, giving, with-thread, after, isZero}
 use Rattle.report.specs.Rules.{Copies, Place, Goes, After, Clash, Families, Rules, Passing}
-use Rattle.guarantee.specs.Lists.{set-case, replaced, replaced-all}
+use Rattle.guarantee.specs.Lists.{replaced, replaced-all}
 use Rattle.guarantee.specs.Invariant.{Mark, newest, waiting, older, Fits, Valued, Has, Stands, AllWait, Good, Left, Potential, Invariant}
 use Rattle.guarantee.specs.Shrink.{clash-wider, goes-place, first-place, ahead-in-effect, ahead-follows, inside-in-future, left-in-future}
 use Rattle.guarantee.specs.Frames.{wait-still, opened-valued, passed-fits, pointed-valued}

@@ -1,3 +1,4 @@
+pub mod Lists
 pub mod State
 pub mod Step
 pub mod SumLaws
@@ -6,3 +7,4 @@ pub mod Engine
 pub mod Notebook
 pub mod Laws
 pub mod EngineLaws
+pub mod FrameLaws

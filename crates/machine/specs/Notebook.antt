@@ -1,18 +1,21 @@
 -- What the machine's definitions compute: the notebook's entries about a step, and document 01's own table, which races. Assumes nothing.
-use Prim.Native.Nat.{ℕ}
+use Prim.Native.Nat.{ℕ, _+_, _*_, _/_, _%_}
 use mathlib.Core.Path.{_≡_, refl}
-use mathlib.Core.Bool.{true, false}
+use mathlib.Core.Bool.{true, false, cond, _&&_}
 use mathlib.Core.List.{List, [], _∷_}
 use mathlib.Core.Logic.{inl}
 use native.Mathlib.Omega.{arith}
+use lib.Dec.{eqb, ltb}
 use lib.IntN.{ℤ, pos, negsuc}
+use lib.ListN.{length, replicate}
 use Rattle.table.specs.Table.{Table}
 use Rattle.table.specs.Tabulate.{tabulateFrom, tabulate}
 use Rattle.table.specs.declared.Arguments.{Arguments}
 use Rattle.table.specs.declared.Statement.{Statement}
-use Rattle.table.specs.declared.Statement.the-variants.{Read, Write, Add, Take, Give, Start, JumpZero, Return}
+use Rattle.table.specs.declared.Statement.the-variants.{Read, Write, Add, Take, Give, Call, Start, JumpZero, Return}
 use Rattle.machine.specs.State.{State, Frame, thread, start, opened, entered, free, held}
 use Rattle.machine.specs.Step.{refused, saturate, step, after, run}
+use Rattle.machine.specs.Engine.{frameSlots, engineStep, answer}
 use Rattle.machine.specs.Words.{Safe}
 
 -- ---- one thread in one routine of the statements given, at the first of them
@@ -97,3 +100,29 @@ example =
 pub example-races : Safe example (run example (start example) (0 ∷ [])) → ⊥
 unfolding example run start opened entered tabulateFrom tabulate
 example-races safe = safe .no-race 0 1 0 true false (omega arith) (0, refl, refl) (1, refl, refl) (inl refl)
+
+-- ---- a chain of 32 routines, each of which CALLs the next
+
+unfoldable pub chain : Table
+chain =
+    let none : Arguments = record { first = 0; second = 0; third = 0; fourth = 0 } in
+    record {
+      cells = 1;
+      locks = 0;
+      handles = [];
+      routines = tabulate 32 (λ r. record { first = 2 * r; count = 2; handle = 0; handles = 0; parameters = 0 });
+      statements = tabulate 64 (λ s. cond (eqb (s % 2) 0 && ltb s 62) (Call (s / 2 + 1) none) Return);
+    }
+
+-- "32 frames always suffice", and no fewer: thread 0 has 32 open after 31 steps
+pub chain-is-32-deep : length (thread (run chain (start chain) (replicate 31 0)) 0 .frames) ≡ frameSlots
+unfolding chain run start opened entered tabulateFrom tabulate
+chain-is-32-deep = refl
+
+-- no step of the engine looks at the frames: a CALL that found 32 open, as none ever does, would run
+pub no-limit-on-frames :
+    let frame : Frame = record { routine = 0; next = 0; values = [] } in
+    let full : State = record { threads = record { accumulator = pos 0; frames = replicate 32 frame } ∷ []; cells = pos 0 ∷ []; locks = [] } in
+    answer (engineStep chain full 0) ≡ 0
+unfolding chain engineStep tabulateFrom tabulate
+no-limit-on-frames = refl

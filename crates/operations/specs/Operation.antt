@@ -7,6 +7,7 @@ use lib.IntN.{ℤ, pos}
 use lib.ListN.{getD, set}
 use Rattle.table.specs.Table.{Table}
 use Rattle.table.specs.declared.Arguments.{Arguments}
+use Rattle.machine.specs.Engine.{frameSlots}
 use Rattle.run_state.specs.Lists.{countsIn, startedIn, ownersIn, countPlace, startedPlace, putOwner}
 use Rattle.run_state.specs.Shown.{Entered}
 use Rattle.operations.specs.declared.Place.{Place}
@@ -22,8 +23,12 @@ pub record Placed (at : Place) : Type 0 where
 -- the slot is that of its thread's newest frame, of so many that are open
 pub record Newest (at : Place) (count : ℕ) : Type 0 where
   pub some : 0 < count
-  pub few : count ≤ 32
+  pub few : count ≤ frameSlots
   pub slot-is : at .slot + 1 ≡ at .thread * 32 + count
+
+-- so many of its frames are older
+abbrev pub Older : Place → ℕ → Type 0
+Older at older = (count : ℕ) → Newest at count → count ≡ older + 1
 
 -- the step ran, and its frame goes on
 abbrev pub on : Place → Move
@@ -36,21 +41,11 @@ Locked number needed owner k at locks r words words′ =
     record { blocked : getD (ownersIn locks words) k 0 ≡ needed → ⊥; answer-is : r ≡ Stopped number; words-are : words′ ≡ words }
     ⊎ record { free : getD (ownersIn locks words) k 0 ≡ needed; answer-is : r ≡ on at; words-are : words′ ≡ putOwner locks words k owner }
 
--- CALL: refused with 19 where 32 frames are open, and then nothing changes; else the frame goes on and a new one stands in the next slot
-abbrev pub Called : Table → ℕ → ℕ → ℕ → Arguments → Place → Move → List ℕ → List ℕ → List ℕ → List ℕ → Type 0
-Called t first from end arguments at r words words′ values values′ =
-    record {
-      full : 32 ≤ getD (countsIn words) (at .thread) 0;
-      answer-is : r ≡ Stopped 19;
-      words-are : words′ ≡ words;
-      values-are : values′ ≡ values;
-    }
-    ⊎ record {
-      free : getD (countsIn words) (at .thread) 0 < 32;
-      answer-is : r ≡ on at;
-      words-are : words′ ≡ set (set words (at .slot + 1) first) (countPlace (at .thread)) (getD (countsIn words) (at .thread) 0 + 1);
-      entered : Entered t values values′ (at .slot + 1) (at .slot) from end arguments;
-    }
+-- CALL: the frame goes on, and a new one stands in the next slot
+pub record Called (t : Table) (first from end : ℕ) (arguments : Arguments) (at : Place) (r : Move) (words words′ values values′ : List ℕ) : Type 0 where
+  pub answer-is : r ≡ on at
+  pub words-are : words′ ≡ set (set words (at .slot + 1) first) (countPlace (at .thread)) (getD (countsIn words) (at .thread) 0 + 1)
+  pub entered : Entered t values values′ (at .slot + 1) (at .slot) from end arguments
 
 -- START: refused with 18 where 16 threads are started, and then nothing changes; else the frame goes on and the next thread has one frame
 abbrev pub Started : Table → ℕ → ℕ → ℕ → Arguments → Place → Move → List ℕ → List ℕ → List ℕ → List ℕ → List ℤ → List ℤ → Type 0

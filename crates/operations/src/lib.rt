@@ -8,10 +8,11 @@ ghost use lib.IntN.{pos, _+ℤ_};
 ghost use lib.ListN.{getD, set, length};
 ghost use Rattle.table.specs.Table.{tableOf};
 ghost use Rattle.machine.specs.Step.{saturate, isZero};
+ghost use Rattle.machine.specs.Engine.{frameSlots};
 ghost use Rattle.run_state.specs.Lists.{countsIn, startedIn, accumulatorsIn, cellsIn, countPlace, putCell};
 ghost use Rattle.run_state.specs.Shown.{valuePlace, HandlesThere, Naming};
 ghost use Rattle.operations.specs.declared.Move.the-variants.{To, Closed};
-ghost use Rattle.operations.specs.Operation.{Placed, Newest, on, Locked, Called, Started};
+ghost use Rattle.operations.specs.Operation.{Placed, Newest, Older, on, Locked, Called, Started};
 use numbers::is_zero;
 use numbers::saturating_sum;
 use run_state::frames::enter;
@@ -30,7 +31,7 @@ use run_state::places::started_of;
 use table::Arguments;
 use table::Statement;
 
-// What a step is answered with: the statement that ran, the statement that was refused and the number 16 to 19 of its refusal, or that the thread
+// What a step is answered with: the statement that ran, the statement that was refused and the number 16 to 18 of its refusal, or that the thread
 // has no next statement: 14, it is not started, or 15, it has ended.
 pub enum Step {
     Ran(Statement),
@@ -59,6 +60,13 @@ fn going_on(at: Place) -> Move
     ensures { λ r. ⌜ r ≡ on at ⌝ }
 {
     Move::To(at.next + 1)
+}
+
+// How many frames of its thread are older than the one in its slot.
+fn older_of(at: Place) -> usize
+    ensures { λ r. ⌜ Older at r ⌝ }
+{
+    at.slot % 32
 }
 
 // READ: "accumulator becomes the cell's value".
@@ -163,7 +171,7 @@ pub fn point(h: usize, g: usize, at: Place, values: &mut [u8; 4096]) -> Move
     going_on(at)
 }
 
-// CALL: "opens a frame"; 19 where 32 are open.
+// CALL: "opens a frame". There is a slot for it: "32 frames always suffice".
 pub fn call(
     numbers: &[i32],
     first: &[usize; 33],
@@ -174,14 +182,10 @@ pub fn call(
     words: &mut [u32; 545],
     values: &mut [u8; 4096],
 ) -> Move
-    requires { ⌜ Naming (now numbers) (now first) (now handle) routine × Placed at × Newest at (getD (countsIn (now words)) (at .thread) 0) × (length (now values) ≡ 4096) × HandlesThere (now numbers) ⌝ }
+    requires { ⌜ Naming (now numbers) (now first) (now handle) routine × Placed at × Newest at (getD (countsIn (now words)) (at .thread) 0) × (getD (countsIn (now words)) (at .thread) 0 < frameSlots) × (length (now values) ≡ 4096) × HandlesThere (now numbers) ⌝ }
     ensures { λ r. ⌜ Called (tableOf (now (numbers .entry))) (getD (now (first .entry)) routine 0) (getD (now (handle .entry)) routine 0) (getD (now (handle .entry)) (routine + 1) 0) arguments at r (now (words .entry)) (now (words .exit)) (now (values .entry)) (now (values .exit)) ⌝ }
 {
     let slot = at.slot;
-    let older = slot % 32;
-    if 31 <= older {
-        return Move::Stopped(19);
-    }
     enter(
         numbers,
         handle[routine],
@@ -192,6 +196,7 @@ pub fn call(
         slot,
     );
     go_to(words, slot + 1, first[routine]);
+    let older = older_of(at);
     put_count(words, at.thread, older + 2);
     going_on(at)
 }
@@ -249,6 +254,7 @@ pub fn close(at: Place, words: &mut [u32; 545]) -> Move
     requires { ⌜ Placed at × Newest at (getD (countsIn (now words)) (at .thread) 0) ⌝ }
     ensures { λ r. ⌜ (r ≡ Closed) × (now (words .exit) ≡ set (now (words .entry)) (countPlace (at .thread)) (getD (countsIn (now (words .entry))) (at .thread) 0 - 1)) ⌝ }
 {
-    put_count(words, at.thread, at.slot % 32);
+    let older = older_of(at);
+    put_count(words, at.thread, older);
     Move::Closed
 }

@@ -10,6 +10,7 @@ use Rattle.table.specs.Extents.{firstStatements, firstHandles}
 use Rattle.table.specs.Accepted.{Accepted}
 use Rattle.table.specs.declared.Arguments.{Arguments}
 use Rattle.machine.specs.State.{Holder, free, thread, start}
+use Rattle.machine.specs.FrameLaws.{start-bounded}
 use Rattle.run_state.specs.ListLaws.{part-replicate, parts-count, parts-started}
 use Rattle.run_state.specs.Shown.{Arrays, arrays, partsOf, holderOf, Shows, ListsShow, Entering, Entered}
 use Rattle.run_state.specs.ShownLaws.{ThreadIn, opened-shown}
@@ -73,7 +74,11 @@ module _ (numbers : List ℤ) (handle : List ℕ) (accepted : Accepted (tableOf 
 
     -- the lists cleared, with one frame of one thread
     pub begun : ListsShow (tableOf numbers) (set (set (replicate 545 0) 512 1) 528 1) new (replicate 80 (pos 0)) (start (tableOf numbers))
-    begun = subst (λ (a : Arrays). Shows (tableOf numbers) a (start (tableOf numbers))) (sym (both (replicate 545 0) (replicate 80 (pos 0)) refl refl)) shown
+    begun =
+        record {
+          shows = subst (λ (a : Arrays). Shows (tableOf numbers) a (start (tableOf numbers))) (sym (both (replicate 545 0) (replicate 80 (pos 0)) refl refl)) shown;
+          bounded = start-bounded accepted;
+        }
       where
         both : (zeros : List ℕ) (registers : List ℤ) → zeros ≡ replicate 545 0 → registers ≡ replicate 80 (pos 0)
             → partsOf (tableOf numbers) (set (set zeros 512 1) 528 1) new registers ≡ first-arrays (tableOf numbers) new

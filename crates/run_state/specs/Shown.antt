@@ -7,11 +7,13 @@ use lib.Dec.{eqb}
 use lib.IntN.{ℤ, pos}
 use lib.ListN.{length, getD}
 use Rattle.table.specs.Header.{statements, statementLine}
-use Rattle.table.specs.Table.{Table, tableOf, declaration, routine, passed, InRoutine, OwnHandle}
+use Rattle.table.specs.Table.{Table, tableOf, declaration, routine, passed, OwnHandle}
 use Rattle.table.specs.Extents.{firstStatements, firstHandles}
 use Rattle.table.specs.Accepted.{Accepted}
 use Rattle.table.specs.declared.Arguments.{Arguments}
 use Rattle.machine.specs.State.{State, Frame, Thread, Holder, free, held, thread, refers}
+use Rattle.machine.specs.Engine.{frameSlots}
+use Rattle.machine.specs.FrameLaws.{Bounded}
 use Rattle.run_state.specs.declared.Sizes.{Sizes}
 use Rattle.run_state.specs.Lists.{nextsIn, countsIn, startedIn, ownersIn, accumulatorsIn, cellsIn}
 
@@ -48,10 +50,8 @@ abbrev pub holderOf : ℕ → Holder
 holderOf zero = free
 holderOf (suc n) = held (user n)
 
--- a slot shows a frame, whose next statement is one of its routine
+-- a slot shows a frame
 pub record ShowsFrame (t : Table) (nexts values : List ℕ) (slot : ℕ) (f : Frame) : Type 0 where
-  pub there : f .routine < length (t .routines)
-  pub inside : InRoutine t (f .routine) (f .next)
   pub next-is : getD nexts slot 0 ≡ f .next
   pub long : length (f .values) ≡ length (t .handles)
   pub value-is : (h : ℕ) → OwnHandle t (f .routine) h → getD values (valuePlace slot h) 0 ≡ refers f h
@@ -63,7 +63,7 @@ ShowsFrames t nexts values base (f ∷ older) = ShowsFrame t nexts values (base 
 
 pub record ShowsThread (t : Table) (nexts values : List ℕ) (base count : ℕ) (a : ℤ) (shown : Thread) : Type 0 where
   pub count-is : count ≡ length (shown .frames)
-  pub few : count ≤ 32
+  pub few : count ≤ frameSlots
   pub accumulator-is : a ≡ shown .accumulator
   pub frames : ShowsFrames t nexts values base (shown .frames)
 
@@ -83,9 +83,14 @@ pub record Shows (t : Table) (a : Arrays) (state : State) : Type 0 where
   pub locks-are : state .locks ≡ map holderOf (a .owners)
   pub thread-is : (m : ℕ) → m < a .started → ShowsThread t (a .nexts) (a .values) (m * 32) (getD (a .counts) m 0) (getD (a .accumulators) m (pos 0)) (thread state (user m))
 
+-- the parts show a state of the machine in which no thread's frames can run out of slots
+pub record ShowsBounded (t : Table) (a : Arrays) (state : State) : Type 0 where
+  pub shows : Shows t a state
+  pub bounded : Bounded t state
+
 -- the lists show a state of the machine, in a run of the table
 abbrev pub ListsShow : Table → List ℕ → List ℕ → List ℤ → State → Type 0
-ListsShow t words values registers state = Shows t (partsOf t words values registers) state
+ListsShow t words values registers state = ShowsBounded t (partsOf t words values registers) state
 
 -- the sizes are those that the header of the numbers says
 pub record Sized (numbers : List ℤ) (sizes : Sizes) : Type 0 where

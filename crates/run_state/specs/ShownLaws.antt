@@ -61,8 +61,6 @@ module _ (t : Table) where
       → ShowsFrame t nexts′ values′ slot f
   frame-kept nexts nexts′ values values′ slot f s k =
       record {
-        there = s .there;
-        inside = s .inside;
         next-is = k .nexts-kept slot (omega arith) (omega arith) ∙ s .next-is;
         long = s .long;
         value-is = λ h o. k .values-kept slot (h % 8) (omega arith) (omega arith) (omega arith) ∙ s .value-is h o;
@@ -170,8 +168,6 @@ module _ (t : Table) (accepted : Accepted t) where
   unfolding opened entered startValue
   opened-shown nexts values values′ passed-values slot caller r arguments low first-is e same =
       record {
-        there = low;
-        inside = record { low = omega arith; high = omega (arith, accepted .routine-facts r low .some-statement) };
         next-is = first-is;
         long = length-tabulate (length (t .handles)) (entered t r passed-values arguments);
         value-is = λ h o. at h o (eqb (declaration t h .origin) 0) refl;

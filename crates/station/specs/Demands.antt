@@ -17,7 +17,7 @@ use Rattle.machine.specs.Words.{Safe}
 use Rattle.analysis.specs.Reported.{tableIn, loadable}
 use Rattle.loader.specs.LoadLaws.{loadable-safe}
 
--- after any schedule the engine's state is the machine's after the same schedule without the steps answered 18 and 19
+-- after any schedule the engine's state is the machine's after the same schedule without the steps answered 18
 pub engine-is-machine : (text ns : List ℕ)
     → engineRun (tableIn text) (start (tableIn text)) ns ≡ run (tableIn text) (start (tableIn text)) (unlimited (tableIn text) (start (tableIn text)) ns)
 engine-is-machine text ns = engine-runs-as-machine (tableIn text) (start (tableIn text)) ns

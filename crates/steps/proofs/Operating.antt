@@ -19,10 +19,11 @@ use Rattle.table.specs.declared.Statement.{Statement}
 use Rattle.table.specs.declared.Statement.the-variants.{Read, Write, Set, Add, Take, Give, Point, Call, Start, Jump, JumpZero, Return}
 use Rattle.machine.specs.State.{State}
 use Rattle.machine.specs.Step.{saturate, isZero}
+use Rattle.machine.specs.Engine.{frameSlots}
 use Rattle.run_state.specs.declared.Sizes.{Sizes}
 use Rattle.run_state.specs.Lists.{nextsIn, countsIn, startedIn, ownersIn, accumulatorsIn, cellsIn, countPlace, startedPlace, putCell}
 use Rattle.run_state.specs.ListLaws.{started-there, parts-next, parts-count, parts-started, parts-owner, parts-accumulator, parts-cell}
-use Rattle.run_state.specs.Shown.{Arrays, arrays, partsOf, valuePlace, Shows, Fixed, Standing, HandlesThere, Naming}
+use Rattle.run_state.specs.Shown.{Arrays, arrays, partsOf, valuePlace, ShowsBounded, Fixed, Standing, HandlesThere, Naming}
 use Rattle.run_state.specs.TableLaws.{statement-read, handles-there, LookedUp, looked-up, naming}
 use Rattle.operations.specs.declared.Place.{Place}
 use Rattle.operations.specs.declared.Move.{Move}
@@ -31,7 +32,7 @@ use Rattle.operations.specs.declared.Step.{Step}
 use Rattle.operations.specs.declared.Step.the-variants.{Ran, Refused}
 use Rattle.operations.specs.Operation.{Placed, on, Locked, Called, Started}
 use Rattle.steps.specs.Stepped.{Stepped, Here, stored, Storable, answerBy, Operated}
-use Rattle.steps.specs.StepLaws.{Top, top, placed, read-step, write-step, set-step, add-step, jump-step, jump-zero-step, return-step, take-refused, take-step, give-refused, give-step, point-step, call-refused, call-step, start-refused, start-step}
+use Rattle.steps.specs.StepLaws.{Top, top, placed, read-step, write-step, set-step, add-step, jump-step, jump-zero-step, return-step, take-refused, take-step, give-refused, give-step, point-step, call-room, call-step, start-refused, start-step}
 
 -- the statement of a line is the table's
 line-said : (numbers : List ℤ) (base next : ℕ) (σ : Statement) → base ≡ statementLine numbers 0
@@ -57,7 +58,7 @@ module _ (numbers : List ℤ) (first handle : List ℕ) (sizes : Sizes) (words v
 
   -- its newest frame's slot
   pub newest-low : n * 32 + count - 1 < 512
-  newest-low = omega (arith, s .shows .most, inside, count-is, s .shows .thread-is n inside .few)
+  newest-low = omega (arith, s .shows .shows .most, inside, count-is, s .shows .shows .thread-is n inside .few)
 
   newest-is : n * 32 + count - 1 + 1 ≡ n * 32 + getD (countsIn words) n 0
   newest-is = omega (arith, count-is, some)
@@ -70,8 +71,8 @@ module _ (numbers : List ℤ) (first handle : List ℕ) (sizes : Sizes) (words v
   lined next q =
       let p = top (tableOf numbers) (partsOf (tableOf numbers) words values registers) (s .state) n (n * 32 + count - 1) (s .shows) inside some-open newest-is in
       let accepted = s .fixed .accepted in
-      let facts = accepted .routine-facts (p .f .routine) (p .shown .there) in
-      let within : next < statements numbers = omega (arith, q ∙ p .shown .next-is, p .shown .inside .high, rw length-tabulate at (facts .statements-there)) in
+      let facts = accepted .routine-facts (p .f .routine) (p .room .there) in
+      let within : next < statements numbers = omega (arith, q ∙ p .shown .next-is, p .room .inside .high, rw length-tabulate at (facts .statements-there)) in
       let base : sizes .base ≡ statementLine numbers 0 = s .fixed .sized .base-is in
       record {
         small =
@@ -91,7 +92,7 @@ module _ (numbers : List ℤ) (first handle : List ℕ) (sizes : Sizes) (words v
       record {
         standing = s;
         low = inside;
-        newest = record { some = some-open; few = s .shows .thread-is n inside .few; slot-is = newest-is };
+        newest = record { some = some-open; few = s .shows .shows .thread-is n inside .few; slot-is = newest-is };
         next-is = q;
         statement-is = line-said numbers (sizes .base) next σ (s .fixed .sized .base-is) e;
       }
@@ -112,7 +113,7 @@ module _ (numbers : List ℤ) (first handle : List ℕ) (sizes : Sizes) (words v
   abbrev accepted : Accepted (tableOf numbers)
   accepted = here .standing .fixed .accepted
 
-  module _ (state : State) (s : Shows (tableOf numbers) (partsOf (tableOf numbers) words values registers) state) where
+  module _ (state : State) (s : ShowsBounded (tableOf numbers) (partsOf (tableOf numbers) words values registers) state) where
     abbrev p : Top (tableOf numbers) (partsOf (tableOf numbers) words values registers) state (at .thread) (at .slot)
     p = top t a state (at .thread) (at .slot) s (here .low) (here .newest .some) (here .newest .slot-is)
 
@@ -122,16 +123,16 @@ module _ (numbers : List ℤ) (first handle : List ℕ) (sizes : Sizes) (words v
     is : (τ : Statement) → σ ≡ τ → statement (tableOf numbers) (p .f .next) ≡ τ
     is τ e =
         statement-read numbers (p .f .next)
-        (omega (arith, p .shown .inside .high, accepted .routine-facts (p .f .routine) (p .shown .there) .statements-there))
+        (omega (arith, p .room .inside .high, accepted .routine-facts (p .f .routine) (p .room .there) .statements-there))
         ∙ ap (statementOf numbers) (sym stands-at) ∙ sym (here .statement-is) ∙ e
 
     operands : (τ : Statement) → σ ≡ τ → Operands (tableOf numbers) (p .f .routine) τ
     operands τ e =
-        subst (λ (τ : Statement). Operands (tableOf numbers) (p .f .routine) τ) (is τ e) (accepted .operands (p .f .routine) (p .f .next) (p .shown .there) (p .shown .inside))
+        subst (λ (τ : Statement). Operands (tableOf numbers) (p .f .routine) τ) (is τ e) (accepted .operands (p .f .routine) (p .f .next) (p .room .there) (p .room .inside))
 
   -- ---- what the operations ask
 
-  abbrev shown-here : Shows (tableOf numbers) (partsOf (tableOf numbers) words values registers) (here .standing .state)
+  abbrev shown-here : ShowsBounded (tableOf numbers) (partsOf (tableOf numbers) words values registers) (here .standing .state)
   shown-here = here .standing .shows
 
   abbrev stands : Top (tableOf numbers) (partsOf (tableOf numbers) words values registers) (here .standing .state) (at .thread) (at .slot)
@@ -149,7 +150,7 @@ module _ (numbers : List ℤ) (first handle : List ℕ) (sizes : Sizes) (words v
   locks-few = omega (arith, fixed .sized .locks-are, accepted .locks-most)
 
   pub values-long : length values ≡ 4096
-  values-long = shown-here .lengths .values
+  values-long = shown-here .shows .lengths .values
 
   pub slot-below : at .slot < startedIn words * 32
   slot-below = omega (arith, here .low, stands .slot-is, stands .few)
@@ -158,7 +159,7 @@ module _ (numbers : List ℤ) (first handle : List ℕ) (sizes : Sizes) (words v
   lines-there = handles-there numbers (fixed .long)
 
   target-low : (s : ℕ) → InRoutine (tableOf numbers) (stands .f .routine) s → s < 512
-  target-low s i = omega (arith, i .high, accepted .routine-facts (stands .f .routine) (stands .shown .there) .statements-there, accepted .statements-most)
+  target-low s i = omega (arith, i .high, accepted .routine-facts (stands .f .routine) (stands .room .there) .statements-there, accepted .statements-most)
 
   pub routine-there : (q : ℕ) (arguments : Arguments) → (σ ≡ Call q arguments) ⊎ (σ ≡ Start q arguments) → q < length (tableOf numbers .routines)
   routine-there q arguments (inl e) = operands (here .standing .state) shown-here (Call q arguments) e .passes q refl .there
@@ -170,12 +171,20 @@ module _ (numbers : List ℤ) (first handle : List ℕ) (sizes : Sizes) (words v
   pub named : (q : ℕ) (arguments : Arguments) → (σ ≡ Call q arguments) ⊎ (σ ≡ Start q arguments) → Naming numbers first handle q
   named q arguments e = let l = routine-there q arguments e in naming numbers first handle q accepted l (looked q l)
 
+  -- "32 frames always suffice": a CALL finds a slot free
+  pub room-here : (q : ℕ) (arguments : Arguments) → σ ≡ Call q arguments → getD (countsIn words) (at .thread) 0 < frameSlots
+  room-here q arguments e =
+      let u = looked q (routine-there q arguments (inl e)) in
+      let state = here .standing .state in
+      call-room t accepted a state (at .thread) (at .slot) shown-here (here .low) stands (at .next) (stands-at state shown-here) q arguments
+      (getD first q 0) (getD handle q 0) (getD handle (q + 1) 0) (u .first-is) (u .from-is) (u .end-is) (is state shown-here (Call q arguments) e)
+
   -- ---- what the operations leave
 
   -- by what the lists hold after the operation and the store
   left : (words′ values′ : List ℕ) (registers′ : List ℤ) (r m : Move) (new : Arrays) (answer : Step) → r ≡ m → Storable m
       → partsOf (tableOf numbers) (stored (at .slot) m words′) values′ registers′ ≡ new → answerBy m σ ≡ answer
-      → ((state : State) (s : Shows (tableOf numbers) (partsOf (tableOf numbers) words values registers) state) → Stepped (tableOf numbers) new state (at .thread) answer)
+      → ((state : State) (s : ShowsBounded (tableOf numbers) (partsOf (tableOf numbers) words values registers) state) → Stepped (tableOf numbers) new state (at .thread) answer)
       → Operated (tableOf numbers) words values registers words′ values′ registers′ at σ r
   left words′ values′ registers′ r m new answer e l v k did =
       subst (λ (q : Move). Operated t words values registers words′ values′ registers′ at σ q) (sym e)
@@ -188,7 +197,7 @@ module _ (numbers : List ℤ) (first handle : List ℕ) (sizes : Sizes) (words v
 
   went-to : (words′ values′ : List ℕ) (registers′ : List ℤ) (r : Move) (x : ℕ) (new : Arrays) (τ : Statement) → σ ≡ τ → r ≡ To x → x < 4294967296
       → partsOf (tableOf numbers) words′ values′ registers′ ≡ new
-      → ((state : State) (s : Shows (tableOf numbers) (partsOf (tableOf numbers) words values registers) state)
+      → ((state : State) (s : ShowsBounded (tableOf numbers) (partsOf (tableOf numbers) words values registers) state)
       → Stepped (tableOf numbers) (arrays (new .started) (set (new .nexts) (at .slot) x) (new .values) (new .counts) (new .accumulators) (new .owners) (new .cells)) state (at .thread) (Ran τ))
       → Operated (tableOf numbers) words values registers words′ values′ registers′ at σ r
   went-to words′ values′ registers′ r x new τ e q l v did =
@@ -202,14 +211,14 @@ module _ (numbers : List ℤ) (first handle : List ℕ) (sizes : Sizes) (words v
 
   went-on : (words′ values′ : List ℕ) (registers′ : List ℤ) (r : Move) (new : Arrays) (τ : Statement) → σ ≡ τ → r ≡ on at
       → partsOf (tableOf numbers) words′ values′ registers′ ≡ new
-      → ((state : State) (s : Shows (tableOf numbers) (partsOf (tableOf numbers) words values registers) state)
+      → ((state : State) (s : ShowsBounded (tableOf numbers) (partsOf (tableOf numbers) words values registers) state)
       → Stepped (tableOf numbers) (arrays (new .started) (set (new .nexts) (at .slot) (at .next + 1)) (new .values) (new .counts) (new .accumulators) (new .owners) (new .cells)) state (at .thread) (Ran τ))
       → Operated (tableOf numbers) words values registers words′ values′ registers′ at σ r
   went-on words′ values′ registers′ r new τ e q v did = went-to words′ values′ registers′ r (at .next + 1) new τ e q next-small v did
 
   was-refused : (number : ℕ) (words′ values′ : List ℕ) (registers′ : List ℤ) (r : Move) (τ : Statement) → σ ≡ τ → r ≡ Stopped number
       → words′ ≡ words → values′ ≡ values → registers′ ≡ registers
-      → ((state : State) (s : Shows (tableOf numbers) (partsOf (tableOf numbers) words values registers) state)
+      → ((state : State) (s : ShowsBounded (tableOf numbers) (partsOf (tableOf numbers) words values registers) state)
       → Stepped (tableOf numbers) (partsOf (tableOf numbers) words values registers) state (at .thread) (Refused number τ))
       → Operated (tableOf numbers) words values registers words′ values′ registers′ at σ r
   was-refused number words′ values′ registers′ r τ e q x y z did =
@@ -296,12 +305,7 @@ module _ (numbers : List ℤ) (first handle : List ℕ) (sizes : Sizes) (words v
   pub did-call : (q : ℕ) (arguments : Arguments) (words′ values′ : List ℕ) (r : Move) → σ ≡ Call q arguments
       → Called (tableOf numbers) (getD first q 0) (getD handle q 0) (getD handle (q + 1) 0) arguments at r words words′ values values′
       → Operated (tableOf numbers) words values registers words′ values′ registers at σ r
-  did-call q arguments words′ values′ r e (inl w) =
-      let u = looked q (routine-there q arguments (inl e)) in
-      was-refused 19 words′ values′ registers r (Call q arguments) e (w .answer-is) (w .words-are) (w .values-are) refl
-      (λ state s. call-refused t accepted a state (at .thread) (at .slot) s (here .low) (p state s) (at .next) (stands-at state s) q arguments
-      (getD first q 0) (getD handle q 0) (getD handle (q + 1) 0) (u .first-is) (u .from-is) (u .end-is) (is state s (Call q arguments) e) (w .full))
-  did-call q arguments words′ values′ r e (inr w) =
+  did-call q arguments words′ values′ r e w =
       let u = looked q (routine-there q arguments (inl e)) in
       let count = getD (countsIn words) (at .thread) 0 + 1 in
       let opened = set words (at .slot + 1) (getD first q 0) in
@@ -309,9 +313,9 @@ module _ (numbers : List ℤ) (first handle : List ℕ) (sizes : Sizes) (words v
       (ap (λ (l : List ℕ). partsOf t l values′ registers) (w .words-are)
       ∙ parts-count t opened values′ registers (at .thread) (countPlace (at .thread)) count (placed-here .thread-low) refl
       ∙ ap (λ (b : Arrays). arrays (b .started) (b .nexts) (b .values) (set (b .counts) (at .thread) count) (b .accumulators) (b .owners) (b .cells))
-      (parts-next t words values′ registers (at .slot + 1) (getD first q 0) (omega (arith, here .newest .slot-is, w .free, placed-here .thread-low))))
+      (parts-next t words values′ registers (at .slot + 1) (getD first q 0) (omega (arith, here .newest .slot-is, room-here q arguments e, placed-here .thread-low))))
       (λ state s. call-step t accepted a state (at .thread) (at .slot) s (here .low) (p state s) (at .next) (stands-at state s) q arguments
-      (getD first q 0) (getD handle q 0) (getD handle (q + 1) 0) (u .first-is) (u .from-is) (u .end-is) values′ (is state s (Call q arguments) e) (w .free) (w .entered))
+      (getD first q 0) (getD handle q 0) (getD handle (q + 1) 0) (u .first-is) (u .from-is) (u .end-is) values′ (is state s (Call q arguments) e) (w .entered))
 
   pub did-start : (q : ℕ) (arguments : Arguments) (words′ values′ : List ℕ) (registers′ : List ℤ) (r : Move) → σ ≡ Start q arguments
       → Started (tableOf numbers) (getD first q 0) (getD handle q 0) (getD handle (q + 1) 0) arguments at r words words′ values values′ registers registers′

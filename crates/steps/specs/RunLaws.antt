@@ -14,6 +14,7 @@ use Rattle.table.specs.Table.{Table, tableOf, statement}
 use Rattle.machine.specs.State.{State, Frame, thread}
 use Rattle.machine.specs.Step.{after}
 use Rattle.machine.specs.Engine.{engineStep, answer, engineRun, answers}
+use Rattle.machine.specs.EngineLaws.{step-answered}
 use Rattle.operations.specs.declared.Step.{Step}
 use Rattle.operations.specs.declared.Step.the-variants.{Ran, Refused}
 use Rattle.operations.specs.Step.{numberOf, caseOf, stepOf}
@@ -33,6 +34,13 @@ number-at number t (f ∷ fs) = go (eqb number 0) refl
 pub step-number : (t : Table) (state : State) (n : ℕ) → numberOf (stepOf t state n) ≡ answer (engineStep t state n)
 unfolding stepOf
 step-number t state n = number-at (answer (engineStep t state n)) t (thread state n .frames)
+
+-- and fits a byte
+pub steps-small : (numbers : List ℤ) (first handle : List ℕ) (sizes : Sizes) (words values : List ℕ) (registers : List ℤ) → Standing numbers first handle sizes words values registers
+    → (words′ values′ : List ℕ) (registers′ : List ℤ) (n : ℕ) (r : Step) → Steps (tableOf numbers) words values registers words′ values′ registers′ n r → numberOf r < 256
+steps-small numbers first handle sizes words values registers s words′ values′ registers′ n r did =
+    let t = tableOf numbers in
+    omega (arith, ap numberOf (did (s .state) (s .shows) .answered) ∙ step-number t (s .state) n, step-answered t (s .state) n .most)
 
 -- ---- a schedule
 

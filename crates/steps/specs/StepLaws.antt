@@ -11,8 +11,9 @@ use lib.Dec.{eqb}
 use lib.IntN.{ℤ, pos, _+ℤ_}
 use lib.ListN.{length, getD, set, length-set, List·getD-map, List·getD-eq-default}
 use lib.Seq.{getD-set-same, getD-set-other, set-comm}
-use Rattle.table.specs.Table.{Table, routine, statement, passed, InRoutine, OwnHandle}
-use Rattle.table.specs.Accepted.{Accepted, GoesOn, Operands, Passes}
+use Rattle.table.specs.Table.{Table, routine, statement, passed, OwnHandle}
+use Rattle.table.specs.Accepted.{Accepted, Operands, Passes}
+use Rattle.table.specs.View.{view, On, calls}
 use Rattle.table.specs.declared.Arguments.{Arguments}
 use Rattle.table.specs.declared.Handle.{Handle}
 use Rattle.table.specs.declared.Target.{Target}
@@ -20,11 +21,13 @@ use Rattle.table.specs.declared.Statement.{Statement}
 use Rattle.table.specs.declared.Statement.the-variants.{Read, Write, Set, Add, Take, Give, Point, Call, Start, Jump, JumpZero, Return}
 use Rattle.machine.specs.State.{State, Frame, Holder, free, held, ended, thread, holder, refers, opened}
 use Rattle.machine.specs.Step.{moved, refused, saturate, isZero, going, pointing, with-thread, goes-on, operate, stepped, step}
-use Rattle.machine.specs.Engine.{limit, engineStep}
+use Rattle.machine.specs.Engine.{frameSlots, limit, engineStep}
+use Rattle.machine.specs.FrameLaws.{Room, Rooms, call-has-room, engine-step-bounded}
+use Rattle.machine.specs.Words.{Next}
 use Rattle.operations.specs.declared.Step.the-variants.{Ran, Refused, Nothing}
 use Rattle.operations.specs.Step.{stepOf}
 use Rattle.operations.specs.Operation.{Placed}
-use Rattle.run_state.specs.Shown.{Arrays, arrays, valuePlace, holderOf, ShowsFrame, ShowsFrames, Lengths, Shows, Entered}
+use Rattle.run_state.specs.Shown.{Arrays, arrays, valuePlace, holderOf, ShowsFrame, ShowsFrames, Lengths, Shows, ShowsBounded, Entered}
 use Rattle.run_state.specs.ShownLaws.{Kept, kept-both, kept-next, kept-value, kept-entered, frame-kept, frames-kept, one-thread, added, own-apart, opened-shown}
 use Rattle.steps.specs.Stepped.{Stepped}
 
@@ -53,19 +56,20 @@ pub record Top (t : Table) (a : Arrays) (state : State) (n slot : ℕ) : Type 0 
   pub is : thread state n .frames ≡ f ∷ older
   pub slot-is : slot ≡ n * 32 + length older
   pub count-is : getD (a .counts) n 0 ≡ suc (length older)
-  pub few : length older < 32
+  pub few : length older < frameSlots
+  pub room : Room t (length older) f
   pub shown : ShowsFrame t (a .nexts) (a .values) slot f
   pub rest : ShowsFrames t (a .nexts) (a .values) (n * 32) older
   pub accumulator-is : getD (a .accumulators) n (pos 0) ≡ thread state n .accumulator
 
-pub top : (t : Table) (a : Arrays) (state : State) (n slot : ℕ) → Shows t a state → n < a .started → 0 < getD (a .counts) n 0
+pub top : (t : Table) (a : Arrays) (state : State) (n slot : ℕ) → ShowsBounded t a state → n < a .started → 0 < getD (a .counts) n 0
     → slot + 1 ≡ n * 32 + getD (a .counts) n 0 → Top t a state n slot
 top t a state n slot s low some e = go (thread state n .frames) refl
   where
     go : (fs : List Frame) → thread state n .frames ≡ fs → Top t a state n slot
-    go [] q = let c = s .thread-is n low .count-is in let z = ap length q in absurd (omega arith)
+    go [] q = let c = s .shows .thread-is n low .count-is in let z = ap length q in absurd (omega arith)
     go (f ∷ older) q =
-        let th = s .thread-is n low in
+        let th = s .shows .thread-is n low in
         let all : ShowsFrames t (a .nexts) (a .values) (n * 32) (f ∷ older) = subst (λ (fs : List Frame). ShowsFrames t (a .nexts) (a .values) (n * 32) fs) q (th .frames) in
         let c : getD (a .counts) n 0 ≡ suc (length older) = th .count-is ∙ ap length q in
         let is : slot ≡ n * 32 + length older = omega arith in
@@ -76,6 +80,7 @@ top t a state n slot s low some e = go (thread state n .frames) refl
           slot-is = is;
           count-is = c;
           few = omega (arith, th .few);
+          room = subst (Rooms t) q (s .bounded .rooms n) .0;
           shown = subst (λ (i : ℕ). ShowsFrame t (a .nexts) (a .values) i f) (sym is) (all .0);
           rest = all .1;
           accumulator-is = th .accumulator-is;
@@ -83,19 +88,19 @@ top t a state n slot s low some e = go (thread state n .frames) refl
 
 -- ---- 14 and 15
 
-pub not-started : (t : Table) (a : Arrays) (state : State) (n : ℕ) → Shows t a state → a .started ≤ n → Stepped t a state n (Nothing 14)
+pub not-started : (t : Table) (a : Arrays) (state : State) (n : ℕ) → ShowsBounded t a state → a .started ≤ n → Stepped t a state n (Nothing 14)
 unfolding stepOf engineStep step
 not-started t a state n s l =
-    let none : thread state n ≡ ended = List·getD-eq-default (state .threads) ended {n = n} (omega (arith, s .started-is)) in
-    let past = le-ltb n (length (state .threads)) (omega (arith, s .started-is)) in
-    record { answered = rw (none, past); small = omega arith; shows = rw (none, past) s }
+    let none : thread state n ≡ ended = List·getD-eq-default (state .threads) ended {n = n} (omega (arith, s .shows .started-is)) in
+    let past = le-ltb n (length (state .threads)) (omega (arith, s .shows .started-is)) in
+    record { answered = rw (none, past); shows = rw (none, past) s }
 
-pub has-ended : (t : Table) (a : Arrays) (state : State) (n : ℕ) → Shows t a state → n < a .started → getD (a .counts) n 0 ≡ 0 → Stepped t a state n (Nothing 15)
+pub has-ended : (t : Table) (a : Arrays) (state : State) (n : ℕ) → ShowsBounded t a state → n < a .started → getD (a .counts) n 0 ≡ 0 → Stepped t a state n (Nothing 15)
 unfolding stepOf engineStep step stepped
 has-ended t a state n s l c =
-    let none : thread state n .frames ≡ [] = empty (thread state n .frames) (sym (s .thread-is n l .count-is) ∙ c) in
-    let there = lt-ltb n (length (state .threads)) (omega (arith, s .started-is)) in
-    record { answered = rw (none, there); small = omega arith; shows = rw (none, there) s }
+    let none : thread state n .frames ≡ [] = empty (thread state n .frames) (sym (s .shows .thread-is n l .count-is) ∙ c) in
+    let there = lt-ltb n (length (state .threads)) (omega (arith, s .shows .started-is)) in
+    record { answered = rw (none, there); shows = rw (none, there) s }
   where
     empty : (fs : List Frame) → length fs ≡ 0 → fs ≡ []
     empty [] e = refl
@@ -107,34 +112,37 @@ pub record Accumulated (old new : List ℤ) (n : ℕ) (b : ℤ) : Type 0 where
   pub own : getD new n (pos 0) ≡ b
   pub other : (m : ℕ) → (m ≡ n → ⊥) → getD new m (pos 0) ≡ getD old m (pos 0)
 
-module _ (t : Table) (accepted : Accepted t) (a : Arrays) (state : State) (n slot : ℕ) (s : Shows t a state) (low : n < a .started) (p : Top t a state n slot) where
+module _ (t : Table) (accepted : Accepted t) (a : Arrays) (state : State) (n slot : ℕ) (whole : ShowsBounded t a state) (low : n < a .started) (p : Top t a state n slot) where
+  abbrev s : Shows t a state
+  s = whole .shows
+
   pub placed : Placed (record { thread = n; slot = slot; next = p .f .next })
   placed =
-      let facts = accepted .routine-facts (p .f .routine) (p .shown .there) in
+      let facts = accepted .routine-facts (p .f .routine) (p .room .there) in
       record {
         thread-low = omega (arith, s .most);
         slot-low = omega (arith, s .most, p .slot-is, p .few);
-        next-low = omega (arith, p .shown .inside .high, facts .statements-there, accepted .statements-most);
+        next-low = omega (arith, p .room .inside .high, facts .statements-there, accepted .statements-most);
       }
 
   -- ---- the engine's step by the statement
 
-  by-operation : (σ : Statement) → statement t (p .f .next) ≡ σ → limit (length (state .threads)) (suc (length (p .older))) σ ≡ 0
+  by-operation : (σ : Statement) → statement t (p .f .next) ≡ σ → limit (length (state .threads)) σ ≡ 0
       → engineStep t state n ≡ operate t state n (thread state n .accumulator) (p .f) (p .older) σ
   unfolding engineStep step stepped
   by-operation σ e l = rw (p .is, e, l, lt-ltb n (length (state .threads)) (omega (arith, s .started-is)))
 
-  ran : (new : Arrays) (σ : Statement) (new-state : State) → statement t (p .f .next) ≡ σ → limit (length (state .threads)) (suc (length (p .older))) σ ≡ 0
+  ran : (new : Arrays) (σ : Statement) (new-state : State) → statement t (p .f .next) ≡ σ → limit (length (state .threads)) σ ≡ 0
       → operate t state n (thread state n .accumulator) (p .f) (p .older) σ ≡ moved new-state → Shows t new new-state → Stepped t new state n (Ran σ)
   unfolding stepOf
-  ran new σ new-state e l m shown =
+  ran new σ new-state e l m shows =
       let w : engineStep t state n ≡ moved new-state = by-operation σ e l ∙ m in
-      record { answered = rw (w, p .is, e); small = omega arith; shows = rw w shown }
+      record { answered = rw (w, p .is, e); shows = record { shows = rw w shows; bounded = engine-step-bounded accepted state (whole .bounded) n } }
 
-  turned-down : (σ : Statement) (number : ℕ) → statement t (p .f .next) ≡ σ → engineStep t state n ≡ refused number → eqb number 0 ≡ false → number < 256
+  turned-down : (σ : Statement) (number : ℕ) → statement t (p .f .next) ≡ σ → engineStep t state n ≡ refused number → eqb number 0 ≡ false
       → Stepped t a state n (Refused number σ)
   unfolding stepOf
-  turned-down σ number e w some small = record { answered = rw (w, p .is, e, some); small = small; shows = rw w s }
+  turned-down σ number e w some = record { answered = rw (w, p .is, e, some); shows = rw w whole }
 
   -- ---- the thread goes to statement x
 
@@ -153,11 +161,9 @@ module _ (t : Table) (accepted : Accepted t) (a : Arrays) (state : State) (n slo
         cells = z ∙ s .lengths .cells;
       }
 
-  going-shown : (x : ℕ) → InRoutine t (p .f .routine) x → ShowsFrame t (set (a .nexts) slot x) (a .values) slot (going (p .f) x)
-  going-shown x inside =
+  going-shown : (x : ℕ) → ShowsFrame t (set (a .nexts) slot x) (a .values) slot (going (p .f) x)
+  going-shown x =
       record {
-        there = p .shown .there;
-        inside = inside;
         next-is = getD-set-same (a .nexts) slot x 0 (omega (arith, s .lengths .nexts, s .most, p .slot-is, p .few));
         long = p .shown .long;
         value-is = p .shown .value-is;
@@ -166,11 +172,11 @@ module _ (t : Table) (accepted : Accepted t) (a : Arrays) (state : State) (n slo
   rest-kept : (nexts values : List ℕ) → Kept (a .nexts) nexts (a .values) values (n * 32) slot → ShowsFrames t nexts values (n * 32) (p .older)
   rest-kept nexts values k = frames-kept t (a .nexts) nexts (a .values) values (n * 32) slot (p .older) (p .rest) k (omega (arith, p .slot-is))
 
-  pub goes : (x : ℕ) (b : ℤ) (accumulators : List ℤ) (owners : List ℕ) (cells new-cells : List ℤ) (locks : List Holder) → InRoutine t (p .f .routine) x
+  pub goes : (x : ℕ) (b : ℤ) (accumulators : List ℤ) (owners : List ℕ) (cells new-cells : List ℤ) (locks : List Holder)
       → Accumulated (a .accumulators) accumulators n b → length cells ≡ length (a .cells) → new-cells ≡ cells → locks ≡ map holderOf owners
       → Shows t (arrays (a .started) (set (a .nexts) slot x) (a .values) (a .counts) accumulators owners cells)
       (with-thread state n b (going (p .f) x ∷ p .older) new-cells locks)
-  goes x b accumulators owners cells new-cells locks inside k z c l =
+  goes x b accumulators owners cells new-cells locks k z c l =
       one-thread t a (arrays (a .started) (set (a .nexts) slot x) (a .values) (a .counts) accumulators owners cells) n
       (record {
         lengths = lengths-next x (a .values) (a .counts) accumulators owners cells refl refl (k .long) z;
@@ -184,7 +190,7 @@ module _ (t : Table) (accepted : Accepted t) (a : Arrays) (state : State) (n slo
         few = omega (arith, p .count-is, p .few);
         accumulator-is = k .own;
         frames = (
-          subst (λ (i : ℕ). ShowsFrame t (set (a .nexts) slot x) (a .values) i (going (p .f) x)) (p .slot-is) (going-shown x inside),
+          subst (λ (i : ℕ). ShowsFrame t (set (a .nexts) slot x) (a .values) i (going (p .f) x)) (p .slot-is) (going-shown x),
           rest-kept (set (a .nexts) slot x) (a .values) (kept-next (a .nexts) (a .values) slot x (n * 32) slot (λ i v w e. omega arith)),
         );
       })
@@ -192,7 +198,7 @@ module _ (t : Table) (accepted : Accepted t) (a : Arrays) (state : State) (n slo
 
   -- ---- the engine's own limits
 
-  limited : (σ : Statement) (number : ℕ) → statement t (p .f .next) ≡ σ → limit (length (state .threads)) (suc (length (p .older))) σ ≡ number → eqb number 0 ≡ false
+  limited : (σ : Statement) (number : ℕ) → statement t (p .f .next) ≡ σ → limit (length (state .threads)) σ ≡ number → eqb number 0 ≡ false
       → engineStep t state n ≡ refused number
   unfolding engineStep
   limited σ number e l some = rw (p .is, e, l, some)
@@ -214,11 +220,8 @@ module _ (t : Table) (accepted : Accepted t) (a : Arrays) (state : State) (n slo
   -- ---- the operations that change no frame but the next statement
 
   module _ (next : ℕ) (next-is : next ≡ p .f .next) where
-    after-it : (σ : Statement) → statement t (p .f .next) ≡ σ → GoesOn t (p .f .routine) (p .f .next) σ
-    after-it σ e = subst (λ (τ : Statement). GoesOn t (p .f .routine) (p .f .next) τ) e (accepted .goes-on (p .f .routine) (p .f .next) (p .shown .there) (p .shown .inside))
-
     operands-of : (σ : Statement) → statement t (p .f .next) ≡ σ → Operands t (p .f .routine) σ
-    operands-of σ e = subst (λ (τ : Statement). Operands t (p .f .routine) τ) e (accepted .operands (p .f .routine) (p .f .next) (p .shown .there) (p .shown .inside))
+    operands-of σ e = subst (λ (τ : Statement). Operands t (p .f .routine) τ) e (accepted .operands (p .f .routine) (p .f .next) (p .room .there) (p .room .inside))
 
     on : set (a .nexts) slot (next + 1) ≡ set (a .nexts) slot (p .f .next + 1)
     on = ap (λ (i : ℕ). set (a .nexts) slot (i + 1)) next-is
@@ -232,7 +235,7 @@ module _ (t : Table) (accepted : Accepted t) (a : Arrays) (state : State) (n slo
     read-step h e =
         rw on
         (ran _ (Read h) _ e refl refl
-        (goes (p .f .next + 1) _ _ (a .owners) (a .cells) (state .cells) (state .locks) (after-it (Read h) e refl)
+        (goes (p .f .next + 1) _ _ (a .owners) (a .cells) (state .cells) (state .locks)
         (accumulated-set _ _ (ap₂ (λ (l : List ℤ) (i : ℕ). getD l i (pos 0)) (sym (s .cells-are)) (own-value (h .number) (operands-of (Read h) e .reads (h .number) refl .own))))
         refl (s .cells-are) (s .locks-are)))
 
@@ -245,7 +248,7 @@ module _ (t : Table) (accepted : Accepted t) (a : Arrays) (state : State) (n slo
     write-step h e =
         rw on
         (ran _ (Write h) _ e refl refl
-        (goes (p .f .next + 1) _ (a .accumulators) (a .owners) _ _ (state .locks) (after-it (Write h) e refl) accumulated-same
+        (goes (p .f .next + 1) _ (a .accumulators) (a .owners) _ _ (state .locks) accumulated-same
         (length-set (a .cells) (getD (a .values) (valuePlace slot (h .number)) 0) (getD (a .accumulators) n (pos 0)))
         (rw (s .cells-are, own-value (h .number) (operands-of (Write h) e .writes (h .number) refl .own), p .accumulator-is))
         (s .locks-are)))
@@ -256,7 +259,7 @@ module _ (t : Table) (accepted : Accepted t) (a : Arrays) (state : State) (n slo
     set-step number e =
         rw on
         (ran _ (Set number) _ e refl refl
-        (goes (p .f .next + 1) _ _ (a .owners) (a .cells) (state .cells) (state .locks) (after-it (Set number) e refl) (accumulated-set _ _ refl) refl (s .cells-are) (s .locks-are)))
+        (goes (p .f .next + 1) _ _ (a .owners) (a .cells) (state .cells) (state .locks) (accumulated-set _ _ refl) refl (s .cells-are) (s .locks-are)))
 
     pub add-step : (number : ℤ) → statement t (p .f .next) ≡ Add number
         → Stepped t
@@ -267,7 +270,7 @@ module _ (t : Table) (accepted : Accepted t) (a : Arrays) (state : State) (n slo
     add-step number e =
         rw on
         (ran _ (Add number) _ e refl refl
-        (goes (p .f .next + 1) _ _ (a .owners) (a .cells) (state .cells) (state .locks) (after-it (Add number) e refl)
+        (goes (p .f .next + 1) _ _ (a .owners) (a .cells) (state .cells) (state .locks)
         (accumulated-set _ _ (ap (λ (z : ℤ). saturate (z +ℤ number)) (p .accumulator-is))) refl (s .cells-are) (s .locks-are)))
 
     pub jump-step : (target : Target) → statement t (p .f .next) ≡ Jump target
@@ -275,7 +278,7 @@ module _ (t : Table) (accepted : Accepted t) (a : Arrays) (state : State) (n slo
     unfolding operate
     jump-step target e =
         ran _ (Jump target) _ e refl refl
-        (goes (target .statement) _ (a .accumulators) (a .owners) (a .cells) (state .cells) (state .locks) (operands-of (Jump target) e .target (target .statement) refl) accumulated-same refl (s .cells-are) (s .locks-are))
+        (goes (target .statement) _ (a .accumulators) (a .owners) (a .cells) (state .cells) (state .locks) accumulated-same refl (s .cells-are) (s .locks-are))
 
     pub jump-zero-step : (target : Target) → statement t (p .f .next) ≡ JumpZero target
         → Stepped t
@@ -285,16 +288,9 @@ module _ (t : Table) (accepted : Accepted t) (a : Arrays) (state : State) (n slo
     jump-zero-step target e =
         rw there
         (ran _ (JumpZero target) _ e refl refl
-        (goes (where-to (isZero (thread state n .accumulator))) _ (a .accumulators) (a .owners) (a .cells) (state .cells) (state .locks)
-        (inside (isZero (thread state n .accumulator))) accumulated-same refl (s .cells-are) (s .locks-are)))
+        (goes (cond (isZero (thread state n .accumulator)) (target .statement) (p .f .next + 1)) _ (a .accumulators) (a .owners) (a .cells) (state .cells) (state .locks)
+        accumulated-same refl (s .cells-are) (s .locks-are)))
       where
-        where-to : Bool → ℕ
-        where-to b = cond b (target .statement) (p .f .next + 1)
-
-        inside : (b : Bool) → InRoutine t (p .f .routine) (cond b (target .statement) (p .f .next + 1))
-        inside true = operands-of (JumpZero target) e .target (target .statement) refl
-        inside false = after-it (JumpZero target) e refl
-
         there : set (a .nexts) slot (cond (isZero (getD (a .accumulators) n (pos 0))) (target .statement) (next + 1))
             ≡ set (a .nexts) slot (cond (isZero (thread state n .accumulator)) (target .statement) (p .f .next + 1))
         there = ap₂ (λ (z : ℤ) (i : ℕ). set (a .nexts) slot (cond (isZero z) (target .statement) (i + 1))) (p .accumulator-is) next-is
@@ -334,18 +330,18 @@ module _ (t : Table) (accepted : Accepted t) (a : Arrays) (state : State) (n slo
         ap (λ (i : ℕ). holder state i) (sym (own-value h own)) ∙ holder-is t a state (getD (a .values) (valuePlace slot h) 0) s ∙ ap holderOf q
 
     -- the state after a lock changes hands
-    handed : (σ : Statement) (h x : ℕ) (new : Holder) → OwnHandle t (p .f .routine) h → InRoutine t (p .f .routine) (p .f .next + 1) → holderOf x ≡ new
+    handed : (h x : ℕ) (new : Holder) → OwnHandle t (p .f .routine) h → holderOf x ≡ new
         → Shows t (arrays (a .started) (set (a .nexts) slot (p .f .next + 1)) (a .values) (a .counts) (a .accumulators) (set (a .owners) (getD (a .values) (valuePlace slot h) 0) x) (a .cells))
         (with-thread state n (thread state n .accumulator) (going (p .f) (p .f .next + 1) ∷ p .older) (state .cells) (set (state .locks) (refers (p .f) h) new))
-    handed σ h x new own inside q =
-        goes (p .f .next + 1) _ (a .accumulators) _ (a .cells) (state .cells) _ inside accumulated-same refl (s .cells-are)
+    handed h x new own q =
+        goes (p .f .next + 1) _ (a .accumulators) _ (a .cells) (state .cells) _ accumulated-same refl (s .cells-are)
         (ap (λ (i : ℕ). set (state .locks) i new) (sym (own-value h own)) ∙ locks-set t a state (getD (a .values) (valuePlace slot h) 0) x new s q)
 
     module _ (h : Handle) (e : statement t (p .f .next) ≡ Take h) where
       pub take-refused : (getD (a .owners) (getD (a .values) (valuePlace slot (h .number)) 0) 0 ≡ 0 → ⊥) → Stepped t a state n (Refused 16 (Take h))
       unfolding operate
       take-refused w =
-          turned-down (Take h) 16 e (by-operation (Take h) e refl ∙ blocked (getD (a .owners) (getD (a .values) (valuePlace slot (h .number)) 0) 0) refl) refl (omega arith)
+          turned-down (Take h) 16 e (by-operation (Take h) e refl ∙ blocked (getD (a .owners) (getD (a .values) (valuePlace slot (h .number)) 0) 0) refl) refl
         where
           blocked : (o : ℕ) → getD (a .owners) (getD (a .values) (valuePlace slot (h .number)) 0) 0 ≡ o
               → operate t state n (thread state n .accumulator) (p .f) (p .older) (Take h) ≡ refused 16
@@ -360,13 +356,13 @@ module _ (t : Table) (accepted : Accepted t) (a : Arrays) (state : State) (n slo
           (ran _ (Take h)
           (with-thread state n (thread state n .accumulator) (going (p .f) (p .f .next + 1) ∷ p .older) (state .cells) (set (state .locks) (refers (p .f) (h .number)) (held n)))
           e refl (rw (lock-is (h .number) 0 (operands-of (Take h) e .takes (h .number) refl .own) w))
-          (handed (Take h) (h .number) (n + 1) (held n) (operands-of (Take h) e .takes (h .number) refl .own) (after-it (Take h) e refl) (holder-next n)))
+          (handed (h .number) (n + 1) (held n) (operands-of (Take h) e .takes (h .number) refl .own) (holder-next n)))
 
     module _ (h : Handle) (e : statement t (p .f .next) ≡ Give h) where
       pub give-refused : (getD (a .owners) (getD (a .values) (valuePlace slot (h .number)) 0) 0 ≡ n + 1 → ⊥) → Stepped t a state n (Refused 17 (Give h))
       unfolding operate
       give-refused w =
-          turned-down (Give h) 17 e (by-operation (Give h) e refl ∙ blocked (getD (a .owners) (getD (a .values) (valuePlace slot (h .number)) 0) 0) refl) refl (omega arith)
+          turned-down (Give h) 17 e (by-operation (Give h) e refl ∙ blocked (getD (a .owners) (getD (a .values) (valuePlace slot (h .number)) 0) 0) refl) refl
         where
           blocked : (o : ℕ) → getD (a .owners) (getD (a .values) (valuePlace slot (h .number)) 0) 0 ≡ o
               → operate t state n (thread state n .accumulator) (p .f) (p .older) (Give h) ≡ refused 17
@@ -381,7 +377,7 @@ module _ (t : Table) (accepted : Accepted t) (a : Arrays) (state : State) (n slo
           (ran _ (Give h)
           (with-thread state n (thread state n .accumulator) (going (p .f) (p .f .next + 1) ∷ p .older) (state .cells) (set (state .locks) (refers (p .f) (h .number)) free))
           e refl (rw (lock-is (h .number) (n + 1) (operands-of (Give h) e .gives (h .number) refl .own) w ∙ holder-next n, eq-eqb n n refl))
-          (handed (Give h) (h .number) 0 free (operands-of (Give h) e .gives (h .number) refl .own) (after-it (Give h) e refl) refl))
+          (handed (h .number) 0 free (operands-of (Give h) e .gives (h .number) refl .own) refl))
 
     -- ---- POINT
 
@@ -436,15 +432,13 @@ module _ (t : Table) (accepted : Accepted t) (a : Arrays) (state : State) (n slo
         value k o (no q) =
             let own = operands-of (Point h g) e .points (h .number) refl in
             getD-set-other (a .values) (valuePlace slot (h .number)) (valuePlace slot k) to 0
-            (λ same. q (own-apart t accepted (p .f .routine) k (h .number) (p .shown .there) o (own .0) (omega (arith, same))))
+            (λ same. q (own-apart t accepted (p .f .routine) k (h .number) (p .room .there) o (own .0) (omega (arith, same))))
             ∙ own-value k o ∙ sym (getD-set-other (p .f .values) (h .number) k (refers (p .f) (g .number)) 0 q)
 
         shown : ShowsFrame t nexts′ values′ slot pointed
         shown =
             record {
-              there = p .shown .there;
-              inside = after-it (Point h g) e refl;
-              next-is = going-shown (p .f .next + 1) (after-it (Point h g) e refl) .next-is;
+              next-is = going-shown (p .f .next + 1) .next-is;
               long = length-set (p .f .values) (h .number) (refers (p .f) (g .number)) ∙ p .shown .long;
               value-is = λ k o. value k o (ℕ-discrete k (h .number));
             }
@@ -479,18 +473,25 @@ module _ (t : Table) (accepted : Accepted t) (a : Arrays) (state : State) (n slo
 
       -- ---- CALL
 
-      pub call-refused : statement t (p .f .next) ≡ Call q arguments → 32 ≤ getD (a .counts) n 0 → Stepped t a state n (Refused 19 (Call q arguments))
-      call-refused e w =
-          turned-down (Call q arguments) 19 e (limited (Call q arguments) 19 e (rw (le-leb 32 (suc (length (p .older))) (omega (arith, w, p .count-is)))) refl) refl (omega arith)
+      -- "32 frames always suffice": there is a slot for the new one
+      pub call-room : statement t (p .f .next) ≡ Call q arguments → getD (a .counts) n 0 < frameSlots
+      call-room e =
+          omega (
+            arith,
+            p .count-is,
+            ap length (p .is),
+            call-has-room accepted state (whole .bounded) n
+                (subst (Next t (λ f σ. On (calls (view σ)) (λ r. Unit {0}))) (sym (p .is)) (q, ap (λ (σ : Statement). calls (view σ)) e, tt)),
+          )
 
-      pub call-step : (values : List ℕ) → statement t (p .f .next) ≡ Call q arguments → getD (a .counts) n 0 < 32 → Entered t (a .values) values (slot + 1) slot from end arguments
+      pub call-step : (values : List ℕ) → statement t (p .f .next) ≡ Call q arguments → Entered t (a .values) values (slot + 1) slot from end arguments
           → Stepped t
           (arrays (a .started) (set (set (a .nexts) (slot + 1) first) slot (next + 1)) values (set (a .counts) n (getD (a .counts) n 0 + 1)) (a .accumulators) (a .owners) (a .cells))
           state n (Ran (Call q arguments))
       unfolding operate
-      call-step values e w entered =
+      call-step values e entered =
           rw (moved-on values (slot + 1) entered (λ z. omega arith))
-          (ran _ (Call q arguments) _ e (rw (lt-leb 32 (suc (length (p .older))) (omega (arith, w, p .count-is)))) refl
+          (ran _ (Call q arguments) _ e refl refl
           (one-thread t a (arrays (a .started) nexts′ values counts′ (a .accumulators) (a .owners) (a .cells)) n
           (record {
             lengths =
@@ -518,7 +519,7 @@ module _ (t : Table) (accepted : Accepted t) (a : Arrays) (state : State) (n slo
                   (new-frame values (slot + 1) entered (omega (arith, s .most, p .slot-is, p .count-is, w)) (operands-of (Call q arguments) e .passes q refl)),
               (
                 subst (λ (i : ℕ). ShowsFrame t nexts′ values i (going (p .f) (p .f .next + 1))) (p .slot-is)
-                    (frame-kept t going-on nexts′ (a .values) values slot (going (p .f) (p .f .next + 1)) (going-shown (p .f .next + 1) (after-it (Call q arguments) e refl))
+                    (frame-kept t going-on nexts′ (a .values) values slot (going (p .f) (p .f .next + 1)) (going-shown (p .f .next + 1))
                     (opening values (slot + 1) entered slot (slot + 1) (λ i v u z. omega arith))),
                 rest-kept nexts′ values (kept (n * 32) slot (λ i v u z. omega arith) (λ i v u z. omega arith)),
               ),
@@ -526,6 +527,9 @@ module _ (t : Table) (accepted : Accepted t) (a : Arrays) (state : State) (n slo
           })
           (s .cells-are) (s .locks-are)))
         where
+          w : getD (a .counts) n 0 < frameSlots
+          w = call-room e
+
           nexts′ : List ℕ
           nexts′ = set going-on (slot + 1) first
 
@@ -545,7 +549,7 @@ module _ (t : Table) (accepted : Accepted t) (a : Arrays) (state : State) (n slo
 
       pub start-refused : statement t (p .f .next) ≡ Start q arguments → 16 ≤ a .started → Stepped t a state n (Refused 18 (Start q arguments))
       start-refused e w =
-          turned-down (Start q arguments) 18 e (limited (Start q arguments) 18 e (rw (le-leb 16 (length (state .threads)) (omega (arith, w, s .started-is)))) refl) refl (omega arith)
+          turned-down (Start q arguments) 18 e (limited (Start q arguments) 18 e (rw (le-leb 16 (length (state .threads)) (omega (arith, w, s .started-is)))) refl) refl
 
       pub start-step : (values : List ℕ) → statement t (p .f .next) ≡ Start q arguments → a .started < 16 → Entered t (a .values) values (a .started * 32) slot from end arguments
           → Stepped t
@@ -572,7 +576,7 @@ module _ (t : Table) (accepted : Accepted t) (a : Arrays) (state : State) (n slo
           })
           (with-thread state n (thread state n .accumulator) (going (p .f) (p .f .next + 1) ∷ p .older) (state .cells) (state .locks))
           (record { accumulator = pos 0; frames = opened t q (p .f .values) arguments ∷ [] })
-          (goes (p .f .next + 1) _ (a .accumulators) (a .owners) (a .cells) (state .cells) (state .locks) (after-it (Start q arguments) e refl) accumulated-same refl (s .cells-are) (s .locks-are))
+          (goes (p .f .next + 1) _ (a .accumulators) (a .owners) (a .cells) (state .cells) (state .locks) accumulated-same refl (s .cells-are) (s .locks-are))
           refl (w) refl
           (let c = getD-set-same (a .counts) (a .started) 1 0 (omega (arith, s .lengths .counts, w)) in
           record {

@@ -11,20 +11,19 @@ use Rattle.machine.specs.Step.{after}
 use Rattle.machine.specs.Engine.{engineStep, engineRun, answers}
 use Rattle.run_state.specs.declared.Sizes.{Sizes}
 use Rattle.run_state.specs.Lists.{nextsIn, countsIn, startedIn}
-use Rattle.run_state.specs.Shown.{Arrays, partsOf, user, Shows, ListsShow, Standing}
+use Rattle.run_state.specs.Shown.{Arrays, partsOf, user, ShowsBounded, ListsShow, Standing}
 use Rattle.operations.specs.declared.Place.{Place}
 use Rattle.operations.specs.declared.Move.{Move}
 use Rattle.operations.specs.declared.Move.the-variants.{To, Closed, Stopped}
 use Rattle.operations.specs.declared.Step.{Step}
 use Rattle.operations.specs.declared.Step.the-variants.{Ran, Refused}
 use Rattle.operations.specs.Operation.{Newest}
-use Rattle.operations.specs.Step.{numberOf, stepOf}
+use Rattle.operations.specs.Step.{stepOf}
 
 -- a step of thread n: the answer and the state after it are the engine's
 pub record Stepped (t : Table) (new : Arrays) (state : State) (n : ℕ) (step : Step) : Type 0 where
   pub answered : step ≡ stepOf t state (user n)
-  pub small : numberOf step < 256
-  pub shows : Shows t new (after state (engineStep t state (user n)))
+  pub shows : ShowsBounded t new (after state (engineStep t state (user n)))
 
 -- of every state that the lists show before, what a step of thread n leaves
 abbrev pub Steps : Table → List ℕ → List ℕ → List ℤ → List ℕ → List ℕ → List ℤ → ℕ → Step → Type 0

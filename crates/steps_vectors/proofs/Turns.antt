@@ -24,6 +24,11 @@ pub record Turns (a : List ℤ) (firstA handleA : List ℕ) (sizesA : Sizes) (wo
   pub other : Standing b firstB handleB sizesB wordsB valuesB registersB
   pub low : i ≤ 300
 
+-- the same of one run
+pub record Counting (numbers : List ℤ) (first handle : List ℕ) (sizes : Sizes) (words values : List ℕ) (registers : List ℤ) (i : ℕ) : Type 0 where
+  pub standing : Standing numbers first handle sizes words values registers
+  pub low : i ≤ 300
+
 module _ (numbers : List ℤ) (first handle : List ℕ) (sizes : Sizes) (words values : List ℕ) (registers : List ℤ) where
   pub begun : Accepted (tableOf numbers) → length numbers ≡ 8 * statementLine numbers (statements numbers) → first ≡ firstStatements numbers → handle ≡ firstHandles numbers
       → Sized numbers sizes → ListsShow (tableOf numbers) words values registers (start (tableOf numbers)) → Standing numbers first handle sizes words values registers
@@ -42,4 +47,4 @@ module _ (numbers : List ℤ) (first handle : List ℕ) (sizes : Sizes) (words v
     -- a list that just fits the cells
     pub cells-fit : (cells : List ℤ) → sizes .cells ≡ length cells → (length (cellsIn (length cells) registers) ≡ length cells) × (length cells ≤ 64)
     cells-fit cells e =
-        (subst (λ (k : ℕ). length (cellsIn k registers) ≡ k) (sym (s .fixed .sized .cells-are) ∙ e) (s .shows .lengths .cells), omega (arith, cells-few))
+        (subst (λ (k : ℕ). length (cellsIn k registers) ≡ k) (sym (s .fixed .sized .cells-are) ∙ e) (s .shows .shows .lengths .cells), omega (arith, cells-few))

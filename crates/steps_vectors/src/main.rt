@@ -1,7 +1,7 @@
 // Steps called from a program: two tables of data/ are stepped in turn, each by its schedule and in lists of its own; then each is run by itself. What
-// both ways answer and leave is printed.
+// both ways answer and leave is printed. Last a chain of 32 routines, with the frames that its threads have open behind each step: 32 at the deepest.
 ghost use mathlib.Core.Path.{_≡_};
-ghost use Prim.Native.Nat.{_*_, _≤_};
+ghost use Prim.Native.Nat.{_*_, _<_, _≤_};
 ghost use lib.ListN.{length};
 ghost use Rattle.lines.specs.Line.{lineCount};
 ghost use Rattle.table.specs.Header.{statements, statementLine};
@@ -12,25 +12,30 @@ ghost use Rattle.run_state.specs.Shown.{Standing};
 use libc::STDOUT_FILENO;
 use run_printer::load;
 use run_state::Sizes;
+use run_state::places;
 use table::Verdict;
 
-// `answers` and the answers, a space before each.
-fn say_answers(answers: &[u8]) {
-    let mut out = [0u8; 2048];
-    let words = run_printer::put_answers(&mut out, 2048, answers);
-    let start = run_printer::put_text(&mut out, words, b"answers");
-    io::write_all(STDOUT_FILENO, &out[start..]);
+fn say(text: &[u8]) {
+    io::write_all(STDOUT_FILENO, text);
 }
 
-// The first answers, so many; none if there are fewer.
-fn say_some(answers: &[u8], count: usize) {
-    if count <= answers.len() {
-        say_answers(&answers[..count]);
+// Numbers, a space before each.
+fn say_numbers(numbers: &[u8]) {
+    let mut out = [0u8; 2048];
+    let start = run_printer::put_answers(&mut out, 2048, numbers);
+    say(&out[start..]);
+}
+
+// The first numbers, so many; none if there are fewer.
+fn say_some(numbers: &[u8], count: usize) {
+    if count <= numbers.len() {
+        say_numbers(&numbers[..count]);
     }
 }
 
-// The same, of an array.
+// `answers` and the first answers, so many.
 fn say_first(answers: &[u8; 300], count: usize) {
+    say(b"answers");
     say_some(answers, count);
 }
 
@@ -40,7 +45,7 @@ fn say_left(cells: &[i32]) {
     let end = run_printer::put_text(&mut out, 2048, b"\n");
     let words = run_printer::put_values(&mut out, end, cells);
     let start = run_printer::put_text(&mut out, words, b", cells");
-    io::write_all(STDOUT_FILENO, &out[start..]);
+    say(&out[start..]);
 }
 
 // The cells of a run, by a list that just fits them.
@@ -195,9 +200,94 @@ fn show_pair(table_a: &[u8], schedule_a: &[u8], table_b: &[u8], schedule_b: &[u8
     show_alone(&text_b[..m], &other[..l]);
 }
 
+// The frames open behind the first steps, so many: a line for each of two threads.
+fn say_frames(frames: &[u8; 300], others: &[u8; 300], count: usize) {
+    say(b"frames of thread 0:");
+    say_some(frames, count);
+    say(b"\nframes of thread 1:");
+    say_some(others, count);
+    say(b"\n");
+}
+
+// How many frames thread `n` has open.
+fn frames_of(words: &[u32; 545], n: usize) -> u8
+    requires { ⌜ n < 16 ⌝ }
+{
+    (places::count_of(words, n) % 256) as u8
+}
+
+// An accepted table by a schedule: the frames that threads 0 and 1 have open behind each step, the answers, and the cells.
+fn count_frames(numbers: &[i32], schedule: &[u8])
+    requires { ⌜ Accepted (tableOf (now numbers)) × (length (now numbers) ≡ 8 * statementLine (now numbers) (statements (now numbers))) ⌝ }
+{
+    let first = declarations::first_statements(numbers);
+    let handle = declarations::first_handles(numbers);
+    let sizes = run_state::sizes_of(numbers);
+    let mut words = [0u32; 545];
+    let mut values = [0u8; 4096];
+    let mut registers = [0i32; 80];
+    run_state::begin(numbers, &handle, &mut words, &mut values, &mut registers);
+    let mut frames = [0u8; 300];
+    let mut others = [0u8; 300];
+    let mut answers = [0u8; 300];
+    let mut i = 0;
+    while i < 300 {
+        answers[i] = step_at(
+            numbers,
+            &first,
+            &handle,
+            sizes,
+            schedule,
+            i,
+            &mut words,
+            &mut values,
+            &mut registers,
+        );
+        frames[i] = frames_of(&words, 0);
+        others[i] = frames_of(&words, 1);
+        i += 1;
+    }
+    say_frames(&frames, &others, schedule.len());
+    say_first(&answers, schedule.len());
+    let mut cells = [0i32; 64];
+    show_left(&registers, &mut cells[..sizes.cells]);
+}
+
+// A text, with a list that has room for its numbers; nothing where it is refused.
+fn count_in(text: &[u8], numbers: &mut [i32], schedule: &[u8])
+    requires { ⌜ length (now numbers) ≡ 8 * lineCount (now text) ⌝ }
+{
+    match reader::read_into(text, numbers) {
+        Verdict::Refused { number: _, line: _ } => {}
+        Verdict::Accepted => {
+            count_frames(numbers, schedule);
+        }
+    }
+}
+
+// A text of at most 256 lines.
+fn show_frames(text: &[u8], schedule: &[u8]) {
+    let count = lines::line_count(text);
+    if 256 < count {
+        return;
+    }
+    let mut numbers = [0i32; 2048];
+    count_in(text, &mut numbers[..8 * count], schedule);
+}
+
+// The chain of 32 routines: thread 0 comes to 32 frames, thread 1 to 31.
+fn show_deep() {
+    let mut text = [0u8; 12544];
+    let mut schedule = [0u8; 300];
+    let n = load(b"deep.table", &mut text);
+    let k = load(b"deep.schedule", &mut schedule);
+    show_frames(&text[..n], &schedule[..k]);
+}
+
 fn main() {
     show_pair(b"016.table", b"016.schedule", b"036.table", b"036.schedule");
     show_pair(b"031.table", b"031.schedule", b"032.table", b"032.schedule");
     show_pair(b"010.table", b"010.schedule", b"006.table", b"006.schedule");
     show_pair(b"020.table", b"020.schedule", b"005.table", b"005.schedule");
+    show_deep();
 }

@@ -83,6 +83,7 @@ pub record Accepted (t : Table) : Type 0 where
   pub goes-on : (r s : ℕ) → r < length (t .routines) → InRoutine t r s → GoesOn t r s (statement t s)
   -- each routine but 0 is named
   pub named : (q : ℕ) → 1 ≤ q → q < length (t .routines) → (s : ℕ) × (s < length (t .statements)) × Names (statement t s) q
-  -- no routine reaches itself: a number for each routine that falls along CALLs and STARTs
+  -- no routine reaches itself: a number for each routine, below their number, that falls along CALLs and STARTs
   pub rank : ℕ → ℕ
+  pub rank-below : (r : ℕ) → r < length (t .routines) → rank r < length (t .routines)
   pub rank-falls : (r s q : ℕ) → r < length (t .routines) → InRoutine t r s → Names (statement t s) q → rank q < rank r

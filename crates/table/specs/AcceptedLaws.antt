@@ -18,7 +18,7 @@ use Rattle.table.specs.HandleLaws.{HandleRule, handle-rule, from-grows, 
 use Rattle.table.specs.RoutineLaws as R
 use Rattle.table.specs.LookupLaws.{cells-is, locks-is, handles-length, routines-length, statements-length, statement-is, declaration-says, routine-says, in-routine, routine-in}
 use Rattle.table.specs.StatementLaws as S
-use Rattle.table.specs.NamingLaws.{Naming, named-by, rankOf, naming-falls, first-unnamed}
+use Rattle.table.specs.NamingLaws.{Naming, named-by, rankOf, naming-falls, rank-below, first-unnamed}
 use Rattle.table.specs.Table.{tableOf, declaration, routine, statement, InRoutine}
 use Rattle.table.specs.Accepted.{Accepted, HandleFacts, RoutineFacts, Operands, GoesOn, Names}
 use Rattle.table.specs.declared.Statement.{Statement}
@@ -186,6 +186,7 @@ module _ (f : List ℤ) (p : Passed f) where
         goes-on = λ r s b i. goes-on-of r s (omega arith) i;
         named = λ q a b. named-of q a (omega arith);
         rank = rankOf f p;
+        rank-below = λ r b. let low = rank-below f p r (omega arith) in omega arith;
         rank-falls = λ r s q b i n. naming-falls f p r q (naming r s q (omega arith) i n);
       }
 

@@ -19,7 +19,7 @@ use Rattle.table.specs.Naming.{namedBy, gather, namesOf, namesIn, isName
 use Rattle.table.specs.Tabulate.{tabulate}
 use Rattle.table.specs.TabulateLaws.{length-tabulate, getD-tabulate}
 use Rattle.table.specs.CheckLaws.{Passed}
-use Rattle.table.specs.ReachLaws.{In, in-empty, reached-falls}
+use Rattle.table.specs.ReachLaws.{In, in-empty, reached-falls, reached-fewer}
 use Rattle.table.specs.RoutineLaws.{statement-good}
 use Rattle.table.specs.StatementLaws.{names-there, names-has, has-names}
 use Rattle.table.specs.Table.{statementOf}
@@ -151,6 +151,10 @@ module _ (f : List ℤ) (p : Passed f) where
   pub naming-falls : (r q : ℕ) → Naming f r q → rankOf q < rankOf r
   unfolding rankOf
   naming-falls r q n = reached-falls (namesIn f) names-small r q (naming-entry r q n) (p .acyclic-ok q (naming-there r q n))
+
+  pub rank-below : (r : ℕ) → r < routines f → rankOf r < routines f
+  unfolding rankOf
+  rank-below r b = reached-fewer (namesIn f) names-small (routines f) r few (λ i q h. naming-there i q (entry-naming i q h)) b (p .acyclic-ok r b)
 
   -- from a routine that reaches more than routine 0 does, the way up along "is named by" never ends; but no routine reaches more than 64
   no-way-up : (n r : ℕ) → r < routines f → rankOf 0 < rankOf r → 64 < rankOf r + n → ⊥

@@ -1,15 +1,15 @@
 -- What the walk down the named routines reaches: a set that is closed under naming, and the least such. So where no routine reaches itself, the number of
--- routines reached falls along naming. Assumes nothing.
+-- routines reached falls along naming, and is below the number of routines. Assumes nothing.
 use mathlib.Core.Path.{_≡_, refl, sym, _∙_, subst}
 use mathlib.Core.List.{List}
 use mathlib.Core.Bool.{Bool, true, false, not, _||_}
 use Prim.Native.Nat.{ℕ, zero, suc, _+_, _^_, _≤_, _<_}
 use native.Mathlib.Omega.{arith}
 use lib.Dec.{eqb, ltb}
-use borrow.Author.Tests.{ltb-true, ltb-false, eqb-true, not-true}
+use borrow.Author.Tests.{ltb-true, ltb-false, lt-ltb, le-ltb, eqb-true, not-true}
 use lib.ListN.{getD}
-use Rattle.sets.specs.Set.{has, union, minus, with, lowest, count}
-use Rattle.sets.specs.SetLaws.{has-union-left, has-union-right, union-cases, has-minus, has-with, has-empty, has-beyond, below-of-has, union-below, minus-below, count-with, count-below, count-inside-less, lowest-is, lowest-nothing}
+use Rattle.sets.specs.Set.{has, firsts, union, minus, with, lowest, count}
+use Rattle.sets.specs.SetLaws.{has-union-left, has-union-right, union-cases, has-minus, has-with, has-empty, has-beyond, has-firsts, below-of-has, union-below, minus-below, count-with, count-below, count-inside-less, lowest-is, lowest-nothing}
 use Rattle.sets.specs.declared.Which.{Which}
 use Rattle.sets.specs.declared.Which.the-variants.{Element, Nothing}
 use Rattle.table.specs.Naming.{walk, reached, isAcyclic, onWhich}
@@ -180,11 +180,14 @@ module _ (names : List ℕ) (small : (i : ℕ) → getD names i 0 < 2 ^ 32) wher
   pub reached-closed : (r i : ℕ) → In (reached names r) i → Inside (getD names i 0) (reached names r)
   reached-closed r = reached-covers r .closed
 
+  -- nothing but what a closed set that holds what it names holds
+  reached-least : (all r : ℕ) → ((i : ℕ) → In all i → Inside (getD names i 0) all) → Inside (getD names r 0) all → Inside (reached names r) all
+  unfolding reached
+  reached-least all r closed holds = walk-least all closed 32 (getD names r 0) 0 (small r) holds (λ j k. in-empty j k)
+
   -- what a named routine reaches, the naming one reaches
   pub reached-inside : (r q : ℕ) → In (getD names r 0) q → Inside (reached names q) (reached names r)
-  unfolding reached
-  reached-inside r q h =
-      walk-least (reached names r) (reached-closed r) 32 (getD names q 0) 0 (small q) (reached-closed r q (reached-named r q h)) (λ j k. in-empty j k)
+  reached-inside r q h = reached-least (reached names r) q (reached-closed r) (reached-closed r q (reached-named r q h))
 
   -- the number of routines reached falls along naming, to a routine that does not reach itself
   pub reached-falls : (r q : ℕ) → In (getD names r 0) q → isAcyclic names q ≡ true → count (reached names q) < count (reached names r)
@@ -193,3 +196,15 @@ module _ (names : List ℕ) (small : (i : ℕ) → getD names i 0 < 2 ^ 32) wher
       let l = in-below (getD names r 0) q (small r) h in
       let out = not-true (has (reached names q) q) a in
       count-inside-less (reached names q) (reached names r) q (reached-inside r q h) (omega arith) out (reached-named r q h)
+
+  -- where all that is named is below n, a routine below n that does not reach itself reaches fewer than n
+  pub reached-fewer : (n r : ℕ) → n ≤ 32 → ((i q : ℕ) → In (getD names i 0) q → q < n) → r < n → isAcyclic names r ≡ true → count (reached names r) < n
+  unfolding isAcyclic
+  reached-fewer n r few there low a =
+      let less = count-inside-less (reached names r) (firsts n) r (reached-least (firsts n) r (λ i h q k. first q (there i q k)) (λ q k. first q (there r q k)))
+      (omega arith) (not-true (has (reached names r) r) a) (first r low) in
+      let most = count-below n (firsts n) (below-of-has n (firsts n) (λ i b. has-firsts n i (omega arith) ∙ le-ltb i n b)) in
+      omega arith
+    where
+      first : (q : ℕ) → q < n → In (firsts n) q
+      first q b = has-firsts n q (omega arith) ∙ lt-ltb q n b

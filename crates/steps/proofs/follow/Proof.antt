@@ -3,7 +3,7 @@ use Prim.Native.Nat.{_-_}
 use lib.ListN.{length}
 use native.Mathlib.Omega.{arith}
 use borrow.Author.Needs.{needs}
-use Rattle.steps.specs.RunLaws.{Following, following-start, following-standing, following-next, following-done}
+use Rattle.steps.specs.RunLaws.{steps-small, Following, following-start, following-standing, following-next, following-done}
 use Rattle.steps.proofs.follow.Statement.{statement}
 use Rattle.steps.proofs.follow.Tie as tie
 
@@ -26,7 +26,7 @@ step-requires : tie.Need-step-requires Inv-loop μ-loop
 step-requires c κs = following-standing _ _ _ _ _ _ _ _ _ _ _ _ _ _ (c .before .before .before .before .before .before .loop .inv)
 
 answer-byte-requires : tie.Need-answer-byte-requires Inv-loop μ-loop
-answer-byte-requires c κs = let s = following-standing _ _ _ _ _ _ _ _ _ _ _ _ _ _ (c .before .before .before .before .before .before .before .loop .inv) in c .step .ensures (s .state) (s .shows) .small
+answer-byte-requires c κs = steps-small _ _ _ _ _ _ _ (following-standing _ _ _ _ _ _ _ _ _ _ _ _ _ _ (c .before .before .before .before .before .before .before .loop .inv)) _ _ _ _ _ (c .step .ensures)
 
 slice-write-answers : tie.Need-slice-write-answers Inv-loop μ-loop
 slice-write-answers c = omega (arith, c .before .before .before .before .before .before .before .before .loop .inv .long, c .before .before .before .before .before .before .before .before .loop .inv .room, c .before .before .before .before .before .before .before .loop-test .taken)

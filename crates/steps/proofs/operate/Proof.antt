@@ -5,7 +5,7 @@ use mir.Facts.{toZ-ofZ}
 use native.Mathlib.Omega.{arith}
 use mathlib.Core.Path.{refl}
 use mathlib.Core.Logic.{inl, inr}
-use Rattle.steps.proofs.Operating.{placed-here, cells-few, locks-few, values-long, slot-below, lines-there, named, did-read, did-write, did-set, did-add, did-take, did-give, did-point, did-call, did-start, did-jump, did-jump-zero, did-return}
+use Rattle.steps.proofs.Operating.{placed-here, cells-few, locks-few, values-long, slot-below, lines-there, named, room-here, did-read, did-write, did-set, did-add, did-take, did-give, did-point, did-call, did-start, did-jump, did-jump-zero, did-return}
 use borrow.Author.Needs.{needs}
 use Rattle.steps.proofs.operate.Statement.{statement}
 use Rattle.steps.proofs.operate.Tie as tie
@@ -56,7 +56,7 @@ enum-known-statement-8 : tie.Need-enum-known-statement-8
 enum-known-statement-8 c = search needs
 
 call-requires : tie.Need-call-requires
-call-requires c κs = (named _ _ _ _ _ _ _ _ _ (c .before .before .before .before .before .pre) _ _ (inl (c .before .before .before .statement8 .given .1)), placed-here _ _ _ _ _ _ _ _ _ (c .before .before .before .before .before .pre), c .before .before .before .before .before .pre .newest, values-long _ _ _ _ _ _ _ _ _ (c .before .before .before .before .before .pre), lines-there _ _ _ _ _ _ _ _ _ (c .before .before .before .before .before .pre))
+call-requires c κs = (named _ _ _ _ _ _ _ _ _ (c .before .before .before .before .before .pre) _ _ (inl (c .before .before .before .statement8 .given .1)), placed-here _ _ _ _ _ _ _ _ _ (c .before .before .before .before .before .pre), c .before .before .before .before .before .pre .newest, room-here _ _ _ _ _ _ _ _ _ (c .before .before .before .before .before .pre) _ _ (c .before .before .before .statement8 .given .1), values-long _ _ _ _ _ _ _ _ _ (c .before .before .before .before .before .pre), lines-there _ _ _ _ _ _ _ _ _ (c .before .before .before .before .before .pre))
 
 enum-known-statement-9 : tie.Need-enum-known-statement-9
 enum-known-statement-9 c = search needs

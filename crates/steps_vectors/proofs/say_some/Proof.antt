@@ -6,11 +6,11 @@ use borrow.Author.Needs.{needs}
 use Rattle.steps_vectors.proofs.say_some.Statement.{statement}
 use Rattle.steps_vectors.proofs.say_some.Tie as tie
 
-slice-aggregate-say-answers : tie.Need-slice-aggregate-say-answers
-slice-aggregate-say-answers c = sym (length-take-le _ _ (omega arith))
+slice-aggregate-say-numbers : tie.Need-slice-aggregate-say-numbers
+slice-aggregate-say-numbers c = sym (length-take-le _ _ (omega arith))
 
-say-answers-requires : tie.Need-say-answers-requires
-say-answers-requires c κs = search needs
+say-numbers-requires : tie.Need-say-numbers-requires
+say-numbers-requires c κs = search needs
 
 returns : tie.Need-returns
 returns c = search needs
@@ -20,4 +20,4 @@ returns-2 c = search needs
 
 pub say-some-spec : {M : Type 1} → statement M
 say-some-spec =
-    tie.close (tie.spec slice-aggregate-say-answers say-answers-requires returns returns-2)
+    tie.close (tie.spec slice-aggregate-say-numbers say-numbers-requires returns returns-2)

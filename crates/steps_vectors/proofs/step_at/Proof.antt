@@ -1,4 +1,5 @@
 -- `steps_vectors::step_at` meets its contract. Assumes nothing.
+use Rattle.steps.specs.RunLaws.{steps-small}
 use Rattle.steps_vectors.proofs.Turns.{stepped}
 use borrow.Author.Needs.{needs}
 use Rattle.steps_vectors.proofs.step_at.Statement.{statement}
@@ -17,7 +18,7 @@ step-requires : tie.Need-step-requires
 step-requires c κs = search needs
 
 answer-byte-requires : tie.Need-answer-byte-requires
-answer-byte-requires c κs = let s = c .before .before .before .before .before .before .before .before .pre in c .step .ensures (s .state) (s .shows) .small
+answer-byte-requires c κs = steps-small _ _ _ _ _ _ _ (c .before .before .before .before .before .before .before .before .pre) _ _ _ _ _ (c .step .ensures)
 
 returns-2 : tie.Need-returns-2
 returns-2 c = stepped _ _ _ _ _ _ _ (c .before .before .before .before .before .before .before .before .before .pre) _ _ _ _ _ (c .before .step .ensures)
