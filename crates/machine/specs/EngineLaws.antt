@@ -89,12 +89,16 @@ step-answered t state n = go (eqb over 0) refl
     go true e = within-answered (step t state n) (step-within t state n)
     go false e = let k = limit-is t (length (state .threads)) (thread state n .frames) e in record { known = inr (omega arith); most = omega arith }
 
--- of every table, state and schedule, each answer is one of these: 19 is none (C-16)
+-- of every table, state and schedule, each answer is one of these
 pub answers-answered : (t : Table) (state : State) (ns : List ℕ) (i : ℕ) → i < length ns → Answered (getD (answers t state ns) i 0)
 unfolding answers
 answers-answered t state [] i l = absurd (omega arith)
 answers-answered t state (n ∷ ns) zero l = step-answered t state n
 answers-answered t state (n ∷ ns) (suc i) l = answers-answered t (after state (engineStep t state n)) ns i (omega arith)
+
+-- C-16: "answer 19 never occurs"
+pub never-19 : (t : Table) (state : State) (ns : List ℕ) (i : ℕ) → i < length ns → getD (answers t state ns) i 0 ≡ 19 → ⊥
+never-19 t state ns i l e = omega (arith, answers-answered t state ns i l .most)
 
 pub answers-long : (t : Table) (state : State) (ns : List ℕ) → length (answers t state ns) ≡ length ns
 unfolding answers

@@ -221,6 +221,10 @@ pub fn start(
     if 16 <= n {
         return Move::Stopped(18);
     }
+    go_to(words, n * 32, first[routine]);
+    put_count(words, n, 1);
+    put_started(words, n + 1);
+    put_accumulator(registers, n, 0);
     enter(
         numbers,
         handle[routine],
@@ -230,10 +234,6 @@ pub fn start(
         n * 32,
         slot,
     );
-    go_to(words, n * 32, first[routine]);
-    put_count(words, n, 1);
-    put_started(words, n + 1);
-    put_accumulator(registers, n, 0);
     going_on(at)
 }
 
