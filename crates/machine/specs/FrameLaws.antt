@@ -16,11 +16,15 @@ use Rattle.table.specs.declared.Arguments.{Arguments}
 use Rattle.table.specs.declared.Statement.{Statement}
 use Rattle.table.specs.declared.Statement.the-variants.{Read, Write, Set, Add, Take, Give, Point, Call, Start, Jump, JumpZero, Return}
 use Rattle.machine.specs.State.{State, Frame, Thread, Holder, free, held, ended, thread, holder, refers, opened, start}
-use Rattle.machine.specs.Step.{Answer, moved, refused, taking, giving, isZero, going, goes-on, operate, stepped, step, after, run}
+use Rattle.machine.specs.Step.{moved, refused, taking, giving, isZero, going, goes-on, operate, stepped, step, after, run}
 use Rattle.machine.specs.Engine.{frameSlots, limitOf, engineStep, engineRun}
 use Rattle.machine.specs.EngineLaws.{unlimited, engine-runs-as-machine}
 use Rattle.machine.specs.Words.{Next}
 use Rattle.machine.specs.Lists.{set-case, snoc-case}
+
+-- the next statement of a thread with these frames is a CALL
+abbrev pub CallNext : Table → List Frame → Type 0
+CallNext t fs = Next t (λ f σ. On (calls (view σ)) (λ q. Unit {0})) fs
 
 -- a frame with so many below it: it stands at a statement of its routine, whose rank, added to them, stays below the number of routines
 pub record Room (t : Table) (below : ℕ) (f : Frame) : Type 0 where
@@ -44,11 +48,11 @@ module _ {t : Table} (accepted : Accepted t) where
   rooms-most [] r = omega arith
   rooms-most (f ∷ older) r = omega (arith, r .0 .room accepted)
 
-  -- a routine that is named has one rank less
+  -- a routine that is named has a lower rank: there is room for a frame of it on top
   named-room : (f : Frame) (below q : ℕ) → Room t below f → Names (statement t (f .next)) q → (other : Accepted t) → suc below + other .rank q < length (t .routines)
   named-room f below q r e other = omega (arith, r .room other, other .rank-falls (f .routine) (f .next) q (r .there) (r .inside) e)
 
-  calls-room : (fs : List Frame) → Rooms t fs → Next t (λ f σ. On (calls (view σ)) (λ q. Unit {0})) fs → length fs < length (t .routines)
+  calls-room : (fs : List Frame) → Rooms t fs → CallNext t fs → length fs < length (t .routines)
   calls-room [] r none = absurd none
   calls-room (f ∷ older) r (q, e, u) = omega (arith, named-room f (length older) q (r .0) (calls-names (view (statement t (f .next))) e) accepted)
 
@@ -56,7 +60,7 @@ module _ {t : Table} (accepted : Accepted t) where
   pub frames-most : (state : State) → Bounded t state → (n : ℕ) → length (thread state n .frames) ≤ frameSlots
   frames-most state b n = omega (arith, rooms-most (thread state n .frames) (b .rooms n), accepted .routines-most)
 
-  pub call-has-room : (state : State) → Bounded t state → (n : ℕ) → Next t (λ f σ. On (calls (view σ)) (λ q. Unit {0})) (thread state n .frames)
+  pub call-has-room : (state : State) → Bounded t state → (n : ℕ) → CallNext t (thread state n .frames)
       → length (thread state n .frames) < frameSlots
   call-has-room state b n call = omega (arith, calls-room (thread state n .frames) (b .rooms n) call, accepted .routines-most)
 
@@ -181,7 +185,7 @@ module _ {t : Table} (accepted : Accepted t) where
   frames-suffice ns n = frames-most (run t (start t) ns) (reached-bounded ns) n
 
   -- and no CALL finds 32 open, which document 01 answered 19
-  pub no-call-finds-32 : (ns : List ℕ) (n : ℕ) → Next t (λ f σ. On (calls (view σ)) (λ q. Unit {0})) (thread (run t (start t) ns) n .frames)
+  pub no-call-finds-32 : (ns : List ℕ) (n : ℕ) → CallNext t (thread (run t (start t) ns) n .frames)
       → length (thread (run t (start t) ns) n .frames) < frameSlots
   no-call-finds-32 ns n call = call-has-room (run t (start t) ns) (reached-bounded ns) n call
 

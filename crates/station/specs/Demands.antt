@@ -8,8 +8,13 @@
 use mathlib.Core.Path.{_≡_, sym, subst}
 use mathlib.Core.Bool.{true}
 use mathlib.Core.List.{List}
-use Prim.Native.Nat.{ℕ}
-use Rattle.machine.specs.State.{start}
+use Prim.Native.Nat.{ℕ, _≤_}
+use lib.ListN.{length}
+use Rattle.table.specs.Verdict.{verdict}
+use Rattle.table.specs.AcceptedLaws.{accepted}
+use Rattle.table.specs.declared.Verdict.the-variants.{Accepted}
+use Rattle.machine.specs.State.{thread, start}
+use Rattle.machine.specs.FrameLaws.{frames-suffice}
 use Rattle.machine.specs.Step.{run}
 use Rattle.machine.specs.Engine.{engineRun}
 use Rattle.machine.specs.EngineLaws.{unlimited, engine-runs-as-machine}
@@ -21,6 +26,11 @@ use Rattle.loader.specs.LoadLaws.{loadable-safe}
 pub engine-is-machine : (text ns : List ℕ)
     → engineRun (tableIn text) (start (tableIn text)) ns ≡ run (tableIn text) (start (tableIn text)) (unlimited (tableIn text) (start (tableIn text)) ns)
 engine-is-machine text ns = engine-runs-as-machine (tableIn text) (start (tableIn text)) ns
+
+-- C-16, of every accepted text, whatever its report says: after every list of thread numbers, on the machine with no limit, no thread has more than 32 frames
+pub accepted-frames-suffice : (text : List ℕ) → verdict text ≡ Accepted → (ns : List ℕ) (n : ℕ)
+    → length (thread (run (tableIn text) (start (tableIn text)) ns) n .frames) ≤ 32
+accepted-frames-suffice text e ns n = frames-suffice (accepted text e) ns n
 
 -- a text that may be loaded is safe after every list of thread numbers, on the machine with no limit
 pub loaded-machine-safe : (text : List ℕ) → loadable text ≡ true → (ns : List ℕ) → Safe (tableIn text) (run (tableIn text) (start (tableIn text)) ns)

@@ -1,7 +1,7 @@
 -- Each operation on the arrays is the engine's step. Assumes nothing.
 use Prim.Native.Nat.{ℕ, zero, suc, _+_, _-_, _*_, _<_, _≤_}
 use mathlib.Core.Path.{_≡_, refl, sym, ap, ap₂, _∙_, subst}
-use mathlib.Core.Bool.{Bool, true, false, cond}
+use mathlib.Core.Bool.{false, cond}
 use mathlib.Core.List.{List, [], _∷_, map}
 use native.Mathlib.Omega.{arith}
 use native.Mathlib.Decide.{ℕ-discrete}
@@ -13,17 +13,16 @@ use lib.ListN.{length, getD, set, length-set, List·getD-map, List·getD-eq-defa
 use lib.Seq.{getD-set-same, getD-set-other, set-comm}
 use Rattle.table.specs.Table.{Table, routine, statement, passed, OwnHandle}
 use Rattle.table.specs.Accepted.{Accepted, Operands, Passes}
-use Rattle.table.specs.View.{view, On, calls}
+use Rattle.table.specs.View.{view, calls}
 use Rattle.table.specs.declared.Arguments.{Arguments}
 use Rattle.table.specs.declared.Handle.{Handle}
 use Rattle.table.specs.declared.Target.{Target}
 use Rattle.table.specs.declared.Statement.{Statement}
 use Rattle.table.specs.declared.Statement.the-variants.{Read, Write, Set, Add, Take, Give, Point, Call, Start, Jump, JumpZero, Return}
 use Rattle.machine.specs.State.{State, Frame, Holder, free, held, ended, thread, holder, refers, opened}
-use Rattle.machine.specs.Step.{moved, refused, saturate, isZero, going, pointing, with-thread, goes-on, operate, stepped, step}
+use Rattle.machine.specs.Step.{moved, refused, saturate, isZero, going, pointing, with-thread, operate, stepped, step}
 use Rattle.machine.specs.Engine.{frameSlots, limit, engineStep}
-use Rattle.machine.specs.FrameLaws.{Room, Rooms, call-has-room, engine-step-bounded}
-use Rattle.machine.specs.Words.{Next}
+use Rattle.machine.specs.FrameLaws.{CallNext, Room, Rooms, call-has-room, engine-step-bounded}
 use Rattle.operations.specs.declared.Step.the-variants.{Ran, Refused, Nothing}
 use Rattle.operations.specs.Step.{stepOf}
 use Rattle.operations.specs.Operation.{Placed}
@@ -481,7 +480,7 @@ module _ (t : Table) (accepted : Accepted t) (a : Arrays) (state : State) (n slo
             p .count-is,
             ap length (p .is),
             call-has-room accepted state (whole .bounded) n
-                (subst (Next t (λ f σ. On (calls (view σ)) (λ r. Unit {0}))) (sym (p .is)) (q, ap (λ (σ : Statement). calls (view σ)) e, tt)),
+                (subst (CallNext t) (sym (p .is)) (q, ap (λ (σ : Statement). calls (view σ)) e, tt)),
           )
 
       pub call-step : (values : List ℕ) → statement t (p .f .next) ≡ Call q arguments → Entered t (a .values) values (slot + 1) slot from end arguments
