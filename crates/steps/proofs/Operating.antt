@@ -174,10 +174,7 @@ module _ (numbers : List ℤ) (first handle : List ℕ) (sizes : Sizes) (words v
   -- "32 frames always suffice": a CALL finds a slot free
   pub room-here : (q : ℕ) (arguments : Arguments) → σ ≡ Call q arguments → getD (countsIn words) (at .thread) 0 < frameSlots
   room-here q arguments e =
-      let u = looked q (routine-there q arguments (inl e)) in
-      let state = here .standing .state in
-      call-room t accepted a state (at .thread) (at .slot) shown-here (here .low) stands (at .next) (stands-at state shown-here) q arguments
-      (getD first q 0) (getD handle q 0) (getD handle (q + 1) 0) (u .first-is) (u .from-is) (u .end-is) (is state shown-here (Call q arguments) e)
+      call-room t accepted a (here .standing .state) (at .thread) (at .slot) shown-here (here .low) stands q arguments (is (here .standing .state) shown-here (Call q arguments) e)
 
   -- ---- what the operations leave
 

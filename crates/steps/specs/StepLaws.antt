@@ -195,7 +195,13 @@ module _ (t : Table) (accepted : Accepted t) (a : Arrays) (state : State) (n slo
       })
       c l
 
-  -- ---- the engine's own limits
+  -- "32 frames always suffice": before a CALL there is a slot for one more
+  pub call-room : (q : ℕ) (arguments : Arguments) → statement t (p .f .next) ≡ Call q arguments → getD (a .counts) n 0 < frameSlots
+  call-room q arguments e =
+      let call : CallNext t (thread state n .frames) = subst (CallNext t) (sym (p .is)) (q, ap (λ (σ : Statement). calls (view σ)) e, tt) in
+      omega (arith, p .count-is, ap length (p .is), call-has-room accepted state (whole .bounded) n call)
+
+  -- ---- the engine's own limit
 
   limited : (σ : Statement) (number : ℕ) → statement t (p .f .next) ≡ σ → limit (length (state .threads)) σ ≡ number → eqb number 0 ≡ false
       → engineStep t state n ≡ refused number
@@ -472,17 +478,6 @@ module _ (t : Table) (accepted : Accepted t) (a : Arrays) (state : State) (n slo
 
       -- ---- CALL
 
-      -- "32 frames always suffice": there is a slot for the new one
-      pub call-room : statement t (p .f .next) ≡ Call q arguments → getD (a .counts) n 0 < frameSlots
-      call-room e =
-          omega (
-            arith,
-            p .count-is,
-            ap length (p .is),
-            call-has-room accepted state (whole .bounded) n
-                (subst (CallNext t) (sym (p .is)) (q, ap (λ (σ : Statement). calls (view σ)) e, tt)),
-          )
-
       pub call-step : (values : List ℕ) → statement t (p .f .next) ≡ Call q arguments → Entered t (a .values) values (slot + 1) slot from end arguments
           → Stepped t
           (arrays (a .started) (set (set (a .nexts) (slot + 1) first) slot (next + 1)) values (set (a .counts) n (getD (a .counts) n 0 + 1)) (a .accumulators) (a .owners) (a .cells))
@@ -527,7 +522,7 @@ module _ (t : Table) (accepted : Accepted t) (a : Arrays) (state : State) (n slo
           (s .cells-are) (s .locks-are)))
         where
           w : getD (a .counts) n 0 < frameSlots
-          w = call-room e
+          w = call-room q arguments e
 
           nexts′ : List ℕ
           nexts′ = set going-on (slot + 1) first
