@@ -66,14 +66,15 @@ startOf-below t h = go (eqb (declaration t h .origin) 1)
     go true = one-below (declaration t h .start)
     go false = omega arith
 
-module _ (t : Table) (k : Layout) (acc : Accepted t) (fits : Fits t k) where
-  starts-sets : SetList (k .handles) (flowInitials t k)
-  unfolding flowInitials
-  starts-sets = tabulate-sets (k .handles) (λ p. startOf t (k .handleAt p)) (λ p. startOf-below t (k .handleAt p))
+-- what flow begins with is a list of sets, whatever the table
+pub initials-sets : (t : Table) (k : Layout) → SetList (k .handles) (flowInitials t k)
+unfolding flowInitials
+initials-sets t k = tabulate-sets (k .handles) (λ p. startOf t (k .handleAt p)) (λ p. startOf-below t (k .handleAt p))
 
+module _ (t : Table) (k : Layout) (acc : Accepted t) (fits : Fits t k) where
   pub flow-sets : SetList (k .handles) (flowSets t k)
   unfolding flowSets
-  flow-sets = least-sets (k .handles) (allFlowEdges t k) (flowInitials t k) starts-sets
+  flow-sets = least-sets (k .handles) (allFlowEdges t k) (flowInitials t k) (initials-sets t k)
 
   -- ---- the edges of a statement
 
@@ -96,7 +97,7 @@ module _ (t : Table) (k : Layout) (acc : Accepted t) (fits : Fits t k) where
         → has (getD (flowSets t k) (e .from) 0) x ≡ true → has (getD (flowSets t k) (e .also) 0) x ≡ true → has (getD (flowSets t k) (e .to) 0) x ≡ true
     unfolding flowSets allFlowEdges
     carries e m l x h b =
-        least-edge (k .handles) (allFlowEdges t k) (flowInitials t k) starts-sets e
+        least-edge (k .handles) (allFlowEdges t k) (flowInitials t k) (initials-sets t k) e
         (among-all t k fits (λ p d z τ. flowEdges t k d z τ) e c s w (statement t s) refl m) l x h b
 
     parameter-placed : (q j : ℕ) → Names (statement t s) q → j < routine t q .parameters → HandlePlaced k (k .leads c s) (routine t q .handle + j)
@@ -127,7 +128,7 @@ module _ (t : Table) (k : Layout) (acc : Accepted t) (fits : Fits t k) where
   starts : (p : ℕ) → p < k .handles → (x : ℕ) → has (startOf t (k .handleAt p)) x ≡ true → has (getD (flowSets t k) p 0) x ≡ true
   unfolding flowSets flowInitials
   starts p l x h =
-      least-holds-start (k .handles) (allFlowEdges t k) (flowInitials t k) starts-sets .at p x (tabulate-has (k .handles) (λ p. startOf t (k .handleAt p)) p x l h)
+      least-holds-start (k .handles) (allFlowEdges t k) (flowInitials t k) (initials-sets t k) .at p x (tabulate-has (k .handles) (λ p. startOf t (k .handleAt p)) p x l h)
 
   pub flow-rules : FlowRules (copiesOf fits) (FlowHas k (flowSets t k))
   flow-rules = record {
@@ -193,7 +194,7 @@ module _ (t : Table) (k : Layout) (acc : Accepted t) (fits : Fits t k) where
     everywhere : (p x : ℕ) → has (getD (flowSets t k) p 0) x ≡ true → At p x
     unfolding flowSets allFlowEdges flowInitials
     everywhere =
-        least-induction (k .handles) (allFlowEdges t k) (flowInitials t k) starts-sets At
+        least-induction (k .handles) (allFlowEdges t k) (flowInitials t k) (initials-sets t k) At
         (λ e m l x a b.
         let r : (p : ℕ) × (p < k .statements) × List·Memᴰ e (flowEdges t k (k .statementCopy p) (k .statementAt p) (statement t (k .statementAt p))) =
         of-some t k fits (λ p d z τ. flowEdges t k d z τ) e m in

@@ -5,6 +5,7 @@ pub mod Greatest
 pub mod Layout
 pub mod Operations
 pub mod Flow
+pub mod FlowPasses
 pub mod Effect
 pub mod Held
 pub mod Future
@@ -20,6 +21,7 @@ pub mod OneEach
 pub mod NextLaws
 pub mod PlaceLaws
 pub mod FlowLaws
+pub mod FlowPassesLaws
 pub mod EffectLaws
 pub mod HeldLaws
 pub mod FutureLaws

@@ -1,10 +1,10 @@
 -- What lists, sets and counts over a range of numbers have in them. Assumes nothing.
 use Prim.Native.Nat.{ℕ, zero, suc, _+_, _^_, _≤_, _<_}
-use mathlib.Core.Path.{_≡_, refl, sym, ap, _∙_, subst}
+use mathlib.Core.Path.{_≡_, refl, sym, ap, ap₂, _∙_, subst}
 use mathlib.Core.Bool.{Bool, true, false, _&&_}
 use mathlib.Core.Logic.{_⊎_, inl, inr}
 use mathlib.Core.List.{List, [], _∷_, _++_, List·Memᴰ, List·Memᴰ·head, List·Memᴰ·tail, Memᴰ·append-left, Memᴰ·append-right, List·Memᴰ·append-cases, append-nil, append-assoc}
-use native.Mathlib.Nat.{add-zero, zero-add, le-refl}
+use native.Mathlib.Nat.{add-zero, zero-add, suc-add, le-refl}
 use native.Mathlib.Numerals.{add-one}
 use native.Mathlib.Omega.{arith}
 use lib.Dec.{eqb, ltb}
@@ -87,6 +87,18 @@ module _ {A : Type 0} where
   joined-last from (suc n) f =
       ap {B = List A} (λ r. f from ++ r) (joined-last (from + 1) n f ∙ ap {B = List A} (λ (j : ℕ). joinedFrom (from + 1) n f ++ f j) (next from n))
       ∙ sym (append-assoc (f from) (joinedFrom (from + 1) n f) (f (from + suc n)))
+    where
+      next : (a b : ℕ) → a + 1 + b ≡ a + suc b
+      next a b = omega arith
+
+  -- a range in two parts
+  pub joined-split : (from n m : ℕ) (f : ℕ → List A) → joinedFrom from (n + m) f ≡ joinedFrom from n f ++ joinedFrom (from + n) m f
+  unfolding joinedFrom
+  joined-split from zero m f = ap₂ {C = List A} (λ (i j : ℕ). joinedFrom i j f) (sym (add-zero from)) (zero-add m)
+  joined-split from (suc n) m f =
+      ap {B = List A} (λ (j : ℕ). joinedFrom from j f) (suc-add n m)
+      ∙ ap {B = List A} (λ r. f from ++ r) (joined-split (from + 1) n m f ∙ ap {B = List A} (λ (j : ℕ). joinedFrom (from + 1) n f ++ joinedFrom j m f) (next from n))
+      ∙ sym (append-assoc (f from) (joinedFrom (from + 1) n f) (joinedFrom (from + suc n) m f))
     where
       next : (a b : ℕ) → a + 1 + b ≡ a + suc b
       next a b = omega arith

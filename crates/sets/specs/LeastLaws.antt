@@ -40,10 +40,10 @@ number-edge (n ∷ ends) (a ∷ also) zero h = List·Memᴰ·head refl
 number-edge (n ∷ ends) [] (suc k) h = List·Memᴰ·tail (number-edge ends [] k (le-of-suc-le-suc h))
 number-edge (n ∷ ends) (a ∷ also) (suc k) h = List·Memᴰ·tail (number-edge ends also k (le-of-suc-le-suc h))
 
-tail-closed : {e : Edge} {es : List Edge} {s : List ℕ} → Closed (e ∷ es) s → Closed es s
+pub tail-closed : {e : Edge} {es : List Edge} {s : List ℕ} → Closed (e ∷ es) s → Closed es s
 tail-closed c = record { edge = λ d m. c .edge d (List·Memᴰ·tail m) }
 
-both-closed : {e : Edge} {es : List Edge} {s : List ℕ} → Held s e → Closed es s → Closed (e ∷ es) s
+pub both-closed : {e : Edge} {es : List Edge} {s : List ℕ} → Held s e → Closed es s → Closed (e ∷ es) s
 both-closed {e} {es} {s} h c = record { edge = go }
   where
     go : (d : Edge) → List·Memᴰ d (e ∷ es) → Held s d
@@ -72,7 +72,7 @@ module _ (e : Edge) (s : List ℕ) where
   along-grows = put-grows (e .to) both s
 
   -- an element that is there afterwards was there, or came along the edge
-  along-cases {ℓ} : {C : Type ℓ} (i x : ℕ) → (has (getD s i 0) x ≡ true → C)
+  pub along-cases {ℓ} : {C : Type ℓ} (i x : ℕ) → (has (getD s i 0) x ≡ true → C)
       → (i ≡ e .to → e .to < length s → has (getD s (e .from) 0) x ≡ true → has (getD s (e .also) 0) x ≡ true → C)
       → has (getD (along e s) i 0) x ≡ true → C
   unfolding along
@@ -83,7 +83,7 @@ module _ (e : Edge) (s : List ℕ) where
   along-sets n h = put-sets (e .to) both s n (inter-below 64 _ (h .below (e .from))) h
 
   -- an edge that has nothing to put changes nothing, and the other way round
-  held-still : Held s e → along e s ≡ s
+  pub held-still : Held s e → along e s ≡ s
   unfolding along
   held-still h = put-still (e .to) both s (λ l x b. h .carried l x (inter-left _ _ x b) (inter-right _ _ x b))
 
@@ -97,7 +97,7 @@ module _ (e : Edge) (s : List ℕ) where
   along-inside r l h a =
       put-inside (e .to) both s r l (λ m x b. h .carried m x (a .at (e .from) x (inter-left _ _ x b)) (a .at (e .also) x (inter-right _ _ x b))) a
 
-along-monotone : (e : Edge) (s r : List ℕ) → length s ≡ length r → Inside s r → Inside (along e s) (along e r)
+pub along-monotone : (e : Edge) (s r : List ℕ) → length s ≡ length r → Inside s r → Inside (along e s) (along e r)
 unfolding along
 along-monotone e s r l a =
     put-monotone (e .to) (both e s) (both e r) s r l

@@ -13,11 +13,11 @@ use Rattle.sets.specs.InsideLaws.{inside-refl, inside-trans, inside-equa
 
 -- ---- one step, by the test
 
-stops : (pass : List ℕ → List ℕ) (n : ℕ) (s : List ℕ) → same (pass s) s ≡ true → settle pass (suc n) s ≡ s
+pub stops : (pass : List ℕ → List ℕ) (n : ℕ) (s : List ℕ) → same (pass s) s ≡ true → settle pass (suc n) s ≡ s
 unfolding settle
 stops pass n s e = rw (settle, e)
 
-goes : (pass : List ℕ → List ℕ) (n : ℕ) (s : List ℕ) → same (pass s) s ≡ false → settle pass (suc n) s ≡ settle pass n (pass s)
+pub goes : (pass : List ℕ → List ℕ) (n : ℕ) (s : List ℕ) → same (pass s) s ≡ false → settle pass (suc n) s ≡ settle pass n (pass s)
 unfolding settle
 goes pass n s e = rw (settle, e)
 

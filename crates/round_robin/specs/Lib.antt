@@ -1,0 +1,4 @@
+pub mod RoundRobin
+pub mod PassLaws
+pub mod CountLaws
+pub mod OrderLaws
