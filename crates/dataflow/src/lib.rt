@@ -1,4 +1,5 @@
-// Flow, effects and given-up locks of an accepted table, each the least sets along the edges of its equation, by the one solver.
+// Flow, effects and given-up locks of an accepted table, each the least sets along the edges of its equation: flow by passes over the statements from the
+// highest number down, the others by the solver.
 // `first`, `handle` and `counts` are the lists of declarations::first_statements, first_handles and parameter_counts. `edges` lends the room for the edges,
 // four a statement; what stands in it before does not matter, and what is left in it says nothing.
 ghost use mathlib.Core.Path.{_≡_};
@@ -14,16 +15,32 @@ ghost use Rattle.table.specs.Extents.{firstStatements, firstHandles, parameterC
 ghost use Rattle.table.specs.Accepted.{Accepted};
 ghost use Rattle.report.specs.Layout.{oneEach};
 ghost use Rattle.report.specs.Flow.{flowSets};
+ghost use Rattle.report.specs.FlowPasses.{flowPasses, HelpersFirst};
 ghost use Rattle.report.specs.Effect.{effects, gives};
 ghost use Rattle.edges.specs.Equations.{inRoutine};
 use solver::Order;
 
-// Makes the sets the least ones along the first `n` edges.
-fn settle(out: &mut [u64], edges: &[u32], n: usize, order: Order)
-    requires { ⌜ n ≤ length (now edges) ⌝ }
-    ensures { λ _. ⌜ now (out .exit) ≡ least (map edgeOf (take n (now (edges .entry)))) (now (out .entry)) ⌝ }
+// Leaves in `flow` the flow set of each handle, by passes over the statements from the highest number down until one changes nothing. Returns how many
+// passes were made, that one among them: at most three where helpers stand before the routines that use them.
+pub fn flow_passes(
+    numbers: &[i32],
+    handle: &[usize],
+    counts: &[usize],
+    edges: &mut [u32],
+    flow: &mut [u64],
+) -> usize
+    requires { ⌜ Accepted (tableOf (now numbers)) ⌝ }
+    requires { ⌜ now handle ≡ firstHandles (now numbers) ⌝ }
+    requires { ⌜ now counts ≡ parameterCounts (now numbers) ⌝ }
+    requires { ⌜ 4 * statements (now numbers) ≤ length (now edges) ⌝ }
+    requires { ⌜ length (now flow) ≡ handles (now numbers) ⌝ }
+    ensures sets { λ _. ⌜ now (flow .exit) ≡ flowSets (tableOf (now (numbers .entry))) (oneEach (tableOf (now (numbers .entry)))) ⌝ }
+    ensures made { λ r. ⌜ r ≡ flowPasses (tableOf (now (numbers .entry))) (oneEach (tableOf (now (numbers .entry)))) ⌝ }
+    ensures few { λ r. ⌜ (HelpersFirst (tableOf (now (numbers .entry))) → r ≤ 3) ⌝ }
 {
-    solver::solve_plain(out, &edges[..n], order);
+    let n = edges::fill_flow(numbers, handle, counts, edges);
+    initial::fill_flow(numbers, flow);
+    round_robin::solve(flow, &edges[..n])
 }
 
 // Leaves in `flow` the flow set of each handle.
@@ -41,9 +58,7 @@ pub fn flow_sets(
     requires { ⌜ length (now flow) ≡ handles (now numbers) ⌝ }
     ensures { λ _. ⌜ now (flow .exit) ≡ flowSets (tableOf (now (numbers .entry))) (oneEach (tableOf (now (numbers .entry)))) ⌝ }
 {
-    let n = edges::fill_flow(numbers, handle, counts, edges);
-    initial::fill_flow(numbers, flow);
-    settle(flow, edges, n, Order::FirstToLast);
+    let _made = flow_passes(numbers, handle, counts, edges, flow);
 }
 
 // Leaves in `out` the least sets along the first `n` edges, from what the statements of each routine give up, write or read themselves.
@@ -64,7 +79,7 @@ fn own_sets(
     ensures { λ _. ⌜ now (out .exit) ≡ least (map edgeOf (take n (now (edges .entry)))) (tabulate (length (now (out .entry))) (inRoutine locks writes (now (flow .entry)) (tableOf (now (numbers .entry))))) ⌝ }
 {
     initial::fill_own(numbers, first, flow, locks, writes, out);
-    settle(out, edges, n, Order::LastToFirst);
+    solver::solve_plain(out, &edges[..n], Order::LastToFirst);
 }
 
 // Leaves in `reads` and `writes` the cells that each routine reads and writes, with those of all it CALLs or STARTs.

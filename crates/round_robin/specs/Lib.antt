@@ -2,3 +2,4 @@ pub mod RoundRobin
 pub mod PassLaws
 pub mod CountLaws
 pub mod OrderLaws
+pub mod SolveLaws
