@@ -28,9 +28,10 @@ edge-there [] k h = absurd (omega arith)
 edge-there (n ∷ edges) zero h = List·Memᴰ·head refl
 edge-there (n ∷ edges) (suc k) h = List·Memᴰ·tail (edge-there edges k (le-of-suc-le-suc h))
 
-pub ends-there : {n : ℕ} (edges : List ℕ) (k : ℕ) → Among n (map edgeOf edges) → k < length edges
-    → (edgeOf (getD edges k 0) .from < n) × (edgeOf (getD edges k 0) .to < n)
-ends-there edges k a h = (a .from _ (edge-there edges k h), a .to _ (edge-there edges k h))
+-- so its ends are in the list, however that was changed
+pub ends-in : {n m : ℕ} → m ≡ n → (edges : List ℕ) (k : ℕ) → Among n (map edgeOf edges) → k < length edges
+    → (edgeOf (getD edges k 0) .from < m) × (edgeOf (getD edges k 0) .to < m)
+ends-in e edges k a h = rw e (a .from _ (edge-there edges k h), a .to _ (edge-there edges k h))
 
 module _ (f t : ℕ) (s : List ℕ) (b : Bool) where
   pub put-nothing : bitOr (getD s t 0) (getD s f 0) ≡ getD s t 0 → Put (plain f t) s s b b
@@ -54,6 +55,9 @@ module _ (f t : ℕ) (s : List ℕ) (b : Bool) where
             (room-less k (along-sets (plain f t) s (length s) k) (along-grows (plain f t) s)
             (λ p. d (sym (getD-set-same s t _ 0 l) ∙ ap (λ (r : List ℕ). getD r t 0) (new ∙ sym p)))));
       }
+
+pub put-places : {e : Edge} {s s′ : List ℕ} {b b′ : Bool} → Put e s s′ b b′ → length s′ ≡ length s
+put-places {e} {s} h = ap length (h .becomes) ∙ along-length e s
 
 -- ---- a pass
 
@@ -81,7 +85,7 @@ module _ (edges s₀ : List ℕ) where
   unfolding passDown
   passed-next {s} {s′} {before} {after} k p q =
       let e : Edge = edgeOf (getD edges k 0) in
-      let len : length s′ ≡ length s = ap length (q .becomes) ∙ along-length e s in
+      let len : length s′ ≡ length s = put-places q in
       let less : room s′ ≤ room s = room-le s s′ (sym len) (subst (Inside s) (sym (q .becomes)) (along-grows e s)) in
       let less₀ : room s ≤ room s₀ = room-le s₀ s (sym (p .places)) (subst (Inside s₀) (sym (p .is)) (down-grows (map edgeOf (drop (suc k) edges)) s₀)) in
       record {
@@ -97,8 +101,14 @@ module _ (edges s₀ : List ℕ) where
       → PassedTo edges s₀ s′ after (k - 1)
   passed-down {s} {s′} {before} {after} {k} h p q = let e : k ≡ suc (k - 1) = omega arith in passed-next (k - 1) (subst (PassedTo edges s₀ s before) e p) q
 
+  pub passed-down-two : {s s′ s″ : List ℕ} {a b c : Bool} {k : ℕ} → 1 < k → PassedTo edges s₀ s a k → Put (edgeOf (getD edges (k - 1) 0)) s s′ a b
+      → Put (edgeOf (getD edges (k - 2) 0)) s′ s″ b c → PassedTo edges s₀ s″ c (k - 2)
+  passed-down-two {s} {s′} {s″} {a} {b} {c} {k} h p q r =
+      let e : k - 1 - 1 ≡ k - 2 = omega arith in
+      subst (PassedTo edges s₀ s″ c) e (passed-down (omega arith) (passed-down (omega arith) p q) (subst (λ (i : ℕ). Put (edgeOf (getD edges i 0)) s′ s″ b c) (sym e) r))
+
   -- whether anything changed
-  pub passed-changed : {s : List ℕ} (b : Bool) → (b ≡ false → s ≡ s₀) → (b ≡ true → room s < room s₀) → b ≡ not (same s s₀)
+  passed-changed : {s : List ℕ} (b : Bool) → (b ≡ false → s ≡ s₀) → (b ≡ true → room s < room s₀) → b ≡ not (same s s₀)
   passed-changed {s} false still moved = ap not (sym (ap (λ (r : List ℕ). same r s₀) (still refl) ∙ same-refl s₀))
   passed-changed {s} true still moved = go (same s s₀) refl
     where
