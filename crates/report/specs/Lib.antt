@@ -14,6 +14,7 @@ pub mod Counts
 pub mod Report
 pub mod Cases
 pub mod Notebook
+pub mod PassCases
 pub mod Fits
 pub mod OverLaws
 pub mod GreatestLaws

@@ -27,13 +27,13 @@ pass-requires c κs = rw (c .before .before .loop .inv .sets .places) (c .before
 add-made : tie.Need-add-made Inv-loop μ-loop
 add-made c = let b = made-below _ _ (going (c .before .before .before .before .loop-test .taken) (c .before .before .before .before .before .loop .inv)) in search needs
 
+loop-again : tie.Need-loop-again Inv-loop μ-loop
+loop-again c = made-next _ _ (going (c .before .before .before .before .loop-test .taken) (c .before .before .before .before .before .loop .inv)) (c .before .before .pass .ensures .0) (c .before .before .pass .ensures .1)
+
 loop-less : tie.Need-loop-less Inv-loop μ-loop
 loop-less c =
     subst (λ (b : Bool). left (c .before .before .pass .last .0) (c .before .before .pass .result) < left (c .before .before .before .before .before .loop .sets) b) (sym (c .before .before .before .before .loop-test .taken))
     (made-less _ _ (going (c .before .before .before .before .loop-test .taken) (c .before .before .before .before .before .loop .inv)) (c .before .before .pass .ensures .0) (c .before .before .pass .ensures .1))
-
-loop-again : tie.Need-loop-again Inv-loop μ-loop
-loop-again c = made-next _ _ (going (c .before .before .before .before .loop-test .taken) (c .before .before .before .before .before .loop .inv)) (c .before .before .pass .ensures .0) (c .before .before .pass .ensures .1)
 
 same-length : tie.Need-same-length Inv-loop μ-loop
 same-length c = search needs
