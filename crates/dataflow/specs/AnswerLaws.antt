@@ -1,5 +1,6 @@
 -- The report's sets solve the equations: their edges and the sets that they begin with are those of the report's definitions. Assumes nothing.
-use Prim.Native.Nat.{ℕ, _*_, _≤_}
+use Prim.Native.Nat.{ℕ, _*_, _≤_, max}
+use native.Mathlib.Omega.{arith}
 use mathlib.Core.Path.{_≡_, refl, sym, ap, ap₂, _∙_, subst}
 use mathlib.Core.Bool.{Bool, true, false}
 use mathlib.Core.List.{List, map}
@@ -21,7 +22,7 @@ use Rattle.report.specs.Operations.{accessed, given}
 use Rattle.report.specs.Flow.{startOf, passing, flowEdges, allFlowEdges, flowInitials, flowSets}
 use Rattle.report.specs.FlowLaws.{initials-sets}
 use Rattle.report.specs.FlowPasses.{flowPasses, HelpersFirst}
-use Rattle.report.specs.FlowPassesLaws.{flow-among, passes-by-edges, three-passes-at-most}
+use Rattle.report.specs.FlowPassesLaws.{flow-among, passes-by-edges, passes-at-most-handles, three-passes-at-most}
 use Rattle.report.specs.Effect.{overCopy, upFrom, namingEdges, callEdges as upCallEdges, effects, gives}
 use Rattle.edges.specs.Equations.{Equation, Flow, Effects, Gives, upEdges, edgesAt, edgesFor, ownSet, inRoutine}
 use Rattle.edges.specs.EdgeLaws.{joined-same, Appended}
@@ -114,10 +115,11 @@ module _ (f : List ℤ) (acc : Accepted (tableOf f)) {edges edges′ : List ℕ}
         ∙ ap₂ (λ (es : List Edge) (s : List ℕ). settled (passDown es) s) all-flow initials
         ∙ settled-down (oneEach (t f) .handles) (allFlowEdges (t f) (oneEach (t f))) (flowInitials (t f) (oneEach (t f))) (initials-sets (t f) (oneEach (t f)))
 
-    -- how many are made, and that they are few where helpers come first
+    -- how many are made: no more than handles, and few where helpers come first
     pub made-answer : {r : ℕ} → r ≡ passesMade (passDown (map edgeOf (take count edges′))) flow
-        → (r ≡ flowPasses (t f) (oneEach (t f))) × (HelpersFirst (t f) → r ≤ 3)
+        → (r ≡ flowPasses (t f) (oneEach (t f))) × ((r ≤ max 1 (handles f)) × (HelpersFirst (t f) → r ≤ 3))
+    unfolding oneEach
     made-answer {r} p =
         let q : r ≡ flowPasses (t f) (oneEach (t f)) =
         p ∙ ap₂ (λ (es : List Edge) (s : List ℕ). passesMade (passDown es) s) all-flow initials ∙ sym (passes-by-edges (t f) (oneEach (t f))) in
-        (q, λ shape. subst (λ (k : ℕ). k ≤ 3) (sym q) (three-passes-at-most (t f) acc shape))
+        (q, (omega (arith, q, passes-at-most-handles (t f) (oneEach (t f)), handles-length f), λ shape. subst (λ (k : ℕ). k ≤ 3) (sym q) (three-passes-at-most (t f) acc shape)))

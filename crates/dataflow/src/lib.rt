@@ -5,7 +5,7 @@
 ghost use mathlib.Core.Path.{_≡_};
 ghost use mathlib.Core.Bool.{true, false};
 ghost use mathlib.Core.List.{map};
-ghost use Prim.Native.Nat.{_*_, _≤_};
+ghost use Prim.Native.Nat.{_*_, _≤_, max};
 ghost use lib.ListN.{length, take};
 ghost use Rattle.sets.specs.Least.{edgeOf, least};
 ghost use Rattle.table.specs.Header.{handles, routines, statements};
@@ -21,7 +21,7 @@ ghost use Rattle.edges.specs.Equations.{inRoutine};
 use solver::Order;
 
 // Leaves in `flow` the flow set of each handle, by passes over the statements from the highest number down until one changes nothing. Returns how many
-// passes were made, that one among them: at most three where helpers stand before the routines that use them.
+// passes were made, that one among them: no more than there are handles, or one; at most three where helpers stand before the routines that use them.
 pub fn flow_passes(
     numbers: &[i32],
     handle: &[usize],
@@ -36,6 +36,7 @@ pub fn flow_passes(
     requires { ⌜ length (now flow) ≡ handles (now numbers) ⌝ }
     ensures sets { λ _. ⌜ now (flow .exit) ≡ flowSets (tableOf (now (numbers .entry))) (oneEach (tableOf (now (numbers .entry)))) ⌝ }
     ensures made { λ r. ⌜ r ≡ flowPasses (tableOf (now (numbers .entry))) (oneEach (tableOf (now (numbers .entry)))) ⌝ }
+    ensures most { λ r. ⌜ r ≤ max 1 (handles (now (numbers .entry))) ⌝ }
     ensures few { λ r. ⌜ (HelpersFirst (tableOf (now (numbers .entry))) → r ≤ 3) ⌝ }
 {
     let n = edges::fill_flow(numbers, handle, counts, edges);
