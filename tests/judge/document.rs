@@ -268,6 +268,9 @@ pub struct Findings {
     pub stray: Vec<usize>,
     /// Some READ or WRITE has more than one cell in its handle's set.
     pub several: bool,
+    /// C-12: how many passes flow took, and whether the table is one for which two settle the sets.
+    pub passes: usize,
+    pub helpers_first: bool,
 }
 
 impl Findings {
@@ -290,6 +293,41 @@ fn until_still<T: PartialEq + Clone>(mut value: T, change: impl Fn(&mut T)) -> T
     }
 }
 
+/// What one statement puts into what.
+fn put(t: &Table, s: usize, flow: &mut [Set]) {
+    match t.statements[s] {
+        Op::Point(h, g) => flow[h] |= flow[g],
+        Op::Call(q, a) | Op::Start(q, a) => {
+            for k in 0..t.routines[q].parameters {
+                flow[t.routines[q].handles[k]] |= flow[a[k]];
+            }
+        }
+        _ => {}
+    }
+}
+
+/// C-12: "pass over the statements from the highest number down until a pass changes nothing"; the sets, and how many passes that took.
+fn flow_by_passes(t: &Table, begin: &[Set]) -> (Vec<Set>, usize) {
+    let (mut flow, mut passes) = (begin.to_vec(), 0);
+    loop {
+        let before = flow.clone();
+        (0..t.statements.len()).rev().for_each(|s| put(t, s, &mut flow));
+        passes += 1;
+        if flow == before {
+            return (flow, passes);
+        }
+    }
+}
+
+/// C-12: "a table has no POINT and each CALL or START outside routine 0 names a lower routine".
+fn helpers_first(t: &Table) -> bool {
+    (0..t.statements.len()).all(|s| match t.statements[s] {
+        Op::Point(..) => false,
+        Op::Call(q, _) | Op::Start(q, _) => t.owner[s] == 0 || q < t.owner[s],
+        _ => true,
+    })
+}
+
 /// C-20: the counts of line 51 in one walk over the statements, adding to each cell in the handle's set; reads and writes.
 fn walked(t: &Table, flow: &[Set]) -> [Vec<usize>; 2] {
     let mut counts = [vec![0; t.cells], vec![0; t.cells]];
@@ -307,19 +345,12 @@ fn walked(t: &Table, flow: &[Set]) -> [Vec<usize>; 2] {
 pub fn findings(t: &Table) -> Findings {
     let n = t.statements.len();
     let all: Set = (1 << t.locks) - 1;
-    let flow = until_still(t.handles.iter().map(|h| if h.parameter { 0 } else { 1u64 << h.start }).collect::<Vec<Set>>(), |flow| {
-        for op in &t.statements {
-            match *op {
-                Op::Point(h, g) => flow[h] |= flow[g],
-                Op::Call(q, a) | Op::Start(q, a) => {
-                    for k in 0..t.routines[q].parameters {
-                        flow[t.routines[q].handles[k]] |= flow[a[k]];
-                    }
-                }
-                _ => {}
-            }
-        }
-    });
+    let begin: Vec<Set> = t.handles.iter().map(|h| if h.parameter { 0 } else { 1u64 << h.start }).collect();
+    let (flow, passes) = flow_by_passes(t, &begin);
+    let upwards = until_still(begin, |flow| (0..n).for_each(|s| put(t, s, flow)));
+    assert_eq!(flow, upwards, "C-12: the sets are the same from the lowest number up");
+    let helpers_first = helpers_first(t);
+    assert!(passes <= if helpers_first { 3 } else { t.handles.len().max(1) }, "C-12: {passes} passes");
     // Reads and writes of a routine, and the locks that it may give up.
     let effect = until_still(vec![[0 as Set; 2]; t.routines.len()], |effect| {
         for s in 0..n {
@@ -389,7 +420,7 @@ pub fn findings(t: &Table) -> Findings {
         *held = new;
     });
     let several = t.statements.iter().any(|op| matches!(*op, Op::Read(h) | Op::Write(h) if flow[h].count_ones() > 1));
-    let mut found = Findings { reads: vec![], writes: vec![], shared: vec![], common: vec![], stray: vec![], several };
+    let mut found = Findings { reads: vec![], writes: vec![], shared: vec![], common: vec![], stray: vec![], several, passes, helpers_first };
     for x in 0..t.cells {
         let has = |set: Set| set >> x & 1 == 1;
         let accesses = |write: bool| {

@@ -51,8 +51,44 @@ fn written(cells: usize, locks: usize, own: &[Own], bodies: &[Vec<Vec<i64>>]) ->
     out
 }
 
+/// The same table with routine 0 first and the others the other way round: then each CALL or START outside routine 0 names a lower routine.
+fn turned(own: &[Own], bodies: &[Vec<Vec<i64>>]) -> (Vec<Own>, Vec<Vec<Vec<i64>>>) {
+    let count = own.len();
+    let order: Vec<usize> = (0..count).map(|q| (count - q) % count).collect();
+    // The new number of each thing of routine q, by its old one.
+    let moved = |lengths: &dyn Fn(usize) -> usize| -> Vec<i64> {
+        let first = |q: usize| order.iter().take_while(|&&p| p != q).map(|&p| lengths(p)).sum::<usize>();
+        (0..count).flat_map(|q| (0..lengths(q)).map(move |k| (q, k))).map(|(q, k)| (first(q) + k) as i64).collect()
+    };
+    let handles = moved(&|q| own[q].len());
+    let statements = moved(&|q| bodies[q].len());
+    let change = |l: &Vec<i64>| -> Vec<i64> {
+        match l[0] {
+            1 | 2 | 5 | 6 | 7 => l[..1].iter().copied().chain(l[1..].iter().map(|&h| handles[h as usize])).collect(),
+            8 | 9 => [l[0], (count as i64 - l[1]) % count as i64].into_iter().chain(l[2..].iter().map(|&h| handles[h as usize])).collect(),
+            10 | 11 => vec![l[0], statements[l[1] as usize]],
+            _ => l.clone(),
+        }
+    };
+    (order.iter().map(|&q| own[q].clone()).collect(), order.iter().map(|&q| bodies[q].iter().map(change).collect()).collect())
+}
+
 /// A table text that keeps the rules: routines name higher ones only.
 pub fn table(r: &mut Random, largest: bool) -> Vec<u8> {
+    let (cells, locks, own, bodies) = parts(r, largest);
+    written(cells, locks, &own, &bodies)
+}
+
+/// A table text without POINT in which routines other than 0 name lower ones only.
+pub fn helpers_first(r: &mut Random, largest: bool) -> Vec<u8> {
+    let (cells, locks, own, mut bodies) = parts(r, largest);
+    bodies.iter_mut().flatten().filter(|l| l[0] == 7).for_each(|l| *l = vec![3, 0]);
+    let (own, bodies) = turned(&own, &bodies);
+    written(cells, locks, &own, &bodies)
+}
+
+/// The cells, the locks, and the handles and statements of each routine.
+fn parts(r: &mut Random, largest: bool) -> (usize, usize, Vec<Own>, Vec<Vec<Vec<i64>>>) {
     let routines = if largest { 1 + r.below(32) } else { 1 + r.below(5) };
     let cells = if largest { 1 + r.below(64) } else { 1 + r.below(3) };
     let locks = if largest { r.below(17) } else { r.below(3) };
@@ -115,7 +151,7 @@ pub fn table(r: &mut Random, largest: bool) -> Vec<u8> {
             }
         }
     }
-    written(cells, locks, &own, &bodies)
+    (cells, locks, own, bodies)
 }
 
 /// A block: READ or WRITE of a cell, mostly between TAKE and GIVE of its lock; handles 0 and 1 of the routine are cells, 2 and 3 their locks.

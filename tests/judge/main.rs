@@ -104,10 +104,12 @@ fn compare_run(r: &mut Random, text: &[u8], schedule: &[u8], want: &Result<Table
 fn compare(seed: u64, texts: usize) {
     let mut r = Random(seed * 2 + 88172645463325252);
     let (mut reports, mut steps, mut ends, mut deepest, mut loads, mut several) = ([0; 14], [0; 19], [0; 2], 0, 0, 0);
+    let (mut settled, mut most) = (0, 0);
     for i in 0..texts {
         let (mut text, schedule) = match i % 100 {
             99 => (generate::sums(&mut r), generate::long_schedule(&mut r)),
             49 => (generate::chain(&mut r), generate::deep_schedule(&mut r)),
+            24 | 74 => (generate::helpers_first(&mut r, i % 100 == 74), generate::schedule(&mut r)),
             _ => (generate::table(&mut r, i % 50 == 0), generate::schedule(&mut r)),
         };
         if r.one_in(3) {
@@ -122,9 +124,11 @@ fn compare(seed: u64, texts: usize) {
         let found = want.as_ref().ok().map(findings);
         assert_eq!(may, found.as_ref().map_or(false, |f| f.clean()), "the loader's question on\n{}", String::from_utf8_lossy(&text));
         loads += may as usize;
-        several += found.map_or(false, |f| f.several) as usize;
+        several += found.as_ref().map_or(false, |f| f.several) as usize;
+        settled += found.as_ref().map_or(false, |f| f.helpers_first && f.passes == 3) as usize;
+        most = found.map_or(0, |f| f.passes).max(most);
     }
-    println!("{texts} texts, seed {seed}: refusals 0 to 13 met {reports:?}; answers to steps 0 and 14 to 18 met {} {:?}; cells left at -2147483648 and at 2147483647 {ends:?}; at most {deepest} frames open; {several} with an access of several cells; {loads} may be loaded", steps[0], &steps[14..]);
+    println!("{texts} texts, seed {seed}: refusals 0 to 13 met {reports:?}; answers to steps 0 and 14 to 18 met {} {:?}; cells left at -2147483648 and at 2147483647 {ends:?}; at most {deepest} frames open; {several} with an access of several cells; {settled} with helpers first settled by the second pass, at most {most} passes; {loads} may be loaded", steps[0], &steps[14..]);
     for n in 1..=13 {
         assert!(reports[n] > 0 || texts < 20000, "refusal {n} was never met");
     }
@@ -132,6 +136,7 @@ fn compare(seed: u64, texts: usize) {
         assert!(steps[n] > 0 || texts < 20000, "step answer {n} was never met");
     }
     assert!(ends[0] > 0 && ends[1] > 0 || texts < 20000, "no sum stopped at an end");
+    assert!(settled > 0 && most > 3 || texts < 20000, "no flow sets settled by the second pass");
     assert!(several > 0 || texts < 20000, "no statement counted for several cells");
     assert!(deepest == 32 || texts < 20000, "no thread had 32 frames open");
 }

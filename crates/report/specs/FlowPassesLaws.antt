@@ -11,17 +11,19 @@ use native.Mathlib.Numerals.{add-one}
 use lib.Dec.{ltb}
 use lib.ListN.{length, getD}
 use borrow.Author.Tests.{ltb-true, ltb-false}
-use Rattle.sets.specs.Least.{SetList, Edge, plain, least, settled}
+use Rattle.sets.specs.Least.{SetList, Edge, plain, passEdges, least, settled}
 use Rattle.sets.specs.LeastLaws.{least-closed}
 use Rattle.round_robin.specs.RoundRobin.{passDown, after, passesMade, Among}
 use Rattle.round_robin.specs.PassLaws.{down-append, closed-down, settled-down}
 use Rattle.round_robin.specs.CountLaws.{made-few, made-most}
-use Rattle.round_robin.specs.OrderLaws.{Apart, Ordered, none, ordered-append, two-passes}
+use Rattle.round_robin.specs.OrderLaws.{Apart, Ordered, none, ordered-append, any-order, two-passes}
 use Rattle.table.specs.Table.{Table, declaration, routine, statement, passed, InRoutine, OwnHandle}
-use Rattle.table.specs.View.{view, On}
-use Rattle.table.specs.ViewLaws.{list-from, nothing-to}
+use Rattle.table.specs.View.{view, On, listOn}
+use Rattle.table.specs.ViewLaws.{list-from, nothing-to, points-or-names}
 use Rattle.table.specs.Accepted.{Accepted, Operands, Passes, Names, RoutineFacts}
-use Rattle.table.specs.declared.Reference.the-variants.{To}
+use Rattle.table.specs.declared.Reference.{Reference}
+use Rattle.table.specs.declared.Reference.the-variants.{To, Nothing}
+use Rattle.table.specs.declared.View.{View}
 use Rattle.table.specs.declared.Statement.{Statement}
 use Rattle.report.specs.Over.{joinedFrom}
 use Rattle.report.specs.OverLaws.{Within, joined-from, joined-split, within-below}
@@ -126,6 +128,38 @@ module _ (t : Table) (acc : Accepted t) where
     to = λ e m. ⊎-elim (λ p. p .1 .there) (λ p. p .2 .there) (ends-at e 0 (length (t .statements)) (omega arith) m .5 .to);
   }
 
+  -- where the routines differ, so do the handles
+  differ : {e d : Edge} {q r s : ℕ} → OwnHandle t q (e .to) → Ends t r s d → (q ≡ r → ⊥) → Apart e d
+  differ {e} {d} {q} {r} o h n = record { from = f; also = λ x. f (sym (h .also) ∙ x) }
+    where
+      f : d .from ≡ e .to → ⊥
+      f x = n (sym (o .own) ∙ ap (λ (y : ℕ). declaration t y .routine) (sym x) ∙ h .from .own)
+
+  -- ---- within a statement: the order of its arguments does not show
+
+  no-arguments : (x : Reference) (g : ℕ → Edge) (y : Reference) (h : ℕ → List Edge) (u : List ℕ) → y ≡ Nothing
+      → passEdges (listOn x (λ n. g n ∷ []) ++ listOn y h) u ≡ passDown (listOn x (λ n. g n ∷ []) ++ listOn y h) u
+  unfolding passEdges passDown
+  no-arguments (To n) g Nothing h u e = refl
+  no-arguments Nothing g Nothing h u e = refl
+  no-arguments x g (To m) h u e = nothing-to (sym e)
+
+  pub arguments-any-order : (r s : ℕ) → r < length (t .routines) → InRoutine t r s → (u : List ℕ)
+      → passEdges (flowEdges t (oneEach t) r s (statement t s)) u ≡ passDown (flowEdges t (oneEach t) r s (statement t s)) u
+  unfolding flowEdges oneEach
+  arguments-any-order r s l i u = ⊎-elim passing-apart (λ e. no-arguments (v .points) (λ h. plain (v .source) h) (v .names) (λ q. passing t (oneEach t) r (oneEach t .leads r s) q (v .arguments)) u e) (points-or-names (statement t s))
+    where
+      v : View
+      v = view (statement t s)
+
+      passing-apart : view (statement t s) .points ≡ Nothing
+          → passEdges (flowEdges t (oneEach t) r s (statement t s)) u ≡ passDown (flowEdges t (oneEach t) r s (statement t s)) u
+      passing-apart still = any-order _ u (λ e d m k. apart e d (ends-of r s r l i e m) (ends-of r s r l i d k))
+        where
+          apart : (e d : Edge) → Ends t r s e → Ends t r s d → Apart e d
+          apart e d x y =
+              ⊎-elim (λ p. nothing-to (sym still ∙ p .0)) (λ p. differ (p .2) y (λ q. let k = acc .rank-falls r s (p .0) l i (p .1) in omega (arith, k, ap (acc .rank) q))) (x .to)
+
   -- ---- statements stand in the order of their routines
 
   next-first : (r : ℕ) → suc r < length (t .routines) → routine t (suc r) .first ≡ routine t r .first + routine t r .count
@@ -165,13 +199,6 @@ module _ (t : Table) (acc : Accepted t) where
         ⊎-elim (λ p. nothing-to (sym (shape .no-point s (statement-below t acc r s l i)) ∙ p .0))
         (λ p. (p .0, p .2, acc .operands r s l i .passes (p .0) (p .1) .not-first, λ k. shape .lower r s (p .0) k l i (p .1)))
         (h .to)
-
-    -- where the routines differ, so do the handles
-    differ : {e d : Edge} {q r s : ℕ} → OwnHandle t q (e .to) → Ends t r s d → (q ≡ r → ⊥) → Apart e d
-    differ {e} {d} {q} {r} o h n = record { from = f; also = λ x. f (sym (h .also) ∙ x) }
-      where
-        f : d .from ≡ e .to → ⊥
-        f x = n (sym (o .own) ∙ ap (λ (y : ℕ). declaration t y .routine) (sym x) ∙ h .from .own)
 
     abbrev part : ℕ → ℕ → List Edge
     part p n = joinedFrom p n (edgesOf t (oneEach t))

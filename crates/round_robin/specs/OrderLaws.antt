@@ -7,9 +7,9 @@ use Prim.Native.Nat.{ℕ, _<_}
 use lib.ListN.{length, getD}
 use Rattle.sets.specs.Set.{has}
 use Rattle.sets.specs.Rules.{put-elsewhere}
-use Rattle.sets.specs.Least.{SetList, Inside, Edge, along, Held, Closed, least}
-use Rattle.sets.specs.InsideLaws.{inside-trans}
-use Rattle.sets.specs.LeastLaws.{both-closed, along-length, along-grows, least-is, least-sets, least-holds-start, least-closed, least-inside}
+use Rattle.sets.specs.Least.{SetList, Inside, Edge, along, passEdges, Held, Closed, least}
+use Rattle.sets.specs.InsideLaws.{inside-trans, inside-equal}
+use Rattle.sets.specs.LeastLaws.{both-closed, along-length, along-grows, along-cases, least-is, least-sets, least-holds-start, least-closed, least-inside}
 use Rattle.round_robin.specs.RoundRobin.{passDown}
 use Rattle.round_robin.specs.PassLaws.{along-puts, down-inside, down-append, down-length, closed-down, down-sets, down-grows}
 
@@ -72,6 +72,43 @@ ordered-closes s none = record { edge = λ d m. elim m [ ] }
 ordered-closes s (more {e} {es} f o) =
     both-closed (put-held e (passDown es s) (f e (List·Memᴰ·head refl)))
     (record { edge = λ d m. apart-held e (passDown es s) d (f d (List·Memᴰ·tail m)) (ordered-closes s o .edge d m) })
+
+-- ---- edges of which none leads to where one comes from, in any order
+
+-- two edges the one way round lead inside the other way round
+exchange-inside : (e d : Edge) (s : List ℕ) → Apart d e → Inside (along e (along d s)) (along d (along e s))
+exchange-inside e d s p = record {
+  at = λ i x. along-cases e (along d s) i x
+      (along-cases d s i x (λ h. grown i x (along-grows e s .at i x h))
+      (λ q l a b. subst (λ (j : ℕ). has (getD (along d (along e s)) j 0) x ≡ true) (sym q)
+      (along-puts d (along e s) (subst (λ (n : ℕ). d .to < n) (sym (along-length e s)) l) x (along-grows e s .at (d .from) x a) (along-grows e s .at (d .also) x b))))
+      (λ q l a b. subst (λ (j : ℕ). has (getD (along d (along e s)) j 0) x ≡ true) (sym q)
+      (grown (e .to) x (along-puts e s (there d s e l) x (before d s (e .from) x (p .from) a) (before d s (e .also) x (p .also) b))));
+}
+  where
+    grown : (i x : ℕ) → has (getD (along e s) i 0) x ≡ true → has (getD (along d (along e s)) i 0) x ≡ true
+    grown i x h = along-grows d (along e s) .at i x h
+
+exchange : (e d : Edge) (s : List ℕ) → Apart e d → Apart d e → along e (along d s) ≡ along d (along e s)
+exchange e d s p q =
+    inside-equal (along-length e (along d s) ∙ along-length d s ∙ sym (along-length d (along e s) ∙ along-length e s))
+    (exchange-inside e d s q) (exchange-inside d e s p)
+
+-- an edge may come before the others or behind them
+exchange-all : (e : Edge) (es : List Edge) (s : List ℕ) → ((d : Edge) → List·Memᴰ d es → Apart e d × Apart d e) → passDown es (along e s) ≡ along e (passDown es s)
+unfolding passDown
+exchange-all e [] s f = refl
+exchange-all e (d ∷ es) s f =
+    let p = f d (List·Memᴰ·head refl) in
+    ap (along d) (exchange-all e es s (λ g m. f g (List·Memᴰ·tail m))) ∙ sym (exchange e d (passDown es s) (p .0) (p .1))
+
+-- a pass from the first to the last is one from the last to the first
+pub any-order : (es : List Edge) (s : List ℕ) → ((e d : Edge) → List·Memᴰ e es → List·Memᴰ d es → Apart e d) → passEdges es s ≡ passDown es s
+unfolding passDown passEdges
+any-order [] s f = refl
+any-order (e ∷ es) s f =
+    any-order es (along e s) (λ g d m k. f g d (List·Memᴰ·tail m) (List·Memᴰ·tail k))
+    ∙ exchange-all e es s (λ d m. (f e d (List·Memᴰ·head refl) (List·Memᴰ·tail m), f d e (List·Memᴰ·tail m) (List·Memᴰ·head refl)))
 
 -- ---- two passes
 

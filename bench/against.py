@@ -1,0 +1,48 @@
+#!/usr/bin/env python3
+"""bench/against.py FOLDER: tables whose handles flow against the order of the passes (C-12), so that many passes are made, for bench/check/run.
+
+    against.table           a chain of 128 handles, one behind the other upwards: 128 passes, the most that a table of 128 handles can take
+    against-largest.table   the same in a table of the largest size, the other statements READs
+    crowded.table           routines that POINT along 5 of their handles and CALL the next one as often as there is room, with four arguments: 80 passes
+                            over 1,792 edges, the slowest that we could make
+"""
+import os
+import sys
+
+
+def table(cells, handles, bodies):
+    lines = [[1, cells, 0, len(handles), len(bodies), sum(map(len, bodies))]]
+    lines += [[2, *h] for h in handles] + [[3, len(b)] for b in bodies] + [[4, *s] for b in bodies for s in b]
+    return "".join("".join("%6d" % n for n in line + [0] * (8 - len(line))) + "\n" for line in lines)
+
+
+def chain(routines, filled):
+    """Each routine POINTs from its first handle to its last and passes that on; a READ for each statement that is left up to `filled`."""
+    own = 128 // routines
+    handles = [(r, 1, int(r == 0 or k > 0), int(r + k > 0 and (r == 0 or k > 0))) for r in range(routines) for k in range(own)]
+    bodies = []
+    for r in range(routines):
+        b = own * r
+        body = [[7, h + 1, h] for h in range(b, b + own - 1)]
+        bodies.append(body + ([[8, r + 1, b + own - 1]] if r + 1 < routines else []))
+    left = filled - sum(map(len, bodies)) - routines
+    for r in range(routines):
+        bodies[r] += [[1, own * r]] * (max(left, 0) // routines) + [[1, own * r]] * int(r < max(left, 0) % routines) + [[12]]
+    return table(2, handles, bodies)
+
+
+def crowded():
+    handles = [(r, 1, int(r == 0 or k > 3), 0 if 0 < r and k < 4 else (8 * r + k) // 2) for r in range(16) for k in range(8)]
+    bodies = []
+    for r in range(16):
+        b = 8 * r
+        body = [[7, b + 4, b], [7, b + 5, b + 4], [7, b + 6, b + 5], [7, b + 7, b + 6]]
+        bodies.append(body + ([[8, r + 1] + [b + 7] * 4] * (28 + int(r < 12)) if r < 15 else []) + [[12]])
+    return table(64, handles, bodies)
+
+
+folder = sys.argv[1]
+os.makedirs(folder, exist_ok=True)
+for name, text in [("against", chain(16, 0)), ("against-largest", chain(32, 512)), ("crowded", crowded())]:
+    with open(os.path.join(folder, name + ".table"), "w") as f:
+        f.write(text)
