@@ -1,8 +1,8 @@
 #!/usr/bin/env python3
 """bench/against.py FOLDER: tables whose handles flow against the order of the passes (C-12), so that many passes are made, for bench/check/run.
 
-    against.table           a chain of 128 handles, one behind the other upwards: 128 passes, the most that a table of 128 handles can take
-    against-largest.table   the same in a table of the largest size, the other statements READs
+    against-largest.table   a chain of 128 handles in a table of the largest size, the other statements READs: 128 passes, the most that a table can take
+                            (crates/flow_vectors/data/against.table is the chain alone)
     crowded.table           routines that POINT along 5 of their handles and CALL the next one as often as there is room, with four arguments: 80 passes
                             over 1,792 edges, the slowest that we could make
 """
@@ -16,18 +16,14 @@ def table(cells, handles, bodies):
     return "".join("".join("%6d" % n for n in line + [0] * (8 - len(line))) + "\n" for line in lines)
 
 
-def chain(routines, filled):
-    """Each routine POINTs from its first handle to its last and passes that on; a READ for each statement that is left up to `filled`."""
-    own = 128 // routines
-    handles = [(r, 1, int(r == 0 or k > 0), int(r + k > 0 and (r == 0 or k > 0))) for r in range(routines) for k in range(own)]
+def chain():
+    """32 routines of four handles: each POINTs from its first handle to its last and passes that on. Cell 0 comes one handle on in each pass."""
+    handles = [(r, 1, int(r == 0 or k > 0), int(k > 0)) for r in range(32) for k in range(4)]
     bodies = []
-    for r in range(routines):
-        b = own * r
-        body = [[7, h + 1, h] for h in range(b, b + own - 1)]
-        bodies.append(body + ([[8, r + 1, b + own - 1]] if r + 1 < routines else []))
-    left = filled - sum(map(len, bodies)) - routines
-    for r in range(routines):
-        bodies[r] += [[1, own * r]] * (max(left, 0) // routines) + [[1, own * r]] * int(r < max(left, 0) % routines) + [[12]]
+    for r in range(32):
+        b = 4 * r
+        body = [[7, b + 1, b], [7, b + 2, b + 1], [7, b + 3, b + 2]] + ([[8, r + 1, b + 3]] if r < 31 else [])
+        bodies.append(body + [[1, b]] * (15 - len(body)) + [[12]])
     return table(2, handles, bodies)
 
 
@@ -43,6 +39,6 @@ def crowded():
 
 folder = sys.argv[1]
 os.makedirs(folder, exist_ok=True)
-for name, text in [("against", chain(16, 0)), ("against-largest", chain(32, 512)), ("crowded", crowded())]:
+for name, text in [("against-largest", chain()), ("crowded", crowded())]:
     with open(os.path.join(folder, name + ".table"), "w") as f:
         f.write(text)

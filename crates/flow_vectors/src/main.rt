@@ -1,6 +1,6 @@
 // Prints, for each table text that an argument names, a line: the name, and how many passes over the statements the flow sets of the text take.
 ghost use mathlib.Core.Path.{_≡_};
-ghost use Prim.Native.Nat.{_*_, _≤_};
+ghost use Prim.Native.Nat.{_*_};
 ghost use lib.ListN.{length};
 ghost use Rattle.lines.specs.Line.{lineCount};
 ghost use Rattle.table.specs.Table.{tableOf};
@@ -14,8 +14,7 @@ use table::Verdict;
 // How many passes the flow sets of an accepted table take.
 fn passes_of(numbers: &[i32]) -> usize
     requires { ⌜ Accepted (tableOf (now numbers)) ⌝ }
-    ensures made { λ r. ⌜ r ≡ flowPasses (tableOf (now (numbers .entry))) (oneEach (tableOf (now (numbers .entry)))) ⌝ }
-    ensures most { λ r. ⌜ r ≤ 128 ⌝ }
+    ensures { λ r. ⌜ r ≡ flowPasses (tableOf (now (numbers .entry))) (oneEach (tableOf (now (numbers .entry)))) ⌝ }
 {
     let handle = declarations::first_handles(numbers);
     let counts = declarations::parameter_counts(numbers, &handle[..]);
@@ -34,8 +33,7 @@ fn passes_of(numbers: &[i32]) -> usize
 // How many passes a text takes, with a list that has room for its numbers; 0 where it is refused.
 fn passes_in(text: &[u8], numbers: &mut [i32]) -> usize
     requires { ⌜ length (now numbers) ≡ 8 * lineCount (now text) ⌝ }
-    ensures made { λ r. ⌜ r ≡ passesIn (now (text .entry)) ⌝ }
-    ensures most { λ r. ⌜ r ≤ 128 ⌝ }
+    ensures { λ r. ⌜ r ≡ passesIn (now (text .entry)) ⌝ }
 {
     match reader::read_into(text, numbers) {
         Verdict::Refused { number: _, line: _ } => 0,
@@ -45,8 +43,7 @@ fn passes_in(text: &[u8], numbers: &mut [i32]) -> usize
 
 // How many passes a text takes; 0 where it is refused, as one of more than 673 lines is.
 fn passes_for(text: &[u8]) -> usize
-    ensures made { λ r. ⌜ r ≡ passesIn (now (text .entry)) ⌝ }
-    ensures most { λ r. ⌜ r ≤ 128 ⌝ }
+    ensures { λ r. ⌜ r ≡ passesIn (now (text .entry)) ⌝ }
 {
     let count = 8 * lines::line_count(text);
     let mut numbers = [0i32; 5384];

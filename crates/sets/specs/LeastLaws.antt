@@ -40,7 +40,7 @@ number-edge (n ∷ ends) (a ∷ also) zero h = List·Memᴰ·head refl
 number-edge (n ∷ ends) [] (suc k) h = List·Memᴰ·tail (number-edge ends [] k (le-of-suc-le-suc h))
 number-edge (n ∷ ends) (a ∷ also) (suc k) h = List·Memᴰ·tail (number-edge ends also k (le-of-suc-le-suc h))
 
-pub tail-closed : {e : Edge} {es : List Edge} {s : List ℕ} → Closed (e ∷ es) s → Closed es s
+tail-closed : {e : Edge} {es : List Edge} {s : List ℕ} → Closed (e ∷ es) s → Closed es s
 tail-closed c = record { edge = λ d m. c .edge d (List·Memᴰ·tail m) }
 
 pub both-closed : {e : Edge} {es : List Edge} {s : List ℕ} → Held s e → Closed es s → Closed (e ∷ es) s
@@ -83,7 +83,7 @@ module _ (e : Edge) (s : List ℕ) where
   along-sets n h = put-sets (e .to) both s n (inter-below 64 _ (h .below (e .from))) h
 
   -- an edge that has nothing to put changes nothing, and the other way round
-  pub held-still : Held s e → along e s ≡ s
+  held-still : Held s e → along e s ≡ s
   unfolding along
   held-still h = put-still (e .to) both s (λ l x b. h .carried l x (inter-left _ _ x b) (inter-right _ _ x b))
 
@@ -97,7 +97,7 @@ module _ (e : Edge) (s : List ℕ) where
   along-inside r l h a =
       put-inside (e .to) both s r l (λ m x b. h .carried m x (a .at (e .from) x (inter-left _ _ x b)) (a .at (e .also) x (inter-right _ _ x b))) a
 
-pub along-monotone : (e : Edge) (s r : List ℕ) → length s ≡ length r → Inside s r → Inside (along e s) (along e r)
+along-monotone : (e : Edge) (s r : List ℕ) → length s ≡ length r → Inside s r → Inside (along e s) (along e r)
 unfolding along
 along-monotone e s r l a =
     put-monotone (e .to) (both e s) (both e r) s r l
@@ -110,17 +110,17 @@ along-plain f t s = ap (λ (x : ℕ). putInto t x s) (inter-same (getD s f 0))
 
 -- ---- a pass over the edges
 
-pass-sets : (n : ℕ) (es : List Edge) (s : List ℕ) → SetList n s → SetList n (passEdges es s)
+pub pass-sets : (n : ℕ) (es : List Edge) (s : List ℕ) → SetList n s → SetList n (passEdges es s)
 unfolding passEdges
 pass-sets n [] s h = h
 pass-sets n (e ∷ es) s h = pass-sets n es (along e s) (along-sets e s n h)
 
-pass-grows : (es : List Edge) (s : List ℕ) → Inside s (passEdges es s)
+pub pass-grows : (es : List Edge) (s : List ℕ) → Inside s (passEdges es s)
 unfolding passEdges
 pass-grows [] s = inside-refl s
 pass-grows (e ∷ es) s = inside-trans (along-grows e s) (pass-grows es (along e s))
 
-pass-monotone : (es : List Edge) (s r : List ℕ) → length s ≡ length r → Inside s r → Inside (passEdges es s) (passEdges es r)
+pub pass-monotone : (es : List Edge) (s r : List ℕ) → length s ≡ length r → Inside s r → Inside (passEdges es s) (passEdges es r)
 unfolding passEdges
 pass-monotone [] s r l a = a
 pass-monotone (e ∷ es) s r l a =
@@ -135,7 +135,7 @@ edges-steady n es = record {
 
 -- ---- a pass changes nothing just where every edge has nothing to put
 
-closed-still : (es : List Edge) (s : List ℕ) → Closed es s → passEdges es s ≡ s
+pub closed-still : (es : List Edge) (s : List ℕ) → Closed es s → passEdges es s ≡ s
 unfolding passEdges
 closed-still [] s c = refl
 closed-still (e ∷ es) s c = ap (passEdges es) (held-still e s (c .edge e (List·Memᴰ·head refl))) ∙ closed-still es s (tail-closed c)

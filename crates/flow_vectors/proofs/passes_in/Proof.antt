@@ -1,6 +1,5 @@
 -- `flow_vectors::passes_in` meets its contract. Assumes nothing.
 use mathlib.Core.Path.{_∙_}
-use native.Mathlib.Omega.{arith}
 use Rattle.flow_vectors.specs.PassesLaws.{read-accepted, accepted-passes, refused-passes}
 use borrow.Author.Needs.{needs}
 use Rattle.flow_vectors.proofs.passes_in.Statement.{statement}
@@ -24,14 +23,14 @@ same-length c = search needs
 
 returns : tie.Need-returns
 returns c = let r = c .before .before .before .read-into in
-    (refused-passes _ (r .result) (r .last .1 .0) (r .ensures .0) (r .ensures .1) _ _ (c .enum-told .given .1), omega arith)
+    refused-passes _ (r .result) (r .last .1 .0) (r .ensures .0) (r .ensures .1) _ _ (c .enum-told .given .1)
 
 same-length-2 : tie.Need-same-length-2
 same-length-2 c = search needs
 
 returns-2 : tie.Need-returns-2
 returns-2 c = let r = c .before .before .before .before .before .read-into in
-    (c .passes-of .ensures .0 ∙ accepted-passes _ (r .result) (r .last .1 .0) (r .ensures .0) (r .ensures .1) (c .before .before .enum-told2 .given .1), c .passes-of .ensures .1)
+    c .passes-of .ensures ∙ accepted-passes _ (r .result) (r .last .1 .0) (r .ensures .0) (r .ensures .1) (c .before .before .enum-told2 .given .1)
 
 pub passes-in-spec : {M : Type 1} → statement M
 passes-in-spec =

@@ -45,9 +45,7 @@ flow-passes-requires c κs = let f = now (c .before .before .before .before .bef
     (acc, (c .before .before .before .before .before .before .before .first-handles .ensures, (c .before .before .before .before .before .parameter-counts .ensures, (edges-fit f acc, sym long ∙ size))))
 
 returns : tie.Need-returns
-returns c = let p = c .before .before .flow-passes .ensures .1 in
-    let few = handles-few (now (c .before .before .before .before .before .before .before .before .before .before .before .args .numbers)) (c .before .before .before .before .before .before .before .before .before .before .before .pre) in
-    (p .0, omega (arith, p .1 .0, few))
+returns c = c .before .before .flow-passes .ensures .1 .0
 
 pub passes-of-spec : {M : Type 1} → statement M
 passes-of-spec =
