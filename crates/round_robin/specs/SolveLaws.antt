@@ -70,7 +70,7 @@ pub record PassedTo (edges s₀ s : List ℕ) (changed : Bool) (k : ℕ) : Type 
   pub moved : changed ≡ true → room s < room s₀
 
 module _ (edges s₀ : List ℕ) where
-  pub passed-start : PassedTo edges s₀ s₀ false (length edges)
+  passed-start : PassedTo edges s₀ s₀ false (length edges)
   unfolding passDown
   passed-start = record {
     inside = le-refl _;
@@ -80,7 +80,7 @@ module _ (edges s₀ : List ℕ) where
     moved = λ e. absurd (let z : _≡_ {A = ℕ} 0 1 = cc in omega arith);
   }
 
-  pub passed-next : {s s′ : List ℕ} {before after : Bool} (k : ℕ) → PassedTo edges s₀ s before (suc k) → Put (edgeOf (getD edges k 0)) s s′ before after
+  passed-next : {s s′ : List ℕ} {before after : Bool} (k : ℕ) → PassedTo edges s₀ s before (suc k) → Put (edgeOf (getD edges k 0)) s s′ before after
       → PassedTo edges s₀ s′ after k
   unfolding passDown
   passed-next {s} {s′} {before} {after} k p q =
@@ -96,17 +96,6 @@ module _ (edges s₀ : List ℕ) where
         moved = λ h. ⊎-elim (λ b. lt-of-le-of-lt less (p .moved b)) (λ m. lt-of-lt-of-le m less₀) (q .moved h);
       }
 
-  -- the next edge down
-  pub passed-down : {s s′ : List ℕ} {before after : Bool} {k : ℕ} → 0 < k → PassedTo edges s₀ s before k → Put (edgeOf (getD edges (k - 1) 0)) s s′ before after
-      → PassedTo edges s₀ s′ after (k - 1)
-  passed-down {s} {s′} {before} {after} {k} h p q = let e : k ≡ suc (k - 1) = omega arith in passed-next (k - 1) (subst (PassedTo edges s₀ s before) e p) q
-
-  pub passed-down-two : {s s′ s″ : List ℕ} {a b c : Bool} {k : ℕ} → 1 < k → PassedTo edges s₀ s a k → Put (edgeOf (getD edges (k - 1) 0)) s s′ a b
-      → Put (edgeOf (getD edges (k - 2) 0)) s′ s″ b c → PassedTo edges s₀ s″ c (k - 2)
-  passed-down-two {s} {s′} {s″} {a} {b} {c} {k} h p q r =
-      let e : k - 1 - 1 ≡ k - 2 = omega arith in
-      subst (PassedTo edges s₀ s″ c) e (passed-down (omega arith) (passed-down (omega arith) p q) (subst (λ (i : ℕ). Put (edgeOf (getD edges i 0)) s′ s″ b c) (sym e) r))
-
   -- whether anything changed
   passed-changed : {s : List ℕ} (b : Bool) → (b ≡ false → s ≡ s₀) → (b ≡ true → room s < room s₀) → b ≡ not (same s s₀)
   passed-changed {s} false still moved = ap not (sym (ap (λ (r : List ℕ). same r s₀) (still refl) ∙ same-refl s₀))
@@ -116,8 +105,34 @@ module _ (edges s₀ : List ℕ) where
       go true e = let k : room s < room s₀ = moved refl in let q : room s ≡ room s₀ = ap room (same-true s s₀ e) in absurd (omega arith)
       go false e = ap not (sym e)
 
-  pub passed-done : {s : List ℕ} {b : Bool} → PassedTo edges s₀ s b 0 → (s ≡ passDown (map edgeOf edges) s₀) × (b ≡ not (same s s₀))
+  passed-done : {s : List ℕ} {b : Bool} → PassedTo edges s₀ s b 0 → (s ≡ passDown (map edgeOf edges) s₀) × (b ≡ not (same s s₀))
   passed-done {s} {b} p = (p .is, passed-changed b (p .still) (p .moved))
+
+-- from where the edges from k on were gone along, those from j on were
+pub record Onward (edges : List ℕ) (k j : ℕ) (s s′ : List ℕ) (before after : Bool) : Type 0 where
+  pub places : length s′ ≡ length s
+  pub then : (s₀ : List ℕ) → PassedTo edges s₀ s before k → PassedTo edges s₀ s′ after j
+
+module _ (edges : List ℕ) where
+  pub onward-none : (k : ℕ) (s : List ℕ) (b : Bool) → Onward edges k k s s b b
+  onward-none k s b = record { places = refl; then = λ s₀ p. p }
+
+  -- the same with the bound written another way
+  pub onward-to : {i k j : ℕ} {s s′ : List ℕ} {a b : Bool} → k ≡ j → Onward edges i k s s′ a b → Onward edges i j s s′ a b
+  onward-to {i} {k} {j} {s} {s′} {a} {b} e h = subst (λ (x : ℕ). Onward edges i x s s′ a b) e h
+
+  -- one edge more
+  pub onward-next : {i k : ℕ} {s s′ s″ : List ℕ} {a b c : Bool} (j : ℕ) → k ≡ suc j → Onward edges i k s s′ a b → Put (edgeOf (getD edges j 0)) s′ s″ b c
+      → Onward edges i j s s″ a c
+  onward-next j e h q = record { places = put-places q ∙ h .places; then = λ s₀ p. passed-next edges s₀ j (onward-to e h .then s₀ p) q }
+
+  -- some more
+  pub onward-both : {i k j : ℕ} {s s′ s″ : List ℕ} {a b c : Bool} → Onward edges i k s s′ a b → Onward edges k j s′ s″ b c → Onward edges i j s s″ a c
+  onward-both h q = record { places = q .places ∙ h .places; then = λ s₀ p. q .then s₀ (h .then s₀ p) }
+
+  -- all of them
+  pub onward-done : {s s′ : List ℕ} {b : Bool} → Onward edges (length edges) 0 s s′ false b → (s′ ≡ passDown (map edgeOf edges) s) × (b ≡ not (same s′ s))
+  onward-done {s} h = passed-done edges s (h .then s (passed-start edges s))
 
 -- ---- passes until one changes nothing
 

@@ -3,10 +3,11 @@
 ghost use mathlib.Core.Path.{_≡_};
 ghost use mathlib.Core.Bool.{not};
 ghost use mathlib.Core.List.{map};
-ghost use Prim.Native.Nat.{_<_};
+ghost use Prim.Native.Nat.{_-_, _<_, _≤_};
 ghost use lib.ListN.{length};
 ghost use Rattle.sets.specs.Least.{edgeOf, same, settled};
 ghost use Rattle.passes.specs.Pass.{Put};
+ghost use Rattle.round_robin.specs.SolveLaws.{Onward};
 ghost use Rattle.round_robin.specs.RoundRobin.{passDown, passesMade, Among};
 
 // Goes along an edge, and returns whether that changed anything or something had changed before.
@@ -25,8 +26,39 @@ fn put(sets: &mut [u64], edge: u32, changed: bool) -> bool
     changed
 }
 
-// Goes along every edge once, from the last to the first, each on what those before it have put. Returns whether anything changed. Two edges a turn: that
-// runs twice as fast.
+// Goes along the four edges before `k`, from the last to the first, and returns as put does.
+fn put_four(sets: &mut [u64], edges: &[u32], k: usize, changed: bool) -> bool
+    requires { ⌜ Among (length (now sets)) (map edgeOf (now edges)) ⌝ }
+    requires { ⌜ (3 < k) × (k ≤ length (now edges)) ⌝ }
+    ensures { λ r. ⌜ Onward (now (edges .entry)) k (k - 4) (now (sets .entry)) (now (sets .exit)) changed r ⌝ }
+{
+    let a = edges[k - 1];
+    let b = edges[k - 2];
+    let c = edges[k - 3];
+    let d = edges[k - 4];
+    let one = put(sets, a, changed);
+    let two = put(sets, b, one);
+    let three = put(sets, c, two);
+    put(sets, d, three)
+}
+
+// Goes along the first `n` edges, from the last to the first, and returns as put does.
+fn put_first(sets: &mut [u64], edges: &[u32], n: usize, changed: bool) -> bool
+    requires { ⌜ Among (length (now sets)) (map edgeOf (now edges)) ⌝ }
+    requires { ⌜ n ≤ length (now edges) ⌝ }
+    ensures { λ r. ⌜ Onward (now (edges .entry)) n 0 (now (sets .entry)) (now (sets .exit)) changed r ⌝ }
+{
+    let mut after = changed;
+    let mut k = n;
+    while 0 < k {
+        k -= 1;
+        after = put(sets, edges[k], after);
+    }
+    after
+}
+
+// Goes along every edge once, from the last to the first, each on what those before it have put. Returns whether anything changed. Four edges a turn: with
+// one, the compiler folds the pass into the loop that calls it, and that takes twice as long.
 fn pass(sets: &mut [u64], edges: &[u32]) -> bool
     requires { ⌜ Among (length (now sets)) (map edgeOf (now edges)) ⌝ }
     ensures sets { λ _. ⌜ now (sets .exit) ≡ passDown (map edgeOf (now (edges .entry))) (now (sets .entry)) ⌝ }
@@ -34,15 +66,11 @@ fn pass(sets: &mut [u64], edges: &[u32]) -> bool
 {
     let mut changed = false;
     let mut k = edges.len();
-    while 1 < k {
-        changed = put(sets, edges[k - 1], changed);
-        changed = put(sets, edges[k - 2], changed);
-        k -= 2;
+    while 3 < k {
+        changed = put_four(sets, edges, k, changed);
+        k -= 4;
     }
-    if 0 < k {
-        return put(sets, edges[0], changed);
-    }
-    changed
+    put_first(sets, edges, k, changed)
 }
 
 // Makes passes until one changes nothing: the sets are then the least ones that hold those before and in which, for every edge, the set that it comes from
