@@ -11,7 +11,7 @@ use native.Mathlib.Numerals.{add-one}
 use lib.Dec.{ltb}
 use lib.ListN.{length, getD}
 use borrow.Author.Tests.{ltb-true, ltb-false}
-use Rattle.sets.specs.Least.{SetList, Edge, plain, passEdges, least, settled}
+use Rattle.sets.specs.Least.{Edge, plain, passEdges, least, settled}
 use Rattle.sets.specs.LeastLaws.{least-closed}
 use Rattle.round_robin.specs.RoundRobin.{passDown, after, passesMade, Among}
 use Rattle.round_robin.specs.PassLaws.{down-append, closed-down, settled-down}
@@ -20,7 +20,7 @@ use Rattle.round_robin.specs.OrderLaws.{Apart, Ordered, none, ordered-append, a
 use Rattle.table.specs.Table.{Table, declaration, routine, statement, passed, InRoutine, OwnHandle}
 use Rattle.table.specs.View.{view, On, listOn}
 use Rattle.table.specs.ViewLaws.{list-from, nothing-to, points-or-names}
-use Rattle.table.specs.Accepted.{Accepted, Operands, Passes, Names, RoutineFacts}
+use Rattle.table.specs.Accepted.{Accepted, Operands, Passes, Names}
 use Rattle.table.specs.declared.Reference.{Reference}
 use Rattle.table.specs.declared.Reference.the-variants.{To, Nothing}
 use Rattle.table.specs.declared.View.{View}

@@ -9,9 +9,9 @@ use Rattle.sets.specs.Set.{has}
 use Rattle.sets.specs.Rules.{put-elsewhere}
 use Rattle.sets.specs.Least.{SetList, Inside, Edge, along, passEdges, Held, Closed, least}
 use Rattle.sets.specs.InsideLaws.{inside-trans, inside-equal}
-use Rattle.sets.specs.LeastLaws.{both-closed, along-length, along-grows, along-cases, least-is, least-sets, least-holds-start, least-closed, least-inside}
+use Rattle.sets.specs.LeastLaws.{both-closed, along-length, along-grows, along-cases, least-is, least-sets, least-holds-start, least-closed}
 use Rattle.round_robin.specs.RoundRobin.{passDown}
-use Rattle.round_robin.specs.PassLaws.{along-puts, down-inside, down-append, down-length, closed-down, down-sets, down-grows}
+use Rattle.round_robin.specs.PassLaws.{along-puts, down-inside, down-append, closed-down, down-sets, down-grows}
 
 -- edge d comes from a place to which e does not lead
 pub record Apart (e d : Edge) : Type 0 where

@@ -1,23 +1,24 @@
 -- The solver's steps: an edge, a pass, and passes until one changes nothing. Assumes nothing.
 use mathlib.Core.Path.{_≡_, refl, sym, ap, _∙_, subst}
 use mathlib.Core.Bool.{Bool, true, false, not, cond}
-use mathlib.Core.Logic.{inl, inr, ⊎-elim}
+use mathlib.Core.Logic.{⊎-elim}
 use mathlib.Core.List.{List, [], _∷_, map, List·Memᴰ, List·Memᴰ·head, List·Memᴰ·tail}
-use Prim.Native.Nat.{ℕ, zero, suc, _+_, _-_, _^_, _≤_, _<_, max}
+use Prim.Native.Nat.{ℕ, zero, suc, _+_, _^_, _≤_, _<_, max}
 use native.Mathlib.Nat.{zero-add, le-refl, le-of-suc-le-suc, lt-of-le-of-lt, lt-of-lt-of-le}
-use native.Mathlib.Numerals.{add-one}
 use native.Mathlib.Omega.{arith}
-use lib.Bits.{bitOr}
+use lib.Bits.{bitOr, bitAnd}
 use lib.ListN.{length, getD, set, drop}
-use lib.Seq.{drop-length, drop-cons, set-getD, getD-set-same}
-use Rattle.sets.specs.Set.{union}
-use Rattle.sets.specs.Least.{SetList, Inside, Edge, edgeOf, plain, putInto, along, same, room, settle, settled}
+use lib.Seq.{drop-length, drop-cons}
+use Rattle.sets.specs.Set.{inter}
+use Rattle.sets.specs.SetLaws.{inter-same}
+use Rattle.sets.specs.Least.{SetList, Inside, Edge, edgeOf, plain, along, same, room, settle, settled}
 use Rattle.sets.specs.InsideLaws.{same-true, same-refl, room-le, room-less}
-use Rattle.sets.specs.LeastLaws.{along-plain, along-length, along-grows, along-sets}
+use Rattle.sets.specs.LeastLaws.{along-length, along-grows}
 use Rattle.sets.specs.Settled.{stops, goes}
 use Rattle.passes.specs.Pass.{Put}
+use Rattle.passes.specs.PassLaws.{put-nothing, put-more}
 use Rattle.round_robin.specs.RoundRobin.{passDown, counted, passesMade, Among}
-use Rattle.round_robin.specs.PassLaws.{down-length, down-sets, down-grows}
+use Rattle.round_robin.specs.PassLaws.{down-sets, down-grows}
 use Rattle.round_robin.specs.CountLaws.{counted-stops, counted-goes, made-few}
 
 -- ---- an edge
@@ -33,28 +34,18 @@ pub ends-in : {n m : ℕ} → m ≡ n → (edges : List ℕ) (k : ℕ) → Among
     → (edgeOf (getD edges k 0) .from < m) × (edgeOf (getD edges k 0) .to < m)
 ends-in e edges k a h = rw e (a .from _ (edge-there edges k h), a .to _ (edge-there edges k h))
 
-module _ (f t : ℕ) (s : List ℕ) (b : Bool) where
-  pub put-nothing : bitOr (getD s t 0) (getD s f 0) ≡ getD s t 0 → Put (plain f t) s s b b
-  unfolding putInto union
-  put-nothing q = record {
-    becomes = sym (along-plain f t s ∙ ap (set s t) q ∙ set-getD s t 0);
-    still = λ h. (h, refl);
-    moved = λ h. inl h;
-  }
+-- a plain edge meets the set that it comes from
+met : (f t : ℕ) (s : List ℕ) → bitOr (getD s t 0) (bitAnd (getD s f 0) (getD s f 0)) ≡ bitOr (getD s t 0) (getD s f 0)
+unfolding inter
+met f t s = ap (bitOr (getD s t 0)) (inter-same (getD s f 0))
 
-  pub put-more : t < length s → ((i : ℕ) → getD s i 0 < 2 ^ 64) → (bitOr (getD s t 0) (getD s f 0) ≡ getD s t 0 → ⊥)
+module _ (f t : ℕ) (s : List ℕ) (b : Bool) where
+  pub plain-nothing : bitOr (getD s t 0) (getD s f 0) ≡ getD s t 0 → Put (plain f t) s s b b
+  plain-nothing q = put-nothing f f t s b (met f t s ∙ q)
+
+  pub plain-more : t < length s → ((i : ℕ) → getD s i 0 < 2 ^ 64) → (bitOr (getD s t 0) (getD s f 0) ≡ getD s t 0 → ⊥)
       → Put (plain f t) s (set s t (bitOr (getD s t 0) (getD s f 0))) b true
-  unfolding putInto union
-  put-more l h d =
-      let k : SetList (length s) s = record { places = refl; below = h } in
-      let new : set s t (bitOr (getD s t 0) (getD s f 0)) ≡ along (plain f t) s = sym (along-plain f t s) in
-      record {
-        becomes = new;
-        still = λ q. absurd (let z : _≡_ {A = ℕ} 0 1 = cc in omega arith);
-        moved = λ q. inr (subst (λ (r : List ℕ). room r < room s) (sym new)
-            (room-less k (along-sets (plain f t) s (length s) k) (along-grows (plain f t) s)
-            (λ p. d (sym (getD-set-same s t _ 0 l) ∙ ap (λ (r : List ℕ). getD r t 0) (new ∙ sym p)))));
-      }
+  plain-more l h d = subst (λ (x : ℕ). Put (plain f t) s (set s t x) b true) (met f t s) (put-more f f t s b l h (λ q. d (sym (met f t s) ∙ q)))
 
 pub put-places : {e : Edge} {s s′ : List ℕ} {b b′ : Bool} → Put e s s′ b b′ → length s′ ≡ length s
 put-places {e} {s} h = ap length (h .becomes) ∙ along-length e s

@@ -2,7 +2,7 @@
 use native.Mathlib.Omega.{arith}
 use Rattle.sets.specs.Least.{edgeOf}
 use Rattle.passes.specs.PassLaws.{put-as}
-use Rattle.round_robin.specs.SolveLaws.{put-nothing, put-more}
+use Rattle.round_robin.specs.SolveLaws.{plain-nothing, plain-more}
 use borrow.Author.Needs.{needs}
 use Rattle.round_robin.proofs.put.Statement.{statement}
 use Rattle.round_robin.proofs.put.Tie as tie
@@ -36,11 +36,11 @@ same-length c = search needs
 
 returns : tie.Need-returns
 unfolding edgeOf
-returns c = put-as (c .before .before .before .before .from-of .ensures) (c .before .before .before .before .from-of .ensures) (c .before .before .before .to-of .ensures) (put-more _ _ _ _ (omega arith) (λ i. omega (arith, c .before .slice-known3 .given i)) (c .if1 .taken))
+returns c = put-as (c .before .before .before .before .from-of .ensures) (c .before .before .before .before .from-of .ensures) (c .before .before .before .to-of .ensures) (plain-more _ _ _ _ (omega arith) (λ i. omega (arith, c .before .slice-known3 .given i)) (c .if1 .taken))
 
 returns-2 : tie.Need-returns-2
 unfolding edgeOf
-returns-2 c = put-as (c .before .before .before .before .from-of .ensures) (c .before .before .before .before .from-of .ensures) (c .before .before .before .to-of .ensures) (put-nothing _ _ _ _ (c .if1 .left))
+returns-2 c = put-as (c .before .before .before .before .from-of .ensures) (c .before .before .before .before .from-of .ensures) (c .before .before .before .to-of .ensures) (plain-nothing _ _ _ _ (c .if1 .left))
 
 pub put-spec : {M : Type 1} → statement M
 put-spec =
