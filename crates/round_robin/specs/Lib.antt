@@ -1,4 +1,5 @@
 pub mod RoundRobin
+pub mod Onward
 pub mod PassLaws
 pub mod CountLaws
 pub mod OrderLaws

@@ -17,6 +17,7 @@ use Rattle.sets.specs.LeastLaws.{along-length, along-grows}
 use Rattle.sets.specs.Settled.{stops, goes}
 use Rattle.passes.specs.Pass.{Put}
 use Rattle.passes.specs.PassLaws.{put-nothing, put-more}
+use Rattle.round_robin.specs.Onward.{PassedTo, Onward}
 use Rattle.round_robin.specs.RoundRobin.{passDown, counted, passesMade, Among}
 use Rattle.round_robin.specs.PassLaws.{down-sets, down-grows}
 use Rattle.round_robin.specs.CountLaws.{counted-stops, counted-goes, made-few}
@@ -51,14 +52,6 @@ pub put-places : {e : Edge} {s s′ : List ℕ} {b b′ : Bool} → Put e s s′
 put-places {e} {s} h = ap length (h .becomes) ∙ along-length e s
 
 -- ---- a pass
-
--- the edges from k on were gone along, the last first
-pub record PassedTo (edges s₀ s : List ℕ) (changed : Bool) (k : ℕ) : Type 0 where
-  pub inside : k ≤ length edges
-  pub places : length s ≡ length s₀
-  pub is : s ≡ passDown (map edgeOf (drop k edges)) s₀
-  pub still : changed ≡ false → s ≡ s₀
-  pub moved : changed ≡ true → room s < room s₀
 
 module _ (edges s₀ : List ℕ) where
   passed-start : PassedTo edges s₀ s₀ false (length edges)
@@ -98,11 +91,6 @@ module _ (edges s₀ : List ℕ) where
 
   passed-done : {s : List ℕ} {b : Bool} → PassedTo edges s₀ s b 0 → (s ≡ passDown (map edgeOf edges) s₀) × (b ≡ not (same s s₀))
   passed-done {s} {b} p = (p .is, passed-changed b (p .still) (p .moved))
-
--- from where the edges from k on were gone along, those from j on were
-pub record Onward (edges : List ℕ) (k j : ℕ) (s s′ : List ℕ) (before after : Bool) : Type 0 where
-  pub places : length s′ ≡ length s
-  pub then : (s₀ : List ℕ) → PassedTo edges s₀ s before k → PassedTo edges s₀ s′ after j
 
 module _ (edges : List ℕ) where
   pub onward-none : (k : ℕ) (s : List ℕ) (b : Bool) → Onward edges k k s s b b

@@ -7,7 +7,7 @@ ghost use Prim.Native.Nat.{_-_, _<_, _≤_};
 ghost use lib.ListN.{length};
 ghost use Rattle.sets.specs.Least.{edgeOf, same, settled};
 ghost use Rattle.passes.specs.Pass.{Put};
-ghost use Rattle.round_robin.specs.SolveLaws.{Onward};
+ghost use Rattle.round_robin.specs.Onward.{Onward};
 ghost use Rattle.round_robin.specs.RoundRobin.{passDown, passesMade, Among};
 
 // Goes along an edge, and returns whether that changed anything or something had changed before.

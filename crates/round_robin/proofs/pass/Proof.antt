@@ -4,7 +4,8 @@ use Prim.Native.Nat.{_≤_}
 use native.Mathlib.Nat.{le-refl}
 use native.Mathlib.Omega.{arith}
 use lib.ListN.{length}
-use Rattle.round_robin.specs.SolveLaws.{Onward, onward-none, onward-both, onward-done}
+use Rattle.round_robin.specs.Onward.{Onward}
+use Rattle.round_robin.specs.SolveLaws.{onward-none, onward-both, onward-done}
 use borrow.Author.Needs.{needs}
 use Rattle.round_robin.proofs.pass.Statement.{statement}
 use Rattle.round_robin.proofs.pass.Tie as tie

@@ -2,7 +2,8 @@
 use Prim.Native.Nat.{_-_, _≤_}
 use native.Mathlib.Nat.{le-refl}
 use native.Mathlib.Omega.{arith}
-use Rattle.round_robin.specs.SolveLaws.{ends-in, Onward, onward-none, onward-to, onward-next}
+use Rattle.round_robin.specs.Onward.{Onward}
+use Rattle.round_robin.specs.SolveLaws.{ends-in, onward-none, onward-to, onward-next}
 use borrow.Author.Needs.{needs}
 use Rattle.round_robin.proofs.put_first.Statement.{statement}
 use Rattle.round_robin.proofs.put_first.Tie as tie
