@@ -3,8 +3,8 @@
 
     against-largest.table   a chain of 128 handles in a table of the largest size, the other statements READs: 128 passes, the most that a table can take
                             (crates/flow_vectors/data/against.table is the chain alone)
-    crowded.table           routines that POINT along 5 of their handles and CALL the next one as often as there is room, with four arguments: 80 passes
-                            over 1,792 edges, the slowest that we could make
+    crowded.table           routines that POINT along 7 of their handles and CALL the next one as often as there is room, with four arguments: 111 passes
+                            over 1,696 edges. The slowest of seven tables made by hand; nobody searched for a slower one
 """
 import os
 import sys
@@ -28,12 +28,14 @@ def chain():
 
 
 def crowded():
+    """16 routines of eight handles, four of them parameters (in routine 0 locals): POINTs along the first seven, and CALLs of the next routine as often as there is
+    room, the first argument the end of that chain, the others the eighth handle, which nothing changes."""
     handles = [(r, 1, int(r == 0 or k > 3), 0 if 0 < r and k < 4 else (8 * r + k) // 2) for r in range(16) for k in range(8)]
     bodies = []
     for r in range(16):
         b = 8 * r
-        body = [[7, b + 4, b], [7, b + 5, b + 4], [7, b + 6, b + 5], [7, b + 7, b + 6]]
-        bodies.append(body + ([[8, r + 1] + [b + 7] * 4] * (28 + int(r < 12)) if r < 15 else []) + [[12]])
+        body = [[7, h + 1, h] for h in range(b, b + 6)]
+        bodies.append(body + ([[8, r + 1, b + 6] + [b + 7] * 3] * (26 + int(r < 10)) if r < 15 else []) + [[12]])
     return table(64, handles, bodies)
 
 
