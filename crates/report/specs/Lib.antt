@@ -9,6 +9,7 @@ pub mod FlowPasses
 pub mod Effect
 pub mod Held
 pub mod Future
+pub mod Preceded
 pub mod Findings
 pub mod Counts
 pub mod Report

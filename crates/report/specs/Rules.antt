@@ -123,6 +123,28 @@ module _ {t : Table} (copies : Copies t) (flow : ℕ → ℕ → ℕ → Type 0)
       pub callers : (c s z : ℕ) (w : Bool) (x q : ℕ) → Place copies c s → calls (view (statement t s)) ≡ To q → Place copies (copies .leads c s) z
           → future c s w x → future (copies .leads c s) z w x
 
+-- ---- C-13: what a START can precede
+
+module _ {t : Table} (copies : Copies t) (reaches : ℕ → Type 0) where
+  -- the copies that hold a START, or reach one by CALLs. The least such set
+  pub record ReachRules : Type 0 where
+    pub by-start : (c s q : ℕ) → Place copies c s → starts (view (statement t s)) ≡ To q → reaches c
+    pub by-call : (c s q : ℕ) → Place copies c s → calls (view (statement t s)) ≡ To q → reaches (copies .leads c s) → reaches c
+
+  -- statement s of copy c is "a START or a CALL that reaches one by CALLs"
+  abbrev pub Brings : ℕ → ℕ → Statement → Type 0
+  Brings c s σ = On (starts (view σ)) (λ q. Unit {0}) ⊎ On (calls (view σ)) (λ q. reaches (copies .leads c s))
+
+  -- "A START can precede a statement if its routine is named by a START, if a START can precede some CALL of its routine, or if it may follow, in its
+  -- routine, a START or a CALL that reaches one by CALLs", in one step or more. The least such sets of statements
+  pub record PrecededRules (preceded : ℕ → ℕ → Type 0) : Type 0 where
+    pub by-start : (c s z q : ℕ) → Place copies c s → starts (view (statement t s)) ≡ To q → Place copies (copies .leads c s) z
+        → preceded (copies .leads c s) z
+    pub by-call : (c s z q : ℕ) → Place copies c s → calls (view (statement t s)) ≡ To q → Place copies (copies .leads c s) z → preceded c s
+        → preceded (copies .leads c s) z
+    pub next : (c s s′ : ℕ) → Place copies c s → Place copies c s′ → Goes s (statement t s) s′ → Brings c s (statement t s) → preceded c s′
+    pub later : (c s s′ : ℕ) → Place copies c s → Place copies c s′ → Goes s (statement t s) s′ → preceded c s → preceded c s′
+
 -- ---- shared, common locks, stray
 
 -- two sets of reads and writes "both touch it and one of them writes it"
