@@ -14,8 +14,10 @@ use Rattle.report.specs.Flow.{flowAt, flowSets}
 use Rattle.report.specs.Effect.{effects, gives}
 use Rattle.report.specs.Held.{allLocks, heldSets}
 use Rattle.report.specs.Future.{futures}
+use Rattle.report.specs.Preceded.{reachSets, precededSets, isPreceded}
 
--- all sets of a table: flow by handle; reads, writes and given locks by copy; held locks and futures by statement
+-- all sets of a table: flow by handle; reads, writes and given locks by copy; held locks and futures by statement; whether a START is reached, by copy,
+-- and whether one can precede, by statement
 pub record Sets : Type 0 where
   pub flow : List ℕ
   pub reads : List ℕ
@@ -24,6 +26,8 @@ pub record Sets : Type 0 where
   pub held : List ℕ
   pub futureReads : List ℕ
   pub futureWrites : List ℕ
+  pub reach : List ℕ
+  pub preceded : List ℕ
 
 -- each is computed once, out of those before it
 unfoldable pub setsOf : Table → Layout → Sets
@@ -32,6 +36,7 @@ setsOf t k =
     let reads = effects t k flow reading in
     let writes = effects t k flow writing in
     let given = gives t k flow in
+    let reach = reachSets t k in
     record {
       flow = flow;
       reads = reads;
@@ -40,6 +45,8 @@ setsOf t k =
       held = heldSets t k flow given;
       futureReads = futures t k flow reads reading;
       futureWrites = futures t k flow writes writing;
+      reach = reach;
+      preceded = precededSets t k reach;
     }
 
 -- ---- shared
@@ -70,10 +77,14 @@ ownAccess t k a w p = accessed w (flowAt k (a .flow) (k .statementCopy p)) (stat
 unfoldable pub touchesAt : Table → Layout → Sets → ℕ → ℕ → Bool
 touchesAt t k a x p = has (ownAccess t k a reading p) x || has (ownAccess t k a writing p) x
 
--- "Common locks of a cell: the intersection of the held sets of all its access statements; all locks if there are none"
+-- C-13: "Leave an access out of the common locks if no START can precede it": the statement at a place is a counted access of cell x
+unfoldable pub countedAt : Table → Layout → Sets → ℕ → ℕ → Bool
+countedAt t k a x p = touchesAt t k a x p && isPreceded k (a .preceded) p
+
+-- "Common locks of a cell: the intersection of the held sets of all its access statements; all locks if there are none", those that are counted
 unfoldable pub commonLocks : Table → Layout → Sets → ℕ → ℕ
 commonLocks t k a x =
-    interFrom (allLocks t) 0 (k .statements) (λ p. cond (touchesAt t k a x p) (getD (a .held) p 0) (allLocks t))
+    interFrom (allLocks t) 0 (k .statements) (λ p. cond (countedAt t k a x p) (getD (a .held) p 0) (allLocks t))
 
 -- unguarded: shared, and no lock is common
 unfoldable pub isUnguarded : ℕ → ℕ → ℕ → Bool

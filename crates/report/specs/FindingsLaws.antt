@@ -15,7 +15,7 @@ use Rattle.table.specs.ViewLaws.{test-is}
 use Rattle.table.specs.Accepted.{Accepted}
 use Rattle.table.specs.declared.Reference.the-variants.{To}
 use Rattle.report.specs.Over.{unionAt}
-use Rattle.report.specs.OverLaws.{never, none-in, both-true, true-both, not-has, inter-at, inter-inside, inter-has, unionAt-has, unionAt-from, below-within, within-below}
+use Rattle.report.specs.OverLaws.{never, none-in, both-true, true-both, either, either-left, either-right, not-has, inter-at, inter-inside, inter-has, unionAt-has, unionAt-from, below-within, within-below}
 use Rattle.report.specs.Layout.{Layout}
 use Rattle.report.specs.Fits.{Fits, StatementPlaced, copiesOf}
 use Rattle.report.specs.Operations.{accessed, reading, writing}
@@ -24,7 +24,8 @@ use Rattle.report.specs.FlowLaws.{flow-sets}
 use Rattle.report.specs.EffectLaws.{accessed-accesses, accesses-accessed}
 use Rattle.report.specs.Held.{allLocks}
 use Rattle.report.specs.HeldLaws.{single-only, only-single}
-use Rattle.report.specs.Findings.{Sets, setsOf, sharedCells, ownAccess, touchesAt, commonLocks, isUnguarded, strayBy, strayAt, isStray}
+use Rattle.report.specs.Findings.{Sets, setsOf, sharedCells, ownAccess, touchesAt, countedAt, commonLocks, isUnguarded, strayBy, strayAt, isStray}
+use Rattle.report.specs.Preceded.{isPreceded}
 use Rattle.report.specs.PlaceLaws.{placed, place-at, at-placed, from-placed}
 use Rattle.report.specs.ReportRules.{families}
 use Rattle.report.specs.Rules.{Place, Accesses, Common, Sound}
@@ -48,17 +49,6 @@ single-has s l e =
 pub empty-has {ℓ} : {C : Type ℓ} (s i : ℕ) → isEmpty s ≡ true → has s i ≡ true → C
 unfolding isEmpty
 empty-has s i e h = none-in i (ap (λ (x : ℕ). has x i) (sym (eqb-true s 0 e)) ∙ h)
-
-either : (a b : Bool) → (a || b) ≡ true → (a ≡ true) ⊎ (b ≡ true)
-either true b h = inl refl
-either false b h = inr h
-
-either-left : {a : Bool} (b : Bool) → a ≡ true → (a || b) ≡ true
-either-left b e = rw e
-
-either-right : (a : Bool) {b : Bool} → b ≡ true → (a || b) ≡ true
-either-right true e = refl
-either-right false e = e
 
 module _ (t : Table) (k : Layout) (acc : Accepted t) (fits : Fits t k) where
   abbrev theSets : Sets
@@ -93,28 +83,30 @@ module _ (t : Table) (k : Layout) (acc : Accepted t) (fits : Fits t k) where
       go (inl a) = (false, accessed-accesses t k fits (theSets .flow) flow-below (k .statementCopy p) false x (statement t (k .statementAt p)) a)
       go (inr a) = (true, accessed-accesses t k fits (theSets .flow) flow-below (k .statementCopy p) true x (statement t (k .statementAt p)) a)
 
-  -- ---- common locks: exactly the locks that are held at all accesses
+  -- ---- common locks: exactly the locks that are held at all accesses that a START can precede
 
-  pub common-has : (x l : ℕ) → has (allLocks t) l ≡ true → Common (copiesOf fits) (families t k .flow) (families t k .held) x l
+  pub common-has : (x l : ℕ) → has (allLocks t) l ≡ true → Common (copiesOf fits) (families t k .flow) (families t k .held) (families t k .preceded) x l
       → has (commonLocks t k theSets x) l ≡ true
-  unfolding commonLocks
+  unfolding commonLocks countedAt
   common-has x l a f =
-      inter-has (allLocks t) 0 (k .statements) _ l a (λ p w. go p (within-below w) (touchesAt t k theSets x p) refl)
+      inter-has (allLocks t) 0 (k .statements) _ l a (λ p w. go p (within-below w) (countedAt t k theSets x p) refl)
     where
-      go : (p : ℕ) → p < k .statements → (b : Bool) → touchesAt t k theSets x p ≡ b → has (cond b (getD (theSets .held) p 0) (allLocks t)) l ≡ true
+      go : (p : ℕ) → p < k .statements → (b : Bool) → countedAt t k theSets x p ≡ b → has (cond b (getD (theSets .held) p 0) (allLocks t)) l ≡ true
       go p m true e =
-          let r = touch-accesses p x e in
-          subst (λ (z : ℕ). has (getD (theSets .held) z 0) l ≡ true) (fits .statement-there p m .back)
-          (f (k .statementCopy p) (k .statementAt p) (r .0) (place-at t k fits p m) (r .1))
+          let b = both-true (touchesAt t k theSets x p) (isPreceded k (theSets .preceded) p) e in
+          let r = touch-accesses p x (b .0) in
+          let back : k .statementPlace (k .statementCopy p) (k .statementAt p) ≡ p = fits .statement-there p m .back in
+          subst (λ (z : ℕ). has (getD (theSets .held) z 0) l ≡ true) back
+          (f (k .statementCopy p) (k .statementAt p) (r .0) (place-at t k fits p m) (r .1) (ap (isPreceded k (theSets .preceded)) back ∙ b .1))
       go p m false e = a
 
   pub common-from : (x l : ℕ) → has (commonLocks t k theSets x) l ≡ true
-      → (has (allLocks t) l ≡ true) × Common (copiesOf fits) (families t k .flow) (families t k .held) x l
-  unfolding commonLocks
+      → (has (allLocks t) l ≡ true) × Common (copiesOf fits) (families t k .flow) (families t k .held) (families t k .preceded) x l
+  unfolding commonLocks countedAt
   common-from x l h = (
     inter-inside (allLocks t) 0 (k .statements) _ l h,
-    λ c s w v a.
-        ap (λ (b : Bool). has (cond b (getD (theSets .held) (k .statementPlace c s) 0) (allLocks t)) l) (sym (accesses-touch c s w x v a))
+    λ c s w v a g.
+        ap (λ (b : Bool). has (cond b (getD (theSets .held) (k .statementPlace c s) 0) (allLocks t)) l) (sym (true-both (accesses-touch c s w x v a) g))
         ∙ inter-at (allLocks t) 0 (k .statements) _ (k .statementPlace c s) l (below-within (placed t k fits c s v .there)) h,
   )
 
@@ -127,14 +119,14 @@ module _ (t : Table) (k : Layout) (acc : Accepted t) (fits : Fits t k) where
   -- ---- unguarded: exactly if shared and no lock is common
 
   pub unguarded-is : (x : ℕ) → isUnguarded (sharedCells t k theSets) (commonLocks t k theSets x) x ≡ true
-      → families t k .shared x × ((l : ℕ) → has (allLocks t) l ≡ true → Common (copiesOf fits) (families t k .flow) (families t k .held) x l → ⊥)
+      → families t k .shared x × ((l : ℕ) → has (allLocks t) l ≡ true → Common (copiesOf fits) (families t k .flow) (families t k .held) (families t k .preceded) x l → ⊥)
   unfolding isUnguarded
   unguarded-is x h =
       let b = both-true (has (sharedCells t k theSets) x) (isEmpty (commonLocks t k theSets x)) h in
       (b .0, λ l a c. empty-has (commonLocks t k theSets x) l (b .1) (common-has x l a c))
 
   pub unguarded-if : (x : ℕ) → families t k .shared x
-      → ((l : ℕ) → has (allLocks t) l ≡ true → Common (copiesOf fits) (families t k .flow) (families t k .held) x l → ⊥)
+      → ((l : ℕ) → has (allLocks t) l ≡ true → Common (copiesOf fits) (families t k .flow) (families t k .held) (families t k .preceded) x l → ⊥)
       → isUnguarded (sharedCells t k theSets) (commonLocks t k theSets x) x ≡ true
   unfolding isUnguarded
   unguarded-if x s n = true-both s (go (isEmpty (commonLocks t k theSets x)) refl)
@@ -148,12 +140,12 @@ module _ (t : Table) (k : Layout) (acc : Accepted t) (fits : Fits t k) where
 
   -- a cell that is not unguarded is not shared or has a common lock
   pub guarded-is : (x : ℕ) → isUnguarded (sharedCells t k theSets) (commonLocks t k theSets x) x ≡ false
-      → (families t k .shared x → ⊥) ⊎ ((l : ℕ) × Common (copiesOf fits) (families t k .flow) (families t k .held) x l)
+      → (families t k .shared x → ⊥) ⊎ ((l : ℕ) × Common (copiesOf fits) (families t k .flow) (families t k .held) (families t k .preceded) x l)
   unfolding isUnguarded
   guarded-is x h = go (isEmpty (commonLocks t k theSets x)) refl
     where
       go : (b : Bool) → isEmpty (commonLocks t k theSets x) ≡ b
-          → (families t k .shared x → ⊥) ⊎ ((l : ℕ) × Common (copiesOf fits) (families t k .flow) (families t k .held) x l)
+          → (families t k .shared x → ⊥) ⊎ ((l : ℕ) × Common (copiesOf fits) (families t k .flow) (families t k .held) (families t k .preceded) x l)
       go true e = inl (λ s. never (sym (true-both s e) ∙ h))
       go false e =
           let r = some-element (commonLocks t k theSets x) (common-below x) e in

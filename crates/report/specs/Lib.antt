@@ -27,6 +27,7 @@ pub mod FlowPassesLaws
 pub mod EffectLaws
 pub mod HeldLaws
 pub mod FutureLaws
+pub mod PrecededLaws
 pub mod Unique
 pub mod ReportRules
 pub mod FindingsLaws

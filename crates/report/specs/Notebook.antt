@@ -100,18 +100,22 @@ both-guarded = record {
   report = row 51 0 1 1 1 1 0 0 ∷ row 59 0 0 0 0 0 0 0 ∷ [];
 }
 
--- "A TAKE whose handle may be lock 0 or 1 adds none"
+-- "A TAKE whose handle may be lock 0 or 1 adds none". In front of this table, and of those below that have no START of their own, stands a START of a
+-- routine that only RETURNs: C-13 leaves out what no START can precede
 abbrev pub take-of-two : Case
 take-of-two = record {
   lines =
-      row 1 1 2 3 1 4 0 0
+      row 1 1 2 3 2 6 0 0
       ∷ row 2 0 1 1 0 0 0 0
       ∷ row 2 0 2 1 0 0 0 0
       ∷ row 2 0 2 1 1 0 0 0
-      ∷ row 3 4 0 0 0 0 0 0
+      ∷ row 3 5 0 0 0 0 0 0
+      ∷ row 3 1 0 0 0 0 0 0
+      ∷ row 4 9 1 0 0 0 0 0
       ∷ row 4 7 1 2 0 0 0 0
       ∷ row 4 5 1 0 0 0 0 0
       ∷ row 4 2 0 0 0 0 0 0
+      ∷ row 4 12 0 0 0 0 0 0
       ∷ row 4 12 0 0 0 0 0 0
       ∷ [];
   report = row 51 0 0 1 0 0 0 0 ∷ row 59 0 0 0 0 0 0 0 ∷ [];
@@ -121,13 +125,15 @@ take-of-two = record {
 abbrev pub give-of-two : Case
 give-of-two = record {
   lines =
-      row 1 2 2 5 1 7 0 0
+      row 1 2 2 5 2 9 0 0
       ∷ row 2 0 1 1 0 0 0 0
       ∷ row 2 0 2 1 0 0 0 0
       ∷ row 2 0 2 1 1 0 0 0
       ∷ row 2 0 2 1 0 0 0 0
       ∷ row 2 0 1 1 1 0 0 0
-      ∷ row 3 7 0 0 0 0 0 0
+      ∷ row 3 8 0 0 0 0 0 0
+      ∷ row 3 1 0 0 0 0 0 0
+      ∷ row 4 9 1 0 0 0 0 0
       ∷ row 4 7 1 2 0 0 0 0
       ∷ row 4 5 2 0 0 0 0 0
       ∷ row 4 5 3 0 0 0 0 0
@@ -135,22 +141,26 @@ give-of-two = record {
       ∷ row 4 6 1 0 0 0 0 0
       ∷ row 4 2 0 0 0 0 0 0
       ∷ row 4 12 0 0 0 0 0 0
+      ∷ row 4 12 0 0 0 0 0 0
       ∷ [];
-  report = row 51 0 0 1 0 0 0 0 ∷ row 51 1 1 0 0 3 0 0 ∷ row 52 4 0 0 0 0 0 0 ∷ row 59 0 1 0 0 0 0 0 ∷ [];
+  report = row 51 0 0 1 0 0 0 0 ∷ row 51 1 1 0 0 3 0 0 ∷ row 52 5 0 0 0 0 0 0 ∷ row 59 0 1 0 0 0 0 0 ∷ [];
 }
 
 -- "TAKE, CALL of a routine with no GIVE, WRITE: still held"
 abbrev pub held-over-call : Case
 held-over-call = record {
   lines =
-      row 1 1 1 2 2 5 0 0
+      row 1 1 1 2 3 7 0 0
       ∷ row 2 0 1 1 0 0 0 0
       ∷ row 2 0 2 1 0 0 0 0
-      ∷ row 3 4 0 0 0 0 0 0
+      ∷ row 3 5 0 0 0 0 0 0
       ∷ row 3 1 0 0 0 0 0 0
+      ∷ row 3 1 0 0 0 0 0 0
+      ∷ row 4 9 2 0 0 0 0 0
       ∷ row 4 5 1 0 0 0 0 0
       ∷ row 4 8 1 0 0 0 0 0
       ∷ row 4 2 0 0 0 0 0 0
+      ∷ row 4 12 0 0 0 0 0 0
       ∷ row 4 12 0 0 0 0 0 0
       ∷ row 4 12 0 0 0 0 0 0
       ∷ [];
@@ -171,17 +181,20 @@ notebook-holds = refl
 abbrev pub given-by-call : Case
 given-by-call = record {
   lines =
-      row 1 1 1 3 2 6 0 0
+      row 1 1 1 3 3 8 0 0
       ∷ row 2 0 1 1 0 0 0 0
       ∷ row 2 0 2 1 0 0 0 0
       ∷ row 2 1 2 0 0 0 0 0
-      ∷ row 3 4 0 0 0 0 0 0
+      ∷ row 3 5 0 0 0 0 0 0
       ∷ row 3 2 0 0 0 0 0 0
+      ∷ row 3 1 0 0 0 0 0 0
+      ∷ row 4 9 2 0 0 0 0 0
       ∷ row 4 5 1 0 0 0 0 0
       ∷ row 4 8 1 1 0 0 0 0
       ∷ row 4 2 0 0 0 0 0 0
       ∷ row 4 12 0 0 0 0 0 0
       ∷ row 4 6 2 0 0 0 0 0
+      ∷ row 4 12 0 0 0 0 0 0
       ∷ row 4 12 0 0 0 0 0 0
       ∷ [];
   report = row 51 0 0 1 0 0 0 0 ∷ row 59 0 0 0 0 0 0 0 ∷ [];
@@ -258,20 +271,23 @@ given-by-start = record {
 abbrev pub every-way-in : Case
 every-way-in = record {
   lines =
-      row 1 1 1 3 2 6 0 0
+      row 1 1 1 3 3 8 0 0
       ∷ row 2 0 2 1 0 0 0 0
       ∷ row 2 1 2 0 0 0 0 0
       ∷ row 2 1 1 1 0 0 0 0
+      ∷ row 3 4 0 0 0 0 0 0
       ∷ row 3 3 0 0 0 0 0 0
-      ∷ row 3 3 0 0 0 0 0 0
+      ∷ row 3 1 0 0 0 0 0 0
+      ∷ row 4 9 2 0 0 0 0 0
       ∷ row 4 5 0 0 0 0 0 0
       ∷ row 4 8 1 0 0 0 0 0
       ∷ row 4 12 0 0 0 0 0 0
       ∷ row 4 1 2 0 0 0 0 0
       ∷ row 4 6 1 0 0 0 0 0
-      ∷ row 4 10 3 0 0 0 0 0
+      ∷ row 4 10 4 0 0 0 0 0
+      ∷ row 4 12 0 0 0 0 0 0
       ∷ [];
-  report = row 51 0 1 0 0 0 0 0 ∷ row 52 4 0 0 0 0 0 0 ∷ row 59 0 1 0 0 0 0 0 ∷ [];
+  report = row 51 0 1 0 0 0 0 0 ∷ row 52 5 0 0 0 0 0 0 ∷ row 59 0 1 0 0 0 0 0 ∷ [];
 }
 
 -- the entry is empty for a routine named by a START, though a CALL of it holds a lock
@@ -297,30 +313,36 @@ called-and-started = record {
 abbrev pub no-return : Case
 no-return = record {
   lines =
-      row 1 1 2 1 2 4 0 0
+      row 1 1 2 1 3 6 0 0
       ∷ row 2 0 1 1 0 0 0 0
-      ∷ row 3 3 0 0 0 0 0 0
+      ∷ row 3 4 0 0 0 0 0 0
       ∷ row 3 1 0 0 0 0 0 0
+      ∷ row 3 1 0 0 0 0 0 0
+      ∷ row 4 9 2 0 0 0 0 0
       ∷ row 4 8 1 0 0 0 0 0
       ∷ row 4 2 0 0 0 0 0 0
       ∷ row 4 12 0 0 0 0 0 0
-      ∷ row 4 10 3 0 0 0 0 0
+      ∷ row 4 10 4 0 0 0 0 0
+      ∷ row 4 12 0 0 0 0 0 0
       ∷ [];
   report = row 51 0 0 1 0 3 0 0 ∷ row 59 0 0 0 0 0 0 0 ∷ [];
 }
 
--- a statement that no way leads to counts as an access, and all locks are held there
+-- a statement that no way leads to counts as an access, and all locks are held there: it stands in a routine that is STARTed
 abbrev pub never-reached : Case
 never-reached = record {
   lines =
-      row 1 1 1 1 1 3 0 0
-      ∷ row 2 0 1 1 0 0 0 0
+      row 1 1 2 1 2 5 0 0
+      ∷ row 2 1 1 1 0 0 0 0
+      ∷ row 3 2 0 0 0 0 0 0
       ∷ row 3 3 0 0 0 0 0 0
-      ∷ row 4 10 2 0 0 0 0 0
+      ∷ row 4 9 1 0 0 0 0 0
+      ∷ row 4 12 0 0 0 0 0 0
+      ∷ row 4 10 4 0 0 0 0 0
       ∷ row 4 2 0 0 0 0 0 0
       ∷ row 4 12 0 0 0 0 0 0
       ∷ [];
-  report = row 51 0 0 1 0 1 0 0 ∷ row 59 0 0 0 0 0 0 0 ∷ [];
+  report = row 51 0 0 1 0 3 0 0 ∷ row 59 0 0 0 0 0 0 0 ∷ [];
 }
 
 -- a statement counts once for each cell that its handle may be: READ, WRITE by a handle of cells 0 and 2, READ of cell 2, WRITE of cell 3

@@ -1,7 +1,7 @@
 -- What lists, sets and counts over a range of numbers have in them. Assumes nothing.
 use Prim.Native.Nat.{ℕ, zero, suc, _+_, _^_, _≤_, _<_}
 use mathlib.Core.Path.{_≡_, refl, sym, ap, ap₂, _∙_, subst}
-use mathlib.Core.Bool.{Bool, true, false, _&&_}
+use mathlib.Core.Bool.{Bool, true, false, _&&_, _||_}
 use mathlib.Core.Logic.{_⊎_, inl, inr}
 use mathlib.Core.List.{List, [], _∷_, _++_, List·Memᴰ, List·Memᴰ·head, List·Memᴰ·tail, Memᴰ·append-left, Memᴰ·append-right, List·Memᴰ·append-cases, append-nil, append-assoc}
 use native.Mathlib.Nat.{add-zero, zero-add, suc-add, le-refl}
@@ -29,6 +29,17 @@ both-true false b h = (h, never (sym h))
 
 pub true-both : {a b : Bool} → a ≡ true → b ≡ true → (a && b) ≡ true
 true-both p q = rw (p, q)
+
+pub either : (a b : Bool) → (a || b) ≡ true → (a ≡ true) ⊎ (b ≡ true)
+either true b h = inl refl
+either false b h = inr h
+
+pub either-left : {a : Bool} (b : Bool) → a ≡ true → (a || b) ≡ true
+either-left b e = rw e
+
+pub either-right : (a : Bool) {b : Bool} → b ≡ true → (a || b) ≡ true
+either-right true e = refl
+either-right false e = e
 
 pub not-has : (s x : ℕ) → (has s x ≡ true → ⊥) → has s x ≡ false
 not-has s x d = go (has s x) refl

@@ -23,6 +23,8 @@ use Rattle.report.specs.EffectLaws.{GivesHas, EffectHas, gives-rules, ef
 use Rattle.report.specs.HeldLaws.{HeldHas, held-rules}
 use Rattle.report.specs.Future.{futures}
 use Rattle.report.specs.FutureLaws.{FutureHas, future-rules}
+use Rattle.report.specs.Preceded.{reachSets}
+use Rattle.report.specs.PrecededLaws.{Reaches, Preceded, reach-rules, preceded-rules}
 use Rattle.report.specs.Findings.{Sets, setsOf, clash, sharedAt, sharedCells}
 use Rattle.report.specs.PlaceLaws.{placed, place-at, at-placed}
 use Rattle.report.specs.Rules.{Place, Clash, SharedRules, EffectRules, FutureRules, Families, Rules}
@@ -42,6 +44,8 @@ families t k = record {
   held = HeldHas k (setsOf t k .held);
   effect = EffectHas (effectList (setsOf t k));
   future = FutureHas k (futureList (setsOf t k));
+  reaches = Reaches (setsOf t k .reach);
+  preceded = Preceded k (setsOf t k .preceded);
   shared = λ x. has (sharedCells t k (setsOf t k)) x ≡ true;
 }
 
@@ -178,5 +182,7 @@ module _ (t : Table) (k : Layout) (acc : Accepted t) (fits : Fits t k) where
     held-rules = held-rules t k acc fits (flowSets t k) flow-below (gives t k (flowSets t k));
     effect-rules = the-effect-rules;
     future-rules = the-future-rules;
+    reach-rules = reach-rules t k fits;
+    preceded-rules = preceded-rules t k acc fits (reachSets t k);
     shared-rules = the-shared-rules;
   }

@@ -160,9 +160,11 @@ pub record SharedRules {t : Table} (copies : Copies t) (effect : ℕ → Bool �
     : Type 0 where
   pub at-start : (c s x q : ℕ) → Place copies c s → starts (view (statement t s)) ≡ To q → Clash (effect (copies .leads c s)) (future c s) x → shared x
 
--- "Common locks of a cell: the intersection of the held sets of all its access statements; all locks if there are none": lock k is one of cell x
-abbrev pub Common : {t : Table} (copies : Copies t) (flow held : ℕ → ℕ → ℕ → Type 0) → ℕ → ℕ → Type 0
-Common {t} copies flow held x k = (c s : ℕ) (w : Bool) → Place copies c s → Accesses copies flow c (statement t s) w x → held c s k
+-- "Common locks of a cell: the intersection of the held sets of all its access statements; all locks if there are none", and C-13: "Leave an access out of
+-- the common locks if no START can precede it": lock k is one of cell x
+abbrev pub Common : {t : Table} (copies : Copies t) (flow held : ℕ → ℕ → ℕ → Type 0) (preceded : ℕ → ℕ → Type 0) → ℕ → ℕ → Type 0
+Common {t} copies flow held preceded x k =
+    (c s : ℕ) (w : Bool) → Place copies c s → Accesses copies flow c (statement t s) w x → preceded c s → held c s k
 
 -- a GIVE whose "flow set is one lock that is held there"
 pub record Sound (flow held : ℕ → ℕ → ℕ → Type 0) (c s h : ℕ) : Type 0 where
@@ -179,6 +181,8 @@ pub record Families : Type 1 where
   pub held : ℕ → ℕ → ℕ → Type 0
   pub effect : ℕ → Bool → ℕ → Type 0
   pub future : ℕ → ℕ → Bool → ℕ → Type 0
+  pub reaches : ℕ → Type 0
+  pub preceded : ℕ → ℕ → Type 0
   pub shared : ℕ → Type 0
 
 -- they satisfy the rules
@@ -188,9 +192,11 @@ pub record Rules {t : Table} (copies : Copies t) (f : Families) : Type 0 where
   pub held-rules : HeldRules copies (f .flow) (f .gives) (f .held)
   pub effect-rules : EffectRules copies (f .flow) (f .effect)
   pub future-rules : FutureRules copies (f .flow) (f .effect) (f .future)
+  pub reach-rules : ReachRules copies (f .reaches)
+  pub preceded-rules : PrecededRules copies (f .reaches) (f .preceded)
   pub shared-rules : SharedRules copies (f .effect) (f .future) (f .shared)
 
 -- the report is clean: no cell is unguarded (each is not shared or has a common lock), and no GIVE is stray
 pub record Clean {t : Table} (copies : Copies t) (f : Families) : Type 0 where
-  pub guarded : (x : ℕ) → x < t .cells → (f .shared x → ⊥) ⊎ ((k : ℕ) × Common copies (f .flow) (f .held) x k)
+  pub guarded : (x : ℕ) → x < t .cells → (f .shared x → ⊥) ⊎ ((k : ℕ) × Common copies (f .flow) (f .held) (f .preceded) x k)
   pub not-stray : (c s h : ℕ) → Place copies c s → view (statement t s) .gives ≡ To h → Sound (f .flow) (f .held) c s h

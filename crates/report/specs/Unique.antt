@@ -17,7 +17,9 @@ use Rattle.report.specs.Held.{heldSets}
 use Rattle.report.specs.HeldLaws.{HeldHas, held-rules, held-greatest}
 use Rattle.report.specs.Future.{futures}
 use Rattle.report.specs.FutureLaws.{FutureHas, future-rules, future-least}
-use Rattle.report.specs.Rules.{Copies, Place, FlowRules, GivesRules, HeldRules, EffectRules, FutureRules}
+use Rattle.report.specs.Preceded.{reachSets, precededSets}
+use Rattle.report.specs.PrecededLaws.{Reaches, Preceded, reach-rules, reach-least, preceded-rules, preceded-least}
+use Rattle.report.specs.Rules.{Copies, Place, FlowRules, GivesRules, HeldRules, EffectRules, FutureRules, ReachRules, PrecededRules}
 
 module _ (t : Table) (k : Layout) (acc : Accepted t) (fits : Fits t k) where
   abbrev copies : Copies t
@@ -78,3 +80,23 @@ module _ (t : Table) (k : Layout) (acc : Accepted t) (fits : Fits t k) where
         held-greatest t k acc fits flow below given f (g .rules) c s x v,
         g .contains (HeldHas k (heldSets t k flow given)) (held-rules t k acc fits flow below given) c s x v,
       )
+
+  -- the least set of copies that hold a START, or reach one by CALLs
+  pub record LeastReach (f : ℕ → Type 0) : Type 1 where
+    pub rules : ReachRules copies f
+    pub inside : (other : ℕ → Type 0) → ReachRules copies other → (c : ℕ) → c < k .copies → f c → other c
+
+  pub reach-unique : (f : ℕ → Type 0) → LeastReach f → (c : ℕ) → c < k .copies → f c ↔ Reaches (reachSets t k) c
+  reach-unique f l c b = (l .inside (Reaches (reachSets t k)) (reach-rules t k fits) c b, reach-least t k fits f (l .rules) c b)
+
+  -- the least set of statements that a START can precede
+  module _ (reach : List ℕ) where
+    pub record LeastPreceded (f : ℕ → ℕ → Type 0) : Type 1 where
+      pub rules : PrecededRules copies (Reaches reach) f
+      pub inside : (other : ℕ → ℕ → Type 0) → PrecededRules copies (Reaches reach) other → (c s : ℕ) → Place copies c s → f c s → other c s
+
+    pub preceded-unique : (f : ℕ → ℕ → Type 0) → LeastPreceded f → (c s : ℕ) → Place copies c s → f c s ↔ Preceded k (precededSets t k reach) c s
+    preceded-unique f l c s v = (
+      l .inside (Preceded k (precededSets t k reach)) (preceded-rules t k acc fits reach) c s v,
+      preceded-least t k acc fits reach f (l .rules) c s v,
+    )

@@ -16,8 +16,9 @@ use Rattle.report.specs.Operations.{nexts, reading, writing, accessed, g
 use Rattle.report.specs.Flow.{startOf, passing, flowEdges, allFlowEdges, flowInitials, flowSets}
 use Rattle.report.specs.Effect.{overCopy, namingEdges, callEdges, effects, gives, effectOf}
 use Rattle.report.specs.Future.{nextEffects, futureEdges, futureInitials, futures}
+use Rattle.report.specs.Preceded.{reachEdges, reachSets, bringsStart, precedingEdges, precededSets}
 use Rattle.report.specs.Held.{entry, atReturns, gained, lost, heldAfter, waysFrom, allWays, heldSets}
-use Rattle.report.specs.Findings.{Sets, setsOf, sharedAt, sharedCells, ownAccess, touchesAt, commonLocks, strayBy, strayAt, statementAccess, accessCount, isStray}
+use Rattle.report.specs.Findings.{Sets, setsOf, sharedAt, sharedCells, ownAccess, touchesAt, countedAt, commonLocks, strayBy, strayAt, statementAccess, accessCount, isStray}
 use Rattle.report.specs.Report.{cellLine, cellLines, strayLines, findingLines, linesFor, reportLines, reportText}
 
 -- the tables have the same parts, and their statements, one by one, what R says of two
@@ -75,10 +76,19 @@ module _ (t u : Table) (alike : Alike t u) where
     unfolding heldSets allWays waysFrom entry heldAfter gained lost atReturns nexts
     held-by-view flow freed = simp (views-same, routines-same, locks-same, entry)
 
+    -- what a START can precede
+    reach-by-view : reachSets t k ≡ reachSets u k
+    unfolding reachSets reachEdges
+    reach-by-view = simp views-same
+
+    preceded-by-view : (reach : List ℕ) → precededSets t k reach ≡ precededSets u k reach
+    unfolding precededSets precedingEdges bringsStart nexts
+    preceded-by-view reach = simp views-same
+
     -- all sets
     sets-by-view : setsOf t k ≡ setsOf u k
     unfolding setsOf
-    sets-by-view = simp (flow-by-view, effects-by-view, gives-by-view, held-by-view, futures-by-view)
+    sets-by-view = simp (flow-by-view, effects-by-view, gives-by-view, held-by-view, futures-by-view, reach-by-view, preceded-by-view)
 
     -- the findings
     shared-by-view : (a : Sets) → sharedAt t k a ≡ sharedAt u k a
@@ -94,7 +104,7 @@ module _ (t u : Table) (alike : Alike t u) where
     touches-by-view a x p = rw (access-by-view a reading, access-by-view a writing)
 
     findings-by-view : (a : Sets) → cellLines t k a ++ strayLines t k a ≡ cellLines u k a ++ strayLines u k a
-    unfolding cellLines cellLine accessCount statementAccess commonLocks sharedCells strayLines isStray strayAt strayBy
+    unfolding cellLines cellLine accessCount statementAccess commonLocks countedAt sharedCells strayLines isStray strayAt strayBy
     findings-by-view a = simp (views-same, cells-same, locks-same, count-same, shared-by-view, access-by-view, touches-by-view)
 
     -- the lines
