@@ -4,7 +4,7 @@ use native.Mathlib.Omega.{arith}
 use mathlib.Core.Path.{_≡_, sym, ap, _∙_, subst}
 use mathlib.Core.Bool.{cond}
 use mathlib.Core.List.{List, [], _∷_}
-use mathlib.Core.Logic.{⊎-elim}
+use mathlib.Core.Logic.{inr, ⊎-elim}
 use lib.Dec.{eqb}
 use borrow.Author.Tests.{eq-eqb}
 use lib.ListN.{getD, length, set}
@@ -17,7 +17,7 @@ use Rattle.machine.specs.Lists.{set-case}
 use Rattle.machine.specs.State.{Holder, entered, opened}
 use Rattle.report.specs.Rules.{Copies, Families, Rules, Passing}
 use Rattle.table.specs.TabulateLaws.{getD-tabulate}
-use Rattle.guarantee.specs.Invariant.{Mark, Fits, Valued, Has, AllWait, Good}
+use Rattle.guarantee.specs.Invariant.{Mark, Fits, Valued, Has, AllWait, Good, Called}
 
 module _ {t : Table} (copies : Copies t) (f : Families) (rules : Rules copies f) where
   -- older frames survive when only locks are lost that the frame above may give up
@@ -49,6 +49,16 @@ module _ {t : Table} (copies : Copies t) (f : Families) (rules : Rules copies f)
   good-still locks locks′ n (m ∷ ms) keep (here, below) = (
     record { here = here .here; valued = here .valued; holds = λ k held. keep k (here .holds k held) },
     wait-still locks locks′ n (m .copy) ms (λ k kept. keep k) below,
+  )
+
+  -- below a copy that holds or reaches a START, so does every copy that waits
+  pub reaching-called : (locks : List Holder) (n d : ℕ) (ms : List Mark) → AllWait copies f locks n d ms → f .reaches d → Called copies f d ms
+  reaching-called locks n d [] wait reaches = tt
+  reaching-called locks n d (m ∷ ms) (here, below) reaches = (
+    inr reaches,
+    reaching-called locks n (m .copy) ms below
+        (rules .reach-rules .by-call (m .copy) (m .place) (here .named) (here .here) (ap (λ (σ : Statement). calls (view σ)) (here .calls))
+        (subst (f .reaches) (sym (here .leads)) reaches)),
   )
 
 -- ---- the values of a new frame

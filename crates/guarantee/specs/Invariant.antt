@@ -1,5 +1,5 @@
--- What holds of every state that a run reaches: the shape of the stacks, the values of the handles, the locks, and what threads may still touch.
--- Assumes nothing.
+-- What holds of every state that a run reaches: the shape of the stacks, the values of the handles, the locks, what threads may still touch, and what a START
+-- can precede. Assumes nothing.
 use Prim.Native.Nat.{ℕ, _+_, _<_}
 use mathlib.Core.Path.{_≡_}
 use mathlib.Core.Bool.{Bool}
@@ -18,6 +18,10 @@ pub record Mark : Type 0 where
   pub copy : ℕ
   pub place : ℕ
   pub values : List ℕ
+
+-- more than one thread was started; ended ones count too
+abbrev pub Several : State → Type 0
+Several state = 1 < length (state .threads)
 
 module _ {t : Table} (copies : Copies t) (f : Families) where
   -- ---- shape: the frames that marks stand for, the newest first
@@ -97,6 +101,18 @@ module _ {t : Table} (copies : Copies t) (f : Families) where
   Potential [] w x = ⊥
   Potential (m ∷ ms) w x = Ahead (m .copy) (m .place) w x ⊎ Left ms w x
 
+  -- ---- what a START can precede
+
+  -- the older frames, below copy d: a START can precede the CALL that waits, or d holds or reaches one
+  abbrev pub Called : ℕ → List Mark → Type 0
+  Called d [] = Unit {0}
+  Called d (m ∷ ms) = (f .preceded (m .copy) (m .place) ⊎ f .reaches d) × Called (m .copy) ms
+
+  -- the newest frame: a START can precede its next statement
+  abbrev pub Behind : List Mark → Type 0
+  Behind [] = Unit {0}
+  Behind (m ∷ ms) = f .preceded (m .copy) (m .place) × Called (m .copy) ms
+
   -- ---- the invariant of a state, with the marks of each thread
 
   pub record Invariant (state : State) (marks : ℕ → List Mark) : Type 0 where
@@ -104,3 +120,4 @@ module _ {t : Table} (copies : Copies t) (f : Families) where
     pub shape : (n : ℕ) → thread state n .frames ≡ frames (marks n)
     pub good : (n : ℕ) → Good (state .locks) n (marks n)
     pub apart : (m n x : ℕ) → (m ≡ n → ⊥) → Clash (Potential (marks m)) (Potential (marks n)) x → f .shared x
+    pub behind : Several state → (n : ℕ) → Behind (marks n)

@@ -4,7 +4,7 @@ use native.Mathlib.Omega.{arith}
 use mathlib.Core.Path.{_≡_, refl, sym, ap, _∙_, subst}
 use mathlib.Core.Bool.{Bool, true, false, cond}
 use mathlib.Core.List.{List, [], _∷_}
-use mathlib.Core.Logic.{inl, inr, ⊎-elim}
+use mathlib.Core.Logic.{_⊎_, inl, inr, ⊎-elim}
 use lib.Dec.{eqb}
 use lib.IntN.{ℤ, pos}
 use lib.ListN.{getD, length, set, length-set}
@@ -25,10 +25,11 @@ use Rattle.machine.specs.Lists.{set-case}
 use Rattle.machine.specs.Step.{Answer, moved, refused, operate, taking, giving, with-thread, after, isZero}
 use Rattle.report.specs.Rules.{Copies, Place, Goes, After, Clash, Families, Rules, Passing}
 use Rattle.guarantee.specs.Lists.{replaced, replaced-all}
-use Rattle.guarantee.specs.Invariant.{Mark, newest, waiting, older, Fits, Valued, Has, Stands, AllWait, Good, Left, Potential, Invariant}
+use Rattle.guarantee.specs.Invariant.{Mark, Several, newest, waiting, older, Fits, Valued, Has, Stands, AllWait, Good, Left, Potential}
+use Rattle.guarantee.specs.Invariant.{Called, Behind, Invariant}
 use Rattle.guarantee.specs.Shrink.{clash-wider, goes-place, first-place, ahead-in-effect, ahead-follows, inside-in-future, left-in-future}
-use Rattle.guarantee.specs.Frames.{wait-still, opened-valued, passed-fits, pointed-valued}
-use Rattle.guarantee.specs.Threads.{thread-changed, thread-added}
+use Rattle.guarantee.specs.Frames.{wait-still, reaching-called, opened-valued, passed-fits, pointed-valued}
+use Rattle.guarantee.specs.Threads.{others-behind, thread-changed, thread-added}
 
 -- the invariant holds after an answer, for some marks
 abbrev pub Kept : {t : Table} (copies : Copies t) (f : Families) → State → Answer → Type 0
@@ -51,6 +52,15 @@ module _ {t : Table} (accepted : Accepted t) (copies : Copies t) (f : Families) 
 
   below : AllWait copies f (state .locks) n (m .copy) ms
   below = good .1
+
+  behind : Several state → Behind copies f (m ∷ ms)
+  behind several = subst (Behind copies f) e (inv .behind several n)
+
+  top-preceded : Several state → f .preceded (m .copy) (m .place)
+  top-preceded several = behind several .0
+
+  below-called : Several state → Called copies f (m .copy) ms
+  below-called several = behind several .1
 
   -- what the operation's statement says of its operands
   operands : (σ : Statement) → statement t (m .place) ≡ σ → Operands t (copies .of (m .copy)) σ
@@ -87,9 +97,15 @@ module _ {t : Table} (accepted : Accepted t) (copies : Copies t) (f : Families) 
   in-frame s values b cells locks σ eq g all valued holds wait others = (
     replaced marks n (record { copy = m .copy; place = s; values = values } ∷ ms),
     thread-changed copies f rules state marks inv n there b _ cells locks (record { copy = m .copy; place = s; values = values } ∷ ms) refl all
-        (record { here = goes-place accepted copies (top .here) (goes-as σ eq s g); valued = valued; holds = holds }, wait) others
-        (λ w x p. before w x (stays-within s values (goes-as σ eq s g) w x p)),
+        (record { here = to; valued = valued; holds = holds }, wait) others (λ w x p. before w x (stays-within s values goes w x p))
+        (λ several. (rules .preceded-rules .later (m .copy) (m .place) s (top .here) to goes (top-preceded several), below-called several)),
   )
+    where
+      goes : Goes (m .place) (statement t (m .place)) s
+      goes = goes-as σ eq s g
+
+      to : Place copies (m .copy) s
+      to = goes-place accepted copies (top .here) goes
 
   -- a statement that takes nothing and calls nothing adds no lock
   adds-none : (k : ℕ) (σ : Statement) → view σ .takes ≡ Nothing → calls (view σ) ≡ Nothing
@@ -258,9 +274,9 @@ module _ {t : Table} (accepted : Accepted t) (copies : Copies t) (f : Families) 
     thread-changed copies f rules state marks inv n there a _ (state .cells) (state .locks) (new ∷ m ∷ ms)
         (ap (λ (g : Frame). g ∷ waiting copies f m ∷ older copies f ms) (callee-frame σ eq q arguments refl passes passing)) (inv .all-locks) (
           record {
-            here = callee-place σ eq q arguments refl passes passing;
+            here = new-place;
             valued = callee-valued σ eq q arguments refl passes passing;
-            holds = λ k held. top .holds k (rules .held-rules .by-call (m .copy) (m .place) k q (top .here) (ap (λ (τ : Statement). calls (view τ)) eq) held);
+            holds = λ k held. top .holds k (rules .held-rules .by-call (m .copy) (m .place) k q (top .here) calls-q held);
           },
           (
             record {
@@ -275,11 +291,18 @@ module _ {t : Table} (accepted : Accepted t) (copies : Copies t) (f : Families) 
             below,
           ),
         )
-        (λ o k other has. has) (λ w x p. before w x (within w x p)),
+        (λ o k other has. has) (λ w x p. before w x (within w x p))
+        (λ several. (
+          rules .preceded-rules .by-call (m .copy) (m .place) (new .place) q (top .here) calls-q new-place (top-preceded several),
+          (inl (top-preceded several), below-called several),
+        )),
   )
     where
       σ : Statement
       σ = Call q arguments
+
+      calls-q : calls (view (statement t (m .place))) ≡ To q
+      calls-q = ap (λ (τ : Statement). calls (view τ)) eq
 
       passes : Passes t (copies .of (m .copy)) q arguments
       passes = operands σ eq .passes q refl
@@ -290,28 +313,32 @@ module _ {t : Table} (accepted : Accepted t) (copies : Copies t) (f : Families) 
       new : Mark
       new = callee σ eq q arguments refl passes passing
 
+      new-place : Place copies (new .copy) (new .place)
+      new-place = callee-place σ eq q arguments refl passes passing
+
       within : (w : Bool) (x : ℕ) → Potential copies f (new ∷ m ∷ ms) w x → Potential copies f (m ∷ ms) w x
       within w x (inl ahead) =
-          inl (inl (inr (q, ap (λ (τ : Statement). view τ .names) eq, ahead-in-effect accepted copies f rules (callee-place σ eq q arguments refl passes passing) ahead)))
+          inl (inl (inr (q, ap (λ (τ : Statement). view τ .names) eq, ahead-in-effect accepted copies f rules new-place ahead)))
       within w x (inr (inl inside)) = inl (inr inside)
       within w x (inr (inr left)) = inr left
 
   returned : statement t (m .place) ≡ Return → Kept copies f state (moved (with-thread state n a (older copies f ms) (state .cells) (state .locks)))
-  returned eq = go ms below (λ w x left. before w x (inr left))
+  returned eq = go ms below (λ w x left. before w x (inr left)) below-called
     where
       go : (cs : List Mark) → AllWait copies f (state .locks) n (m .copy) cs
-          → ((w : Bool) (x : ℕ) → Left copies f cs w x → Potential copies f (marks n) w x)
+          → ((w : Bool) (x : ℕ) → Left copies f cs w x → Potential copies f (marks n) w x) → (Several state → Called copies f (m .copy) cs)
           → Kept copies f state (moved (with-thread state n a (older copies f cs) (state .cells) (state .locks)))
-      go [] wait less = (
+      go [] wait less were = (
         replaced marks n [],
         thread-changed copies f rules state marks inv n there a [] (state .cells) (state .locks) [] refl (inv .all-locks) tt (λ o k other has. has)
-            (λ w x p. absurd p),
+            (λ w x p. absurd p) (λ several. tt),
       )
-      go (c ∷ cs) (wait, under) less = (
+      go (c ∷ cs) (wait, under) less were = (
         replaced marks n (back ∷ cs),
         thread-changed copies f rules state marks inv n there a _ (state .cells) (state .locks) (back ∷ cs) refl (inv .all-locks)
             (record { here = back-place; valued = wait .valued; holds = holds }, under) (λ o k other has. has)
-            (λ w x p. less w x (⊎-elim (λ ahead. inl (ahead-follows accepted copies f rules back-place goes ahead)) (λ left. inr left) p)),
+            (λ w x p. less w x (⊎-elim (λ ahead. inl (ahead-follows accepted copies f rules back-place goes ahead)) (λ left. inr left) p))
+            (λ several. (back-preceded (were several .0), were several .1)),
       )
         where
           back : Mark
@@ -322,6 +349,13 @@ module _ {t : Table} (accepted : Accepted t) (copies : Copies t) (f : Families) 
 
           back-place : Place copies (c .copy) (c .place + 1)
           back-place = goes-place accepted copies (wait .here) goes
+
+          -- a START can precede the CALL, or came while it waited
+          back-preceded : f .preceded (c .copy) (c .place) ⊎ f .reaches (m .copy) → f .preceded (c .copy) (c .place + 1)
+          back-preceded (inl was) = rules .preceded-rules .later (c .copy) (c .place) (c .place + 1) (wait .here) back-place goes was
+          back-preceded (inr reaches) =
+              rules .preceded-rules .next (c .copy) (c .place) (c .place + 1) (wait .here) back-place goes
+              (inr (wait .named, ap (λ (τ : Statement). calls (view τ)) (wait .calls), subst (f .reaches) (sym (wait .leads)) reaches))
 
           holds-after : (k : ℕ) → After copies (f .flow) (f .gives) (f .held) (c .copy) (c .place) k (Call (wait .named) (wait .arguments))
               → Has copies f (state .locks) n k
@@ -348,14 +382,17 @@ module _ {t : Table} (accepted : Accepted t) (copies : Copies t) (f : Families) 
           record {
             here = new-place;
             valued = callee-valued σ eq q arguments refl passes passing;
-            holds = λ k held. absurd (rules .held-rules .by-start (m .copy) (m .place) k q (top .here) (ap (λ (τ : Statement). starts (view τ)) eq) held);
+            holds = λ k held. absurd (rules .held-rules .by-start (m .copy) (m .place) k q (top .here) starts-q held);
           },
           tt,
-        ) parted,
+        ) parted (λ some-thread. ((rules .preceded-rules .by-start (m .copy) (m .place) (new .place) q (top .here) starts-q new-place, tt), all-behind)),
   )
     where
       σ : Statement
       σ = Start q arguments
+
+      starts-q : starts (view (statement t (m .place))) ≡ To q
+      starts-q = ap (λ (τ : Statement). starts (view τ)) eq
 
       passes : Passes t (copies .of (m .copy)) q arguments
       passes = operands σ eq .passes q refl
@@ -397,9 +434,18 @@ module _ {t : Table} (accepted : Accepted t) (copies : Copies t) (f : Families) 
       parted : (o x : ℕ) → Clash (Potential copies f (new ∷ [])) (Potential copies f (replaced marks n (on ∷ ms) o)) x → f .shared x
       parted o x =
           replaced-all (λ o s. Clash (Potential copies f (new ∷ [])) (Potential copies f s) x → f .shared x) marks n (on ∷ ms)
-          (λ clash. rules .shared-rules .at-start (m .copy) (m .place) x q (top .here) (ap (λ (τ : Statement). starts (view τ)) eq)
+          (λ clash. rules .shared-rules .at-start (m .copy) (m .place) x q (top .here) starts-q
           (clash-wider (λ w. in-effect w x) (λ w. in-future w x) clash))
           (λ o other clash. inv .apart n o x (λ same. other (sym same)) (clash-wider (λ w. from-starter w x) (λ w p. p) clash)) o
+
+      -- a START can precede the starter's next statement, each CALL of it that waits reaches one, and the others had the starter beside them
+      all-behind : (o : ℕ) → Behind copies f (replaced marks n (on ∷ ms) o)
+      all-behind =
+          replaced-all (λ o s. Behind copies f s) marks n (on ∷ ms) (
+            rules .preceded-rules .next (m .copy) (m .place) (m .place + 1) (top .here) on-place goes (inl (q, starts-q, tt)),
+            reaching-called copies f rules (state .locks) n (m .copy) ms below (rules .reach-rules .by-start (m .copy) (m .place) q (top .here) starts-q),
+          )
+          (λ o other. others-behind copies f rules state marks inv n o there other)
 
   -- ---- every operation
 

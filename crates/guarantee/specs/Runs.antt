@@ -70,6 +70,7 @@ module _ {t : Table} (accepted : Accepted t) (copies : Copies t) (f : Families) 
         shape = λ n. refl;
         good = λ n. tt;
         apart = λ m n x other clash. absurd (clash .touches);
+        behind = λ several. absurd (omega arith);
       }
 
   main-stands : (locks : List Holder) → Stands copies f locks 0 main-mark
@@ -93,5 +94,6 @@ module _ {t : Table} (accepted : Accepted t) (copies : Copies t) (f : Families) 
   start-keeps = (
     _,
     thread-added copies f rules no-threads (λ n. []) nobody (pos 0) (opened t 0 [] no-arguments ∷ []) (main-mark ∷ [])
-        (ap (λ (g : Frame). g ∷ []) main-frame) (main-stands (no-threads .locks), tt) (λ m x clash. absurd (clash .touches-too)),
+        (ap (λ (g : Frame). g ∷ []) main-frame) (main-stands (no-threads .locks), tt) (λ m x clash. absurd (clash .touches-too))
+        (λ some-thread. absurd (omega arith)),
   )

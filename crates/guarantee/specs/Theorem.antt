@@ -4,20 +4,24 @@ use mathlib.Core.Path.{_≡_, sym, subst, _∙_}
 use mathlib.Core.Bool.{Bool, true, false}
 use mathlib.Core.List.{List, [], _∷_}
 use mathlib.Core.Logic.{_⊎_, inl, ⊎-elim}
+use native.Mathlib.Omega.{arith}
+use lib.ListN.{length}
 use Rattle.table.specs.Table.{Table, statement}
 use Rattle.table.specs.View.{view, accesses}
 use Rattle.table.specs.declared.Reference.the-variants.{To}
 use Rattle.table.specs.Accepted.{Accepted, Operands, OwnOfKind}
 use Rattle.table.specs.declared.Statement.{Statement}
-use Rattle.machine.specs.State.{State, holder, start}
+use Rattle.machine.specs.State.{State, holder, thread, start}
 use Rattle.machine.specs.Step.{run}
 use Rattle.machine.specs.Words.{AccessIn, ReleaseIn, Next, Access, Release, Holds, Safe}
 use Rattle.report.specs.Rules.{Copies, Place, Accesses, Families, Rules, Clean}
-use Rattle.guarantee.specs.Invariant.{Mark, newest, frames, Fits, Stands, Good, Potential, Invariant}
+use Rattle.guarantee.specs.Invariant.{Mark, Several, newest, frames, Fits, Stands, Good, Potential, Behind, Invariant}
+use Rattle.guarantee.specs.Threads.{with-frames-started}
 use Rattle.guarantee.specs.Operations.{one-holder}
 use Rattle.guarantee.specs.Runs.{run-keeps, start-keeps}
 
--- what the invariant says of a thread that stands before an access: where it stands, that the access is one by flow sets, and that it may touch the cell
+-- what the invariant says of a thread that stands before an access: where it stands, that the access is one by flow sets, that it may touch the cell, that
+-- it was started, and that with another one a START can precede the access
 record Before {t : Table} (copies : Copies t) (f : Families) (state : State) (n : ℕ) (ms : List Mark) (w : Bool) (x : ℕ) : Type 0 where
   copy : ℕ
   place : ℕ
@@ -26,6 +30,8 @@ record Before {t : Table} (copies : Copies t) (f : Families) (state : State) (n 
   is-cell : x < t .cells
   touches : Potential copies f ms w x
   holds : (k : ℕ) → f .held copy place k → Holds state n k
+  started : n < length (state .threads)
+  preceded : Several state → f .preceded copy place
 
 module _ {t : Table} (accepted : Accepted t) (copies : Copies t) (f : Families) (rules : Rules copies f) where
   operands : (m : Mark) → Place copies (m .copy) (m .place) → Operands t (copies .of (m .copy)) (statement t (m .place))
@@ -43,10 +49,11 @@ module _ {t : Table} (accepted : Accepted t) (copies : Copies t) (f : Families) 
       accessed-own true h is = ops .writes h is
       accessed-own false h is = ops .reads h is
 
-  access-before : (state : State) (n : ℕ) (w : Bool) (x : ℕ) (ms : List Mark) → Good copies f (state .locks) n ms
-      → Next t (λ g σ. AccessIn g σ w x) (frames copies f ms) → Before copies f state n ms w x
-  access-before state n w x [] good access = absurd access
-  access-before state n w x (m ∷ ms) (top, below) access =
+  access-before : (state : State) (n : ℕ) (w : Bool) (x : ℕ) (ms : List Mark) → thread state n .frames ≡ frames copies f ms
+      → Good copies f (state .locks) n ms → (Several state → Behind copies f ms) → Next t (λ g σ. AccessIn g σ w x) (frames copies f ms)
+      → Before copies f state n ms w x
+  access-before state n w x [] shape good behind access = absurd access
+  access-before state n w x (m ∷ ms) shape (top, below) behind access =
       let known = by-flow state n m w x top (statement t (m .place)) (operands m (top .here)) access in
       record {
         copy = m .copy;
@@ -56,6 +63,8 @@ module _ {t : Table} (accepted : Accepted t) (copies : Copies t) (f : Families) 
         is-cell = known .1;
         touches = inl (inl (inl (known .0)));
         holds = top .holds;
+        started = with-frames-started (state .threads) n shape;
+        preceded = λ several. behind several .0;
       }
 
   -- a release of a GIVE that is not stray is of the lock that is held
@@ -79,19 +88,21 @@ module _ {t : Table} (accepted : Accepted t) (copies : Copies t) (f : Families) 
     where
       before : (n : ℕ) (w : Bool) (x : ℕ) → Access t state n w x → Before copies f state n (marks n) w x
       before n w x access =
-          access-before state n w x (marks n) (inv .good n) (subst (Next t (λ g σ. AccessIn g σ w x)) (inv .shape n) access)
+          access-before state n w x (marks n) (inv .shape n) (inv .good n) (λ several. inv .behind several n)
+          (subst (Next t (λ g σ. AccessIn g σ w x)) (inv .shape n) access)
 
       no-race : (m n x : ℕ) (v w : Bool) → (m ≡ n → ⊥) → Access t state m v x → Access t state n w x → (v ≡ true) ⊎ (w ≡ true) → ⊥
-      no-race m n x v w other one two writes =
+      no-race m n x v w other one another writes =
           let here = before m v x one in
-          let too = before n w x two in
+          let too = before n w x another in
+          let several : Several state = omega (arith, here .started, too .started) in
           ⊎-elim
           (λ unshared. unshared
           (inv .apart m n x other (record { v = v; w = w; touches = here .touches; touches-too = too .touches; one-writes = writes })))
           (λ lock. other
           (one-holder (holder state (lock .0)) m n
-          (here .holds (lock .0) (lock .1 (here .copy) (here .place) v (here .here) (here .accesses)))
-          (too .holds (lock .0) (lock .1 (too .copy) (too .place) w (too .here) (too .accesses)))))
+          (here .holds (lock .0) (lock .1 (here .copy) (here .place) v (here .here) (here .accesses) (here .preceded several)))
+          (too .holds (lock .0) (lock .1 (too .copy) (too .place) w (too .here) (too .accesses) (too .preceded several)))))
           (clean .guarded x (here .is-cell))
 
       no-stray : (n k : ℕ) → Release t state n k → Holds state n k

@@ -16,6 +16,7 @@ pub mod Report
 pub mod Cases
 pub mod Notebook
 pub mod PassCases
+pub mod SetUpCases
 pub mod Fits
 pub mod OverLaws
 pub mod GreatestLaws
