@@ -1,12 +1,15 @@
 -- What is found of a table: the sets and the lists made of them are those of the definitions. Assumes nothing.
 use mathlib.Core.Path.{_≡_}
-use mathlib.Core.Bool.{Bool}
+use mathlib.Core.Bool.{Bool, cond}
 use mathlib.Core.List.{List}
 use Prim.Native.Nat.{ℕ, _+_, _<_}
 use lib.IntN.{ℤ}
-use lib.ListN.{getD}
+use lib.ListN.{getD, length}
 use Rattle.table.specs.Table.{Table, tableOf}
+use Rattle.table.specs.Tabulate.{tabulate}
 use Rattle.report.specs.Layout.{oneEach}
+use Rattle.report.specs.Held.{allLocks}
+use Rattle.report.specs.Preceded.{isPreceded}
 use Rattle.report.specs.Findings.{Sets, setsOf, sharedCells, commonLocks, accessCount}
 use Rattle.findings.specs.NoteLaws.{countPlace}
 
@@ -14,7 +17,13 @@ use Rattle.findings.specs.NoteLaws.{countPlace}
 abbrev pub setsIn : Table → Sets
 setsIn t = setsOf t (oneEach t)
 
--- the flow and held sets of a table; its shared cells; and for each cell the locks common to all its accesses, and how many statements read and write it
+-- what counts for the common locks (C-13): what is held at a statement that a START can precede, and all locks at any other
+unfoldable pub countedHolds : Table → List ℕ
+countedHolds t =
+    tabulate (length (t .statements))
+    (λ p. cond (isPreceded (oneEach t) (setsIn t .preceded) p) (getD (setsIn t .held) p 0) (allLocks t))
+
+-- the flow and held sets of a table; its shared cells; and for each cell the locks common to all its counted accesses, and how many statements read and write it
 pub record Found (f : List ℤ) (flow held : List ℕ) (shared : ℕ) (noted : List ℕ) : Type 0 where
   pub flow-is : flow ≡ setsIn (tableOf f) .flow
   pub held-is : held ≡ setsIn (tableOf f) .held

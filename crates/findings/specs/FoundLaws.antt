@@ -1,6 +1,6 @@
 -- From the sets of a table to what is found, and from what is found to the report's totals. Assumes nothing.
 use mathlib.Core.Path.{_≡_, refl, sym, ap, ap₂, _∙_, fun-ext}
-use mathlib.Core.Bool.{Bool, true, false, cond}
+use mathlib.Core.Bool.{Bool, true, false, cond, _&&_}
 use mathlib.Core.List.{List, _++_}
 use Prim.Native.Nat.{ℕ, zero, suc, _+_, _≤_, _<_}
 use native.Mathlib.Omega.{arith}
@@ -10,7 +10,7 @@ use lib.Seq.{getD-append-add}
 use Rattle.sets.specs.Set.{has, firsts, union, inter}
 use Rattle.table.specs.Header.{cells, locks, routines, statements}
 use Rattle.table.specs.Table.{Table, tableOf}
-use Rattle.table.specs.TabulateLaws.{tabulate-same}
+use Rattle.table.specs.TabulateLaws.{tabulate-same, getD-tabulate}
 use Rattle.table.specs.Accepted.{Accepted}
 use Rattle.table.specs.LookupLaws.{statement-is, statements-length, routines-length, cells-is, locks-is}
 use Rattle.report.specs.Over.{unionFrom, interFrom, countFrom}
@@ -23,7 +23,8 @@ use Rattle.report.specs.Effect.{effects}
 use Rattle.report.specs.EffectLaws.{effects-sets}
 use Rattle.report.specs.FutureLaws.{futures-sets}
 use Rattle.report.specs.Held.{allLocks}
-use Rattle.report.specs.Findings.{setsOf, sharedAt, sharedCells, ownAccess, touchesAt, commonLocks, strayAt, statementAccess, accessCount, isStray, isUnguarded}
+use Rattle.report.specs.Preceded.{isPreceded}
+use Rattle.report.specs.Findings.{setsOf, sharedAt, sharedCells, ownAccess, touchesAt, countedAt, commonLocks, strayAt, statementAccess, accessCount, isStray, isUnguarded}
 use Rattle.report.specs.Counts.{Counts, noCounts, addAccess, walkFrom, walked, cellByCell}
 use Rattle.report.specs.CountsLaws.{walk-is-cell-by-cell}
 use Rattle.report.specs.Report.{bit}
@@ -33,7 +34,7 @@ use Rattle.findings.specs.Steps.{ownBy, accesses, heldAt, commonBy, walk
 use Rattle.findings.specs.FoldLaws.{fold-same, fold-union, fold-inter, fold-count, fold-walk}
 use Rattle.findings.specs.PartLaws.{threeParts, first-part, second-part, third-part}
 use Rattle.findings.specs.NoteLaws.{countPlace}
-use Rattle.findings.specs.Found.{setsIn, Found}
+use Rattle.findings.specs.Found.{setsIn, countedHolds, Found}
 
 -- ---- the same at each number
 
@@ -49,6 +50,11 @@ count-same n g h e = sym (fold-count 0 n g) ∙ fold-same _ _ 0 0 n (λ i b. ap 
 walk-same : (cells n : ℕ) (g h : Bool → ℕ → ℕ) → ((w : Bool) (i : ℕ) → i < n → g w i ≡ h w i) → walkFrom g cells 0 n ≡ walkFrom h cells 0 n
 walk-same cells n g h e =
     sym (fold-walk g cells 0 n) ∙ fold-same _ _ (noCounts cells) 0 n (λ i b. ap addAccess (fun-ext (λ w. e w i (omega arith)))) ∙ fold-walk h cells 0 n
+
+-- two tests, one after the other, are both at once
+both-tests : (a b : Bool) (x y : ℕ) → cond a (cond b x y) y ≡ cond (a && b) x y
+both-tests true b x y = refl
+both-tests false b x y = refl
 
 module _ (f : List ℤ) where
   abbrev t : Table
@@ -94,7 +100,7 @@ module _ (f : List ℤ) where
 
   -- ---- accesses
 
-  module _ {flow held : List ℕ} (flow-is : flow ≡ setsIn t .flow) (held-is : held ≡ setsIn t .held) where
+  module _ {flow counted : List ℕ} (flow-is : flow ≡ setsIn t .flow) (counted-is : counted ≡ countedHolds t) where
     own-is : (w : Bool) (p : ℕ) → p < statements f → ownBy f flow w p ≡ ownAccess t (oneEach t) (setsIn t) w p
     unfolding ownBy ownAccess oneEach
     own-is w p h = rw (statement-is f p h, flow-is)
@@ -108,26 +114,39 @@ module _ (f : List ℤ) where
         ∙ walk-is-cell-by-cell t (oneEach t) (setsIn t) 64
 
     abbrev left : ℕ → ℕ → ℕ
-    left x p = cond (touchesAt t (oneEach t) (setsIn t) x p) (getD (setsIn t .held) p 0) (allLocks t)
+    left x p = cond (countedAt t (oneEach t) (setsIn t) x p) (getD (setsIn t .held) p 0) (allLocks t)
 
-    held-at : (x p : ℕ) → p < statements f → heldAt f flow held x p ≡ left x p
+    -- an access that no START can precede leaves all locks
+    counted-at : (p : ℕ) → p < statements f
+        → getD counted p 0 ≡ cond (isPreceded (oneEach t) (setsIn t .preceded) p) (getD (setsIn t .held) p 0) (allLocks t)
+    unfolding countedHolds
+    counted-at p h = ap (λ (l : List ℕ). getD l p 0) counted-is ∙ getD-tabulate (length (t .statements)) _ p 0 (omega (arith, statements-length f))
+
+    touched-at : (x p : ℕ) → p < statements f → heldAt f flow counted x p ≡ cond (touchesAt t (oneEach t) (setsIn t) x p) (getD counted p 0) (allLocks t)
     unfolding heldAt accesses touchesAt
-    held-at x p h = rw (own-is reading p h, own-is writing p h, held-is, locks-is f)
+    touched-at x p h = rw (own-is reading p h, own-is writing p h, locks-is f)
 
-    common-at : (x : ℕ) → commonBy f flow held x ≡ commonLocks t (oneEach t) (setsIn t) x
+    held-at : (x p : ℕ) → p < statements f → heldAt f flow counted x p ≡ left x p
+    unfolding countedAt
+    held-at x p h =
+        touched-at x p h ∙ ap (λ (l : ℕ). cond (touchesAt t (oneEach t) (setsIn t) x p) l (allLocks t)) (counted-at p h)
+        ∙ both-tests (touchesAt t (oneEach t) (setsIn t) x p) (isPreceded (oneEach t) (setsIn t .preceded) p) (getD (setsIn t .held) p 0) (allLocks t)
+
+    common-at : (x : ℕ) → commonBy f flow counted x ≡ commonLocks t (oneEach t) (setsIn t) x
     unfolding commonBy commonLocks oneEach
     common-at x =
-        inter-same (firsts (locks f)) (statements f) (heldAt f flow held x) (left x) (held-at x)
+        inter-same (firsts (locks f)) (statements f) (heldAt f flow counted x) (left x) (held-at x)
         ∙ ap₂ (λ (s n : ℕ). interFrom s 0 n (left x)) (ap firsts (sym (locks-is f))) (sym (statements-length f))
 
-    noted-is : {noted : List ℕ} → noted ≡ notedBy f flow held
+    noted-is : {noted : List ℕ} → noted ≡ notedBy f flow counted
         → noted ≡ threeParts (commonLocks t (oneEach t) (setsIn t)) (accessCount t (oneEach t) (setsIn t) reading) (accessCount t (oneEach t) (setsIn t) writing)
     unfolding notedBy cellByCell
     noted-is e = e ∙ ap₂ (λ (l : List ℕ) (c : Counts). l ++ (c .reads ++ c .writes)) (tabulate-same 64 _ _ (λ x l. common-at x)) walk-is
 
     -- what the walk over the statements noted is what is found
-    pub found : Accepted t → (shared : ℕ) (noted : List ℕ) → shared ≡ sharedCells t (oneEach t) (setsIn t) → noted ≡ notedBy f flow held → Found f flow held shared noted
-    found acc shared noted shared-is e =
+    pub found : Accepted t → {held : List ℕ} → held ≡ setsIn t .held → (shared : ℕ) (noted : List ℕ) → shared ≡ sharedCells t (oneEach t) (setsIn t)
+        → noted ≡ notedBy f flow counted → Found f flow held shared noted
+    found acc held-is shared noted shared-is e =
         let few : cells f ≤ 64 = cells-few acc in
         record {
           flow-is = flow-is;

@@ -83,7 +83,8 @@ fn fill_common(noted: &mut [u64; 192], all: u64)
     }
 }
 
-// For each cell the locks common to all its accesses, from 0 on; how many statements read it themselves, from 64 on; and write it, from 128 on.
+// For each cell the locks common to all its accesses, from 0 on; how many statements read it themselves, from 64 on; and write it, from 128 on. `held` has
+// for each statement the locks that count as held there.
 pub fn note_accesses(numbers: &[i32], flow: &[u64], held: &[u64], noted: &mut [u64; 192])
     requires { ⌜ Accepted (tableOf (now numbers)) ⌝ }
     requires { ⌜ now noted ≡ replicate 192 0 ⌝ }
