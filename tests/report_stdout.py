@@ -1,6 +1,9 @@
 #!/usr/bin/env python3
-"""report_stdout.py VECTORS CRATE: the tables of VECTORS and of VECTORS/large into CRATE/data, their names into CRATE/args, and their stored
-reports, one behind the other, into CRATE/stdout; behind them the unstarred entries of document 01's notebook, with the answers that it gives."""
+"""report_stdout.py VECTORS CRATE: the tables of VECTORS, of VECTORS/large and of VECTORS/requests/C-13 into CRATE/data, their names into CRATE/args, and
+their stored reports, one behind the other, into CRATE/stdout; behind them the unstarred entries of document 01's notebook, with the answers that it gives.
+
+Every report is one of VECTORS: of a table of document 01 that of VECTORS/requests/C-13/base, where it is there, else the one beside the table. That one
+no longer holds for the tables in CHANGED: where base has none for them, they go into CRATE/data alone."""
 import os
 import shutil
 import sys
@@ -10,6 +13,8 @@ def line(*numbers):
     return "".join("%6d" % n for n in list(numbers) + [0] * (8 - len(numbers))) + "\n"
 
 
+# The tables whose reports C-13 changes.
+CHANGED = ["007", "008", "012", "013", "026", "027", "031", "034", "035", "039", "large-heldladder", "large-maxnearly"]
 ONE = line(3, 1) + line(4, 12)
 SET = line(1, 1, 0, 0, 1, 2) + line(3, 2) + line(4, 3, 5) + line(4, 12)
 NOTEBOOK = [
@@ -21,18 +26,29 @@ NOTEBOOK = [
 ]
 
 
+def report_of(vectors, folder, prefix, stem):
+    """Where the stored report of a table is, or none."""
+    base = os.path.join(vectors, "requests", "C-13", "base", stem + ".report")
+    if prefix != "c13-" and os.path.exists(base):
+        return base
+    return None if prefix + stem in CHANGED else os.path.join(folder, stem + ".report")
+
+
 def main():
     vectors, crate = sys.argv[1], sys.argv[2]
     os.makedirs(os.path.join(crate, "data"), exist_ok=True)
     names, reports = [], b""
-    for folder, prefix in ((vectors, ""), (os.path.join(vectors, "large"), "large-")):
+    for folder, prefix in ((vectors, ""), (os.path.join(vectors, "large"), "large-"), (os.path.join(vectors, "requests", "C-13"), "c13-")):
         for entry in sorted(os.listdir(folder)):
             stem, end = os.path.splitext(entry)
             if end != ".table":
                 continue
             shutil.copyfile(os.path.join(folder, entry), os.path.join(crate, "data", prefix + entry))
+            stored = report_of(vectors, folder, prefix, stem)
+            if stored is None:
+                continue
             names.append(prefix + entry)
-            with open(os.path.join(folder, stem + ".report"), "rb") as f:
+            with open(stored, "rb") as f:
                 reports += f.read()
     for name, text, report in NOTEBOOK:
         names.append("notebook-%s.table" % name)

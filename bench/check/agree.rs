@@ -1,4 +1,4 @@
-//! Holds the plain check and engine of the benchmarks (bench/plain.rs) to the judge's reading of document 01 (tests/judge), on random texts, accepted and
+//! Holds the plain check and engine of the benchmarks (bench/plain.rs) to the judge's reading of the documents (tests/judge), on random texts, accepted and
 //! damaged, and on the tables named: the same answer and the same bytes, with buffers that are long enough and too short.
 //!
 //!     agree SEED COUNT TABLE ..
@@ -161,6 +161,7 @@ fn main() {
         let mut text = match r.below(8) {
             0 => generate::guarded(&mut r),
             1 | 2 => locked(&mut r),
+            3 => generate::set_up(&mut r),
             _ => generate::table(&mut r, i % 20 == 0),
         };
         if r.one_in(4) {

@@ -5,6 +5,8 @@
 //!   a set of runs still to look at, of which the lowest is next; a run that nothing leads to is looked at when its routine has no other.
 //! - Futures are asked for at STARTs alone, so only routines with a START, or a CALL that leads to one, are walked: callers first, statements downwards. Where
 //!   a jump goes back, one walk along the ways finds the runs that lead to each other, which have one set; it takes as long as there are runs, however they jump.
+//! - What a START can precede (C-13) is known by routine where that is all of it, else by run: one walk along the ways from each START and each CALL that
+//!   reaches one, in the routines that futures walk too.
 //! - Common locks are met by handle and only then spread over the handle's cells, eight at a time.
 use super::*;
 
@@ -249,11 +251,21 @@ impl<'a> Held<'a> {
     }
 }
 
+/// Routines with a START, or a CALL of such a one.
+fn starting(t: &Table) -> u32 {
+    let mut found = 0;
+    for &r in t.order[..t.routines.len()].iter().rev() {
+        let q = &t.routines[r as usize];
+        found |= ((q.starts != 0 || q.calls & found != 0) as u32) << r;
+    }
+    found
+}
+
 struct Futures<'a> {
     t: &'a Table,
     flow: &'a [u64; 128],
     effects: &'a [Effect; 32],
-    /// Routines with a START, or a CALL of such a one.
+    /// Those `starting`.
     needed: u32,
     /// By head of a run: its effect with its future.
     ahead: Vec<Effect>,
@@ -267,12 +279,7 @@ struct Futures<'a> {
 }
 
 impl<'a> Futures<'a> {
-    fn new(t: &'a Table, flow: &'a [u64; 128], effects: &'a [Effect; 32]) -> Futures<'a> {
-        let mut needed = 0;
-        for &r in t.order[..t.routines.len()].iter().rev() {
-            let q = &t.routines[r as usize];
-            needed |= ((q.starts != 0 || q.calls & needed != 0) as u32) << r;
-        }
+    fn new(t: &'a Table, flow: &'a [u64; 128], effects: &'a [Effect; 32], needed: u32) -> Futures<'a> {
         let ahead = vec![[0; 2]; if needed == 0 { 0 } else { t.body.len() + 1 }];
         Futures { t, flow, effects, needed, ahead, mark: vec![], visits: 0, open: vec![], behind: [[0; 2]; 32], shared: 0 }
     }
@@ -397,6 +404,83 @@ impl<'a> Futures<'a> {
     }
 }
 
+/// What a START can precede: all of these routines, and in others the runs with these heads and the rest of a run behind a START.
+struct Preceded<'a> {
+    t: &'a Table,
+    runs: &'a [Run],
+    routines: u32,
+    heads: Places,
+}
+
+impl<'a> Preceded<'a> {
+    /// Routines callers first, so that all CALLs of one are known when it is looked at.
+    fn new(t: &'a Table, runs: &'a [Run], starting: u32) -> Preceded<'a> {
+        let started = t.routines.iter().fold(0, |all, q| all | q.starts);
+        let mut found = Preceded { t, runs, routines: started, heads: Places::default() };
+        for &r in if starting == 0 { &[] } else { &t.order[..t.routines.len()] } {
+            let q = &t.routines[r as usize];
+            if found.routines >> r & 1 == 1 {
+                found.routines |= q.calls;
+            } else if starting >> r & 1 == 1 {
+                found.look(q.first as usize, q.end as usize, starting);
+            }
+        }
+        found
+    }
+
+    /// One routine: from each START and each CALL that reaches one along the ways.
+    fn look(&mut self, first: usize, end: usize, starting: u32) {
+        let mut at = first;
+        while let Some(s) = self.t.naming.next(at, end) {
+            at = s + 1;
+            let named = &self.t.body[s];
+            if named.op == START {
+                let last = self.t.heads.next(at, end).unwrap_or(end) - 1;
+                self.call(last);
+                self.follow(last);
+                at = last + 1;
+            } else if starting >> named.x & 1 == 1 {
+                self.follow(s);
+            }
+        }
+    }
+
+    /// A START can precede statement `s`: if that is a CALL, all of what it names.
+    fn call(&mut self, s: usize) {
+        if self.t.body[s].op == CALL {
+            self.routines |= 1 << self.t.body[s].x;
+        }
+    }
+
+    /// The runs that may follow `last`, the last statement of a run.
+    fn follow(&mut self, mut last: usize) {
+        loop {
+            let s = self.t.body[last];
+            if s.op == JUMPZ && !self.heads.has(s.x as usize) {
+                let target = self.enter(s.x as usize);
+                self.follow(target);
+            }
+            let next = if s.op == JUMP { s.x as usize } else { last + 1 };
+            if s.op == RETURN || self.heads.has(next) {
+                return;
+            }
+            last = self.enter(next);
+        }
+    }
+
+    /// A START can precede the run at `head`: its last statement.
+    fn enter(&mut self, head: usize) -> usize {
+        self.heads.add(head);
+        let last = self.runs[head].last as usize;
+        self.call(last);
+        last
+    }
+
+    fn has(&self, head: usize) -> bool {
+        self.routines >> self.runs[head].routine & 1 == 1 || self.heads.has(head)
+    }
+}
+
 /// By cell, eight together; and the stray GIVEs.
 struct Findings {
     reads: [[u16; 8]; 8],
@@ -420,16 +504,19 @@ impl Findings {
 }
 
 /// Counts and common locks by handle, then by cell.
-fn findings(t: &Table, flow: &[u64; 128], locks: &[[u16; 2]; 128], runs: &[Run]) -> Findings {
+fn findings(t: &Table, flow: &[u64; 128], locks: &[[u16; 2]; 128], runs: &[Run], preceded: &Preceded) -> Findings {
     let all = t.all_locks();
     let mut found = Findings { reads: [[0; 8]; 8], writes: [[0; 8]; 8], common: [[all; 8]; 8], strays: 0, stray: Places::default() };
     let (mut common, mut head) = ([all; 128], 0);
     while head < t.body.len() {
         let (mut held, end) = (runs[head].held, runs[head].last as usize + 1);
+        // All locks while no START can precede the statement.
+        let mut left_out = if preceded.has(head) { 0 } else { all };
         for s in head..end {
             let (op, x) = (t.body[s].op, t.body[s].x as usize);
             match op {
-                READ | WRITE => common[x] &= held,
+                READ | WRITE => common[x] &= held | left_out,
+                START => left_out = 0,
                 TAKE => held |= locks[x][0],
                 GIVE => {
                     if locks[x][0] & held == 0 {
@@ -521,9 +608,10 @@ pub fn report_in_phases(text: &[u8], out: &mut [u8], mut ended: impl FnMut(&'sta
     let locks = lock_sets(&flow, t.handles.len());
     let runs = Held::new(&t, &locks, &given).solve();
     ended("held");
-    let shared = Futures::new(&t, &flow, &effects).solve();
+    let starting = starting(&t);
+    let shared = Futures::new(&t, &flow, &effects, starting).solve();
     ended("futures");
-    let found = findings(&t, &flow, &locks, &runs);
+    let found = findings(&t, &flow, &locks, &runs, &Preceded::new(&t, &runs, starting));
     ended("findings");
     let answer = print(out, t.cells, shared, &found).map_or((13, 0, 0), |bytes| (0, 0, bytes));
     ended("print");

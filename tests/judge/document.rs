@@ -265,6 +265,8 @@ pub struct Findings {
     pub writes: Vec<usize>,
     pub shared: Vec<bool>,
     pub common: Vec<Set>,
+    /// The common locks before C-13: no access is left out.
+    pub common_of_all: Vec<Set>,
     pub stray: Vec<usize>,
     /// Some READ or WRITE has more than one cell in its handle's set.
     pub several: bool,
@@ -280,6 +282,11 @@ impl Findings {
 
     pub fn clean(&self) -> bool {
         self.stray.is_empty() && (0..self.shared.len()).all(|x| !self.unguarded(x))
+    }
+
+    /// Clean by the report before C-13.
+    pub fn clean_before(&self) -> bool {
+        self.stray.is_empty() && (0..self.shared.len()).all(|x| !(self.shared[x] && self.common_of_all[x] == 0))
     }
 }
 
@@ -340,6 +347,54 @@ fn walked(t: &Table, flow: &[Set]) -> [Vec<usize>; 2] {
         (0..t.cells).filter(|x| flow[h] >> x & 1 == 1).for_each(|x| counts[write][x] += 1);
     }
     counts
+}
+
+/// C-13: "a START or a CALL that reaches one by CALLs": by routine, whether it holds a START or reaches by CALLs a routine that does.
+fn reaches_start(t: &Table) -> Vec<bool> {
+    until_still(vec![false; t.routines.len()], |reaches| {
+        for s in 0..t.statements.len() {
+            match t.statements[s] {
+                Op::Start(..) => reaches[t.owner[s]] = true,
+                Op::Call(q, _) => reaches[t.owner[s]] |= reaches[q],
+                _ => {}
+            }
+        }
+    })
+}
+
+/// The statements that may follow `s` in its routine, in one step or more.
+fn following(t: &Table, s: usize) -> Vec<usize> {
+    let (mut todo, mut found) = (t.nexts(s), vec![]);
+    while let Some(x) = todo.pop() {
+        if !found.contains(&x) {
+            found.push(x);
+            todo.extend(t.nexts(x));
+        }
+    }
+    found
+}
+
+/// C-13: "A START can precede a statement if its routine is named by a START, if a START can precede some CALL of its routine, or if it may follow, in its
+/// routine, a START or a CALL that reaches one by CALLs."
+fn start_can_precede(t: &Table) -> Vec<bool> {
+    let reaches = reaches_start(t);
+    let mut begin = vec![false; t.statements.len()];
+    for s in 0..begin.len() {
+        if let Op::Start(q, _) = t.statements[s] {
+            t.body(q).for_each(|x| begin[x] = true);
+        }
+        if matches!(t.statements[s], Op::Start(..)) || matches!(t.statements[s], Op::Call(q, _) if reaches[q]) {
+            following(t, s).into_iter().for_each(|x| begin[x] = true);
+        }
+    }
+    until_still(begin, |can| {
+        for s in 0..can.len() {
+            match t.statements[s] {
+                Op::Call(q, _) if can[s] => t.body(q).for_each(|x| can[x] = true),
+                _ => {}
+            }
+        }
+    })
 }
 
 pub fn findings(t: &Table) -> Findings {
@@ -420,7 +475,8 @@ pub fn findings(t: &Table) -> Findings {
         *held = new;
     });
     let several = t.statements.iter().any(|op| matches!(*op, Op::Read(h) | Op::Write(h) if flow[h].count_ones() > 1));
-    let mut found = Findings { reads: vec![], writes: vec![], shared: vec![], common: vec![], stray: vec![], several, passes, helpers_first };
+    let counted = start_can_precede(t);
+    let mut found = Findings { reads: vec![], writes: vec![], shared: vec![], common: vec![], common_of_all: vec![], stray: vec![], several, passes, helpers_first };
     for x in 0..t.cells {
         let has = |set: Set| set >> x & 1 == 1;
         let accesses = |write: bool| {
@@ -433,7 +489,9 @@ pub fn findings(t: &Table) -> Findings {
                 .collect::<Vec<_>>()
         };
         let (reads, writes) = (accesses(false), accesses(true));
-        found.common.push(reads.iter().chain(&writes).fold(all, |a, &s| a & held[s]));
+        // C-13: "Leave an access out of the common locks if no START can precede it."
+        found.common.push(reads.iter().chain(&writes).filter(|&&s| counted[s]).fold(all, |a, &s| a & held[s]));
+        found.common_of_all.push(reads.iter().chain(&writes).fold(all, |a, &s| a & held[s]));
         found.reads.push(reads.len());
         found.writes.push(writes.len());
         found.shared.push((0..n).any(|s| match t.statements[s] {

@@ -201,6 +201,61 @@ pub fn guarded(r: &mut Random) -> Vec<u8> {
     written(2, 2, &own, &bodies)
 }
 
+/// Accesses of the two cells, mostly without their locks, as set-up has them.
+fn bare_accesses(r: &mut Random, base: i64, body: &mut Vec<Vec<i64>>) {
+    for _ in 0..1 + r.below(2) {
+        if r.one_in(4) {
+            guarded_block(r, base, body);
+        } else {
+            body.push(vec![1 + !r.one_in(3) as i64, base + r.below(2) as i64]);
+        }
+    }
+}
+
+/// Routine 0 of `set_up`: accesses, a CALL of 2 or none, a START of 1 or none, a CALL or START of 2, accesses under locks, and now and then a loop.
+fn set_up_main(r: &mut Random, starts: bool) -> Vec<Vec<i64>> {
+    let mut main = vec![];
+    bare_accesses(r, 0, &mut main);
+    if r.one_in(2) {
+        main.push(vec![8, 2]);
+    }
+    if starts {
+        main.push(vec![9, 1]);
+    }
+    if r.one_in(3) || !main.contains(&vec![8, 2]) {
+        main.push(vec![8 + r.one_in(5) as i64, 2]);
+    }
+    if !r.one_in(4) {
+        guarded_block(r, 0, &mut main);
+    }
+    main.push(if r.one_in(6) { vec![11, r.below(main.len()) as i64] } else { vec![3, 0] });
+    main.push(vec![12]);
+    main
+}
+
+/// A table text of two cells and two locks, with set-up before its first START (C-13): routine 0 sets up, starts thread 1 and calls helper 2, before the
+/// START, behind it or both; or the helper starts it, itself or by a CALL of routine 3.
+pub fn set_up(r: &mut Random) -> Vec<u8> {
+    let starts = !r.one_in(3);
+    let (deep, mut bodies) = (r.one_in(2), vec![set_up_main(r, starts), vec![], vec![]]);
+    for _ in 0..1 + r.below(2) {
+        guarded_block(r, 4, &mut bodies[1]);
+    }
+    if r.one_in(2) { bare_accesses(r, 8, &mut bodies[2]) } else { guarded_block(r, 8, &mut bodies[2]) }
+    // Where routine 0 does not start routine 1, the helper does, before or behind its own accesses.
+    let named = if deep { vec![8, 3] } else { vec![9, 1] };
+    if deep || !starts || r.one_in(6) {
+        let at = if r.one_in(2) { 0 } else { bodies[2].len() };
+        bodies[2].insert(at, named);
+    }
+    if deep {
+        bodies.push(if !starts || r.one_in(6) { vec![vec![9, 1]] } else { vec![vec![3, 0]] });
+    }
+    bodies.iter_mut().skip(1).for_each(|b| b.push(vec![12]));
+    let own: Vec<Own> = bodies.iter().map(|_| (0..4).map(|k| (1 + k / 2, false, k % 2)).collect()).collect();
+    written(2, 2, &own, &bodies)
+}
+
 fn pick(r: &mut Random, mine: &Own, base: usize, kind: i64) -> Option<i64> {
     let all: Vec<usize> = (0..mine.len()).filter(|&k| mine[k].0 == kind).collect();
     if all.is_empty() {

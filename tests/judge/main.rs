@@ -1,7 +1,7 @@
 //! Holds the static library to an independent reading of the documents, on random texts, schedules and buffer lengths.
 //!
 //!     judge compare SEED COUNT     COUNT texts, each with a report, a run and the loader's question; one in a hundred adds until its sums stop
-//!     judge explore SEED COUNT     every order of steps of COUNT small tables: a clean one never races
+//!     judge explore SEED COUNT     every order of steps of COUNT small tables: a clean one never races; by the report now and by that before C-13
 //!     judge promela TABLE THREADS  the table as a Promela model with at most THREADS threads
 //!     judge models SEED COUNT FOLDER   COUNT small tables that start a thread, and what `explore` says of each, for tests/spin/run
 //!     judge lengths TABLE ...      report buffers of every length from 0 to one more than the report needs
@@ -104,12 +104,13 @@ fn compare_run(r: &mut Random, text: &[u8], schedule: &[u8], want: &Result<Table
 fn compare(seed: u64, texts: usize) {
     let mut r = Random(seed * 2 + 88172645463325252);
     let (mut reports, mut steps, mut ends, mut deepest, mut loads, mut several) = ([0; 14], [0; 19], [0; 2], 0, 0, 0);
-    let (mut settled, mut most) = (0, 0);
+    let (mut settled, mut most, mut left_out) = (0, 0, 0);
     for i in 0..texts {
         let (mut text, schedule) = match i % 100 {
             99 => (generate::sums(&mut r), generate::long_schedule(&mut r)),
             49 => (generate::chain(&mut r), generate::deep_schedule(&mut r)),
             24 | 74 => (generate::helpers_first(&mut r, i % 100 == 74), generate::schedule(&mut r)),
+            9 | 59 => (generate::set_up(&mut r), generate::schedule(&mut r)),
             _ => (generate::table(&mut r, i % 50 == 0), generate::schedule(&mut r)),
         };
         if r.one_in(3) {
@@ -126,9 +127,10 @@ fn compare(seed: u64, texts: usize) {
         loads += may as usize;
         several += found.as_ref().map_or(false, |f| f.several) as usize;
         settled += found.as_ref().map_or(false, |f| f.helpers_first && f.passes == 3) as usize;
+        left_out += found.as_ref().map_or(false, |f| f.common != f.common_of_all) as usize;
         most = found.map_or(0, |f| f.passes).max(most);
     }
-    println!("{texts} texts, seed {seed}: refusals 0 to 13 met {reports:?}; answers to steps 0 and 14 to 18 met {} {:?}; cells left at -2147483648 and at 2147483647 {ends:?}; at most {deepest} frames open; {several} with an access of several cells; {settled} with helpers first settled by the second pass, at most {most} passes; {loads} may be loaded", steps[0], &steps[14..]);
+    println!("{texts} texts, seed {seed}: refusals 0 to 13 met {reports:?}; answers to steps 0 and 14 to 18 met {} {:?}; cells left at -2147483648 and at 2147483647 {ends:?}; at most {deepest} frames open; {several} with an access of several cells; {settled} with helpers first settled by the second pass, at most {most} passes; {left_out} whose common locks C-13 changes; {loads} may be loaded", steps[0], &steps[14..]);
     for n in 1..=13 {
         assert!(reports[n] > 0 || texts < 20000, "refusal {n} was never met");
     }
@@ -137,6 +139,7 @@ fn compare(seed: u64, texts: usize) {
     }
     assert!(ends[0] > 0 && ends[1] > 0 || texts < 20000, "no sum stopped at an end");
     assert!(settled > 0 && most > 3 || texts < 20000, "no flow sets settled by the second pass");
+    assert!(left_out > 0 || texts < 20000, "no common locks without the set-up accesses");
     assert!(several > 0 || texts < 20000, "no statement counted for several cells");
     assert!(deepest == 32 || texts < 20000, "no thread had 32 frames open");
 }
@@ -175,25 +178,51 @@ fn explore(t: &Table, most: usize) -> Seen {
     Seen { race: false, whole: true, states: seen.len(), threads }
 }
 
+/// What was found of the tables by one report: how many are clean, how many of these were seen whole, how many flagged ones were, and how many of those race.
+#[derive(Default)]
+struct Tally {
+    clean: usize,
+    clean_whole: usize,
+    flagged: usize,
+    races: usize,
+}
+
+impl Tally {
+    fn add(&mut self, clean: bool, seen: &Seen) {
+        self.clean += clean as usize;
+        self.clean_whole += (clean && seen.whole) as usize;
+        self.flagged += (!clean && seen.whole) as usize;
+        self.races += (!clean && seen.race) as usize;
+    }
+
+    fn say(&self, report: &str) {
+        let Tally { clean, clean_whole, flagged, races } = self;
+        println!("{report}: {clean} clean, none races ({clean_whole} of them seen whole); of {flagged} with a finding and all states seen, {races} race or release a lock not held");
+    }
+}
+
 fn explore_all(seed: u64, tables: usize) {
     let mut r = Random(seed * 2 + 1181783497276652981);
-    let (mut done, mut clean, mut clean_whole, mut warned, mut races, mut cut) = (0, 0, 0, 0, 0, 0);
+    let (mut before, mut now) = (Tally::default(), Tally::default());
+    let (mut done, mut cut, mut different) = (0, 0, 0);
     while done < tables {
-        let text = generate::table(&mut r, false);
+        let text = if r.one_in(2) { generate::set_up(&mut r) } else { generate::table(&mut r, false) };
         let Ok(t) = read(&text) else { continue };
         done += 1;
+        let (seen, found) = (explore(&t, 3000), findings(&t));
         let may = unsafe { station_may_load_text(text.as_ptr(), text.len()) };
-        let seen = explore(&t, 3000);
-        assert!(!(may && seen.race), "a clean table races:\n{}", String::from_utf8_lossy(&text));
-        clean += may as usize;
-        clean_whole += (may && seen.whole) as usize;
-        if !may {
-            warned += seen.whole as usize;
-            races += seen.race as usize;
-        }
+        assert_eq!(may, found.clean(), "the loader's question on\n{}", String::from_utf8_lossy(&text));
+        assert!(!(found.clean() && seen.race), "a clean table races:\n{}", String::from_utf8_lossy(&text));
+        assert!(found.clean() || !found.clean_before(), "C-13 added a finding:\n{}", String::from_utf8_lossy(&text));
+        before.add(found.clean_before(), &seen);
+        now.add(found.clean(), &seen);
+        different += (found.common != found.common_of_all) as usize;
         cut += !seen.whole as usize;
     }
-    println!("{tables} tables, every order of steps: {clean} clean, none races ({clean_whole} of them seen whole); of {warned} with a finding and all states seen, {races} race ({cut} of all too large to see whole)");
+    println!("{tables} tables, every order of steps; {cut} too large to see whole; C-13 changes the report of {different}");
+    before.say("before C-13");
+    now.say("now");
+    assert!(now.clean > before.clean || tables < 400, "C-13 made no table clean");
 }
 
 /// Small tables that start a thread, as FOLDER/N.table, and a line for each in FOLDER/said: N; race, none, large or threads (not seen whole); states; clean or found by the library.
