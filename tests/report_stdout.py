@@ -2,8 +2,9 @@
 """report_stdout.py VECTORS CRATE: the tables of VECTORS, of VECTORS/large and of VECTORS/requests/C-13 into CRATE/data, their names into CRATE/args, and
 their stored reports, one behind the other, into CRATE/stdout; behind them the unstarred entries of document 01's notebook, with the answers that it gives.
 
-Every report is one of VECTORS: of a table of document 01 that of VECTORS/requests/C-13/base, where it is there, else the one beside the table. That one
-no longer holds for the tables in CHANGED: where base has none for them, they go into CRATE/data alone."""
+A report is one of VECTORS: of a table of document 01 that of VECTORS/requests/C-13/base, where it is there, else the one beside the table. That one no
+longer holds for the tables in CHANGED: where base has none for them, it is the one in tests/judge/base, which `judge report` printed; .ci/run holds the
+library to the judge on these tables."""
 import os
 import shutil
 import sys
@@ -27,11 +28,13 @@ NOTEBOOK = [
 
 
 def report_of(vectors, folder, prefix, stem):
-    """Where the stored report of a table is, or none."""
+    """Where the stored report of a table is."""
     base = os.path.join(vectors, "requests", "C-13", "base", stem + ".report")
     if prefix != "c13-" and os.path.exists(base):
         return base
-    return None if prefix + stem in CHANGED else os.path.join(folder, stem + ".report")
+    if prefix + stem in CHANGED:
+        return os.path.join(os.path.dirname(os.path.abspath(__file__)), "judge", "base", prefix + stem + ".report")
+    return os.path.join(folder, stem + ".report")
 
 
 def main():
@@ -44,11 +47,8 @@ def main():
             if end != ".table":
                 continue
             shutil.copyfile(os.path.join(folder, entry), os.path.join(crate, "data", prefix + entry))
-            stored = report_of(vectors, folder, prefix, stem)
-            if stored is None:
-                continue
             names.append(prefix + entry)
-            with open(stored, "rb") as f:
+            with open(report_of(vectors, folder, prefix, stem), "rb") as f:
                 reports += f.read()
     for name, text, report in NOTEBOOK:
         names.append("notebook-%s.table" % name)

@@ -311,11 +311,35 @@ def statement_words(table, s):
     return "line %d: %s through %s (statement %d, routine %d)" % (table.editor(s.number), s.name, handle_words(table, s.operands[0]), s.number, s.routine)
 
 
+def nexts(s):
+    """The statements that may come next, whatever the values."""
+    if s.operation == RETURN:
+        return []
+    return s.operands[:1] * (s.operation in (JUMP, JUMPZ)) + [s.number + 1] * (s.operation != JUMP)
+
+
+def preceded(table):
+    """The statements that a START can precede: those of a routine that is STARTed, or CALLed where a START can precede the CALL, and those that may
+    follow, in their routine, a START or a CALL that reaches one by CALLs."""
+    found, reach, size = set(), set(), -1
+    while size < len(found) + len(reach):
+        size = len(found) + len(reach)
+        for s in table.statements:
+            if s.operation == START or s.operation == CALL and s.operands[0] in reach:
+                reach.add(s.routine)
+                found.update(nexts(s))
+            if s.number in found:
+                found.update(nexts(s))
+            if s.operation == START or s.operation == CALL and s.number in found:
+                found.update(x.number for x in table.of_routine(s.operands[0]))
+    return found
+
+
 def accesses(table, cell, reads, writes):
-    """The accesses of a cell. A local's flow set has the cell at which it starts, so statements through such a local are accesses; where they are
+    """The accesses of a cell, with those that C-13 leaves out named. A local's flow set has the cell at which it starts, so statements through such a local are accesses; where they are
     as many as the report counts they are all. The others go through a parameter, or a local that POINT moves; where as many as these are
     missing, these are the others."""
-    lines, more, moved = [], [], table.moved()
+    lines, more, moved, counted = [], [], table.moved(), preceded(table)
     for operation, count, word in ((READ, reads, "read"), (WRITE, writes, "write")):
         of_kind = [s for s in table.statements if s.operation == operation]
         sure = [s for s in of_kind if table.handles[s.operands[0]].origin == LOCAL and table.handles[s.operands[0]].start == cell]
@@ -326,17 +350,18 @@ def accesses(table, cell, reads, writes):
         elif count > len(sure):
             more.append("    %s more, through a parameter or a handle that POINT moves, among lines %s" % (
                 many(count - len(sure), word), ranges([table.editor(s.number) for s in others])))
-    return ["    " + statement_words(table, s) for s in sorted(lines, key=lambda s: s.number)] + more
+    left_out = {False: ": not counted, no START can precede it", True: ""}
+    return ["    " + statement_words(table, s) + left_out[s.number in counted] for s in sorted(lines, key=lambda s: s.number)] + more
 
 
 def cell_words(fields, table):
     cell, reads, writes, shared, common, unguarded = fields[1:7]
     counts = "%s, %s" % (many(reads, "read"), many(writes, "write"))
     if unguarded:
-        return ["Cell %d is UNGUARDED: threads share it, and no lock is held at all of its accesses (%s):" % (cell, counts)] + accesses(table, cell, reads, writes)
+        return ["Cell %d is UNGUARDED: threads share it, and no lock is held at all of its counted accesses (%s in all):" % (cell, counts)] + accesses(table, cell, reads, writes)
     if shared:
         locks = ["lock %d" % k for k in range(16) if common >> k & 1]
-        return ["Cell %d is shared and guarded: %s %s held at each of its accesses (%s)." % (cell, listed(locks), "is" if len(locks) == 1 else "are", counts)]
+        return ["Cell %d is shared and guarded: %s %s held at each of its counted accesses (%s in all)." % (cell, listed(locks), "is" if len(locks) == 1 else "are", counts)]
     return ["Cell %d is not shared (%s)." % (cell, counts)]
 
 

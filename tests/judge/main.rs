@@ -5,6 +5,7 @@
 //!     judge promela TABLE THREADS  the table as a Promela model with at most THREADS threads
 //!     judge models SEED COUNT FOLDER   COUNT small tables that start a thread, and what `explore` says of each, for tests/spin/run
 //!     judge lengths TABLE ...      report buffers of every length from 0 to one more than the report needs
+//!     judge report TABLE           the report of an accepted table by this reading, the library not asked
 mod document;
 mod generate;
 mod promela;
@@ -268,11 +269,15 @@ fn main() {
         Some("compare") => compare(number(2), number(3) as usize),
         Some("explore") => explore_all(number(2), number(3) as usize),
         Some("lengths") => lengths(&words[2..]),
+        Some("report") => {
+            let text = std::fs::read(&words[2]).expect(&words[2]);
+            print!("{}", String::from_utf8_lossy(&report(&read(&text).expect("an accepted table"))));
+        }
         Some("promela") => {
             let text = std::fs::read(&words[2]).expect(&words[2]);
             print!("{}", promela::model(&read(&text).expect("an accepted table"), number(3) as usize));
         }
         Some("models") => models(number(2), number(3) as usize, &words[4]),
-        _ => panic!("judge compare|explore SEED COUNT, lengths TABLE ..., promela TABLE THREADS, or models SEED COUNT FOLDER"),
+        _ => panic!("judge compare|explore SEED COUNT, lengths TABLE ..., report TABLE, promela TABLE THREADS, or models SEED COUNT FOLDER"),
     }
 }
