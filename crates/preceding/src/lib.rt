@@ -66,10 +66,7 @@ pub fn preceded_sets(
 fn counted(held: &[u64], out: &[u64], s: usize, p: usize, all: u64) -> u64
     ensures { λ r. ⌜ r ≡ cond (isMarked (now (out .entry)) s || isMarked (now (out .entry)) p) (getD (now (held .entry)) s 0) all ⌝ }
 {
-    if start_edges::is_marked(out, s) {
-        return lists::set_at(held, s);
-    }
-    if start_edges::is_marked(out, p) {
+    if start_edges::is_marked(out, s) | start_edges::is_marked(out, p) {
         return lists::set_at(held, s);
     }
     all
