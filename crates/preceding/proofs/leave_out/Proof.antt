@@ -1,73 +1,60 @@
+-- `preceding::leave_out` meets its contract. Its loop has gone through the statements below s. Assumes nothing.
+use Prim.Native.Nat.{_-_}
+use mathlib.Core.Path.{ap, _∙_}
+use native.Mathlib.Omega.{arith}
+use Rattle.sets.specs.Set.{firsts}
+use Rattle.preceding.specs.LeaveLaws.{Leaving, leaving-start, leaving-long, leaving-next, leaving-done}
+use borrow.Author.Needs.{needs}
 use Rattle.preceding.proofs.leave_out.Statement.{statement}
 use Rattle.preceding.proofs.leave_out.Tie as tie
-use Rattle.preceding.proofs.leave_out.Reads as reads
-use Rattle.preceding.proofs.leave_out.Lts as lts
-use Rattle.edges.proofs.owner_of.Reads as owner-of-reads
-use Rattle.preceding.proofs.counted.Reads as counted-reads
-use Rattle.sets.proofs.firsts.Reads as firsts-reads
-use Rattle.table.proofs.field_of.Reads as field-of-reads
 
 abbrev Inv-loop : tie.InvT-loop
-Inv-loop numbers first held out₀ end all c₀ s₀ out c s = ?
+Inv-loop numbers first held out₀ end all c₀ s₀ out c s = Leaving numbers held out₀ out c s
 
 abbrev μ-loop : tie.MeasureT-loop
-μ-loop numbers first held out₀ end all c₀ s₀ out c s = ?
+μ-loop numbers first held out₀ end all c₀ s₀ out c s = end - s
 
--- src/lib.rt:83:9
 field-of-requires : tie.Need-field-of-requires Inv-loop μ-loop
-field-of-requires c κs = ?
+field-of-requires c κs = search needs
 
--- src/lib.rt:84:28
 field-of-requires-2 : tie.Need-field-of-requires-2 Inv-loop μ-loop
-field-of-requires-2 c κs = ?
+field-of-requires-2 c κs = search needs
 
--- src/lib.rt:84:9
 firsts-requires : tie.Need-firsts-requires Inv-loop μ-loop
-firsts-requires c κs = ?
+firsts-requires c κs = search needs
 
--- src/lib.rt:87:5
 loop-holds : tie.Need-loop-holds Inv-loop μ-loop
-loop-holds c = ?
+loop-holds c = leaving-start _ _ (c .before .before .before .before .before .before .pre .0) (c .before .before .before .before .before .before .pre .1 .1)
 
--- src/lib.rt:88:9
 owner-of-requires : tie.Need-owner-of-requires Inv-loop μ-loop
-owner-of-requires c κs = ?
+owner-of-requires c κs = (c .before .before .before .before .before .before .before .before .pre .1 .0, (c .before .before .before .before .before .before .before .before .pre .0, (omega (arith, c .before .before .before .before .field-of .ensures .0, c .loop-test .taken), c .before .loop .inv .near)))
 
--- src/lib.rt:89:40
 add-counted : tie.Need-add-counted Inv-loop μ-loop
-add-counted c = ?
+add-counted c = omega (arith, c .before .before .before .before .before .before .field-of .ensures .1, c .before .owner-of .ensures .1 .small)
 
--- src/lib.rt:89:18
 counted-requires : tie.Need-counted-requires Inv-loop μ-loop
-counted-requires c κs = ?
+counted-requires c κs = search needs
 
--- src/lib.rt:89:9
 mul-out : tie.Need-mul-out Inv-loop μ-loop
-mul-out c = ?
+mul-out c = search needs
 
--- src/lib.rt:89:9
 slice-write-out : tie.Need-slice-write-out Inv-loop μ-loop
-slice-write-out c = ?
+slice-write-out c = omega (arith, leaving-long (c .before .before .before .before .loop .inv), c .before .before .before .before .before .before .before .field-of .ensures .0, c .before .before .before .loop-test .taken)
 
--- src/lib.rt:90:9
 add-s : tie.Need-add-s Inv-loop μ-loop
-add-s c = ?
+add-s c = search needs
 
--- src/lib.rt:87:5
 loop-less : tie.Need-loop-less Inv-loop μ-loop
-loop-less c = ?
+loop-less c = search needs
 
--- src/lib.rt:87:5
 loop-again : tie.Need-loop-again Inv-loop μ-loop
-loop-again c = ?
+loop-again c = leaving-next (c .before .before .before .before .loop .inv) (c .before .before .before .before .before .before .before .field-of .ensures .0) (c .before .before .before .before .before .firsts .ensures ∙ ap firsts (c .before .before .before .before .before .before .field-of2 .ensures .0)) (c .before .before .before .loop-test .taken) (c .before .before .owner-of .ensures .0) (c .before .before .owner-of .ensures .1) (c .counted .ensures)
 
--- src/lib.rt:77:1
 same-length : tie.Need-same-length Inv-loop μ-loop
-same-length c = ?
+same-length c = search needs
 
--- src/lib.rt:77:1
 returns : tie.Need-returns Inv-loop μ-loop
-returns c = ?
+returns c = leaving-done (c .before .loop .inv) (omega (arith, c .before .before .before .before .field-of .ensures .0, c .loop-test .left))
 
 pub leave-out-spec : {M : Type 1} → statement M
 leave-out-spec =
