@@ -117,7 +117,13 @@ fn append_following(
 {
     let line = base + s;
     let m = edges::append_to(origin, 0, attributes::target_at(numbers, line), edges, n);
-    edges::append_if(attributes::onward_at(numbers, line), origin, s + 1, edges, m)
+    edges::append_if(
+        attributes::onward_at(numbers, line),
+        origin,
+        s + 1,
+        edges,
+        m,
+    )
 }
 
 // Appends the edges into the routine that statement `s` of routine `c` names: from "a START", at place `last`, if it is a START; from `s` and from the place
