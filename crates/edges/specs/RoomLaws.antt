@@ -30,7 +30,7 @@ use Rattle.edges.specs.Equations.{Equation, Flow, Effects, Gives, Nexts,
 use Rattle.edges.specs.EdgeLaws.{Appended, Ready, ready, Parts, parts}
 use Rattle.edges.specs.LineLaws.{next-parts}
 
-room-edge : (m f t : ℕ) → f < 65536 → t < 65536 → Room (m + 1) (edge f t ∷ [])
+pub room-edge : (m f t : ℕ) → f < 65536 → t < 65536 → Room (m + 1) (edge f t ∷ [])
 room-edge m f t p q = room-one m (edge f t) (record { from = p; also = p; to = q })
 
 joined-length : (m from n : ℕ) (f : ℕ → List Edge) → ((i : ℕ) → Within from n i → length (f i) ≤ m) → length (joinedFrom from n f) ≤ m * n
@@ -42,27 +42,27 @@ joined-length m from (suc n) f h =
     joined-length m (from + 1) n f (λ i w. h i (record { low = omega (arith, w .low); high = omega (arith, w .high) })) in
     omega (arith, mul-suc m n, length-append (f from) (joinedFrom (from + 1) n f))
 
-room-joined : (m from n : ℕ) (f : ℕ → List Edge) → ((i : ℕ) → Within from n i → Room m (f i)) → Room (m * n) (joinedFrom from n f)
+pub room-joined : (m from n : ℕ) (f : ℕ → List Edge) → ((i : ℕ) → Within from n i → Room m (f i)) → Room (m * n) (joinedFrom from n f)
 room-joined m from n f h = record {
   room = joined-length m from n f (λ i w. h i w .room);
   small = λ e i. let r : (j : ℕ) × Within from n j × List·Memᴰ e (f j) = joined-from from n f e i in h (r .0) (r .1) .small e (r .2);
 }
 
-room-on : {m : ℕ} (r : Reference) (f : ℕ → List Edge) → ((n : ℕ) → r ≡ To n → Room m (f n)) → Room m (listOn r f)
+pub room-on : {m : ℕ} (r : Reference) (f : ℕ → List Edge) → ((n : ℕ) → r ≡ To n → Room m (f n)) → Room m (listOn r f)
 room-on {m} r f h = on-or (Room m) r f [] h room-none
 
-room-when : {m : ℕ} (b : Bool) (l : List Edge) → Room m l → Room m (when b l)
+pub room-when : {m : ℕ} (b : Bool) (l : List Edge) → Room m l → Room m (when b l)
 room-when true l h = h
 room-when false l h = room-none
 
 module _ (t : Table) (acc : Accepted t) where
   -- ---- the numbers of a statement
 
-  named-small : (r : ℕ) (σ : Statement) → Operands t r σ → named σ < 512
+  pub named-small : (r : ℕ) (σ : Statement) → Operands t r σ → named σ < 512
   unfolding named
   named-small r σ o = on-or (λ (q : ℕ). q < 512) (view σ .names) (λ q. q) 0 (λ q n. omega (arith, o .passes q n .there, acc .routines-most)) (omega arith)
 
-  owner-small : (s : ℕ) → ownerOf t s < 512
+  pub owner-small : (s : ℕ) → ownerOf t s < 512
   unfolding ownerOf
   owner-small s = omega (arith, acc .routines-most, until-range (λ (r : ℕ). not (isIn t s r)) 0 (length (t .routines)) .1)
 
@@ -112,7 +112,7 @@ module _ (t : Table) (acc : Accepted t) where
   -- ---- futures
 
   module _ (s r : ℕ) (l : s < 512) (b : r < length (t .routines)) where
-    target-small : (z : ℕ) → InRoutine t r z → z < 65536
+    pub target-small : (z : ℕ) → InRoutine t r z → z < 65536
     target-small z i = omega (arith, statement-below t acc r z b i, acc .statements-most)
 
     room-next : (σ : Statement) → Operands t r σ → Room 2 (nextEdges s σ)

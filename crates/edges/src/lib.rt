@@ -47,7 +47,7 @@ fn append(edges: &mut [u32], n: usize, f: usize, t: usize) -> usize
 }
 
 // Appends the edge to `t` from what is referred to, if to anything.
-fn append_from(r: Reference, t: usize, edges: &mut [u32], n: usize) -> usize
+pub fn append_from(r: Reference, t: usize, edges: &mut [u32], n: usize) -> usize
     ensures { λ m. ⌜ Appended (now (edges .entry)) n (now (edges .exit)) m (listOn r (λ q. edge q t ∷ [])) ⌝ }
 {
     match r {
@@ -57,7 +57,7 @@ fn append_from(r: Reference, t: usize, edges: &mut [u32], n: usize) -> usize
 }
 
 // Appends the edge from `f` to what is referred to, if to anything, counted from `base`.
-fn append_to(f: usize, base: usize, r: Reference, edges: &mut [u32], n: usize) -> usize
+pub fn append_to(f: usize, base: usize, r: Reference, edges: &mut [u32], n: usize) -> usize
     requires { ⌜ base < 2 ^ 32 ⌝ }
     ensures { λ m. ⌜ Appended (now (edges .entry)) n (now (edges .exit)) m (listOn r (λ q. edge f (base + q) ∷ [])) ⌝ }
 {
@@ -177,13 +177,12 @@ pub fn fill_naming(numbers: &[i32], first: &[usize], starts: bool, edges: &mut [
     n
 }
 
-// Appends the edge to statement `s` from the next one, if `s` goes on.
-fn append_next(onward: bool, s: usize, edges: &mut [u32], n: usize) -> usize
-    requires { ⌜ s < 2 ^ 32 ⌝ }
-    ensures { λ r. ⌜ Appended (now (edges .entry)) n (now (edges .exit)) r (when onward (edge (s + 1) s ∷ [])) ⌝ }
+// Appends the edge from `f` to `t`, if the test holds.
+pub fn append_if(test: bool, f: usize, t: usize, edges: &mut [u32], n: usize) -> usize
+    ensures { λ r. ⌜ Appended (now (edges .entry)) n (now (edges .exit)) r (when test (edge f t ∷ [])) ⌝ }
 {
-    if onward {
-        return append(edges, n, s + 1, s);
+    if test {
+        return append(edges, n, f, t);
     }
     n
 }
@@ -195,7 +194,7 @@ fn append_nexts(numbers: &[i32], base: usize, s: usize, edges: &mut [u32], n: us
 {
     let line = base + s;
     let m = append_from(attributes::target_at(numbers, line), s, edges, n);
-    append_next(attributes::onward_at(numbers, line), s, edges, m)
+    append_if(attributes::onward_at(numbers, line), s + 1, s, edges, m)
 }
 
 // Fills the list with the edges to each statement from what may come next, and returns how many there are.
@@ -216,7 +215,7 @@ pub fn fill_nexts(numbers: &[i32], edges: &mut [u32]) -> usize
 
 // Appends the edges from statement `s`, if it is a CALL, and from the CALLs of its routine `c`, to those of the routine that it names; the places of
 // a routine's CALLs stand from `end` on, the number of statements.
-fn append_callers(
+pub fn append_callers(
     numbers: &[i32],
     base: usize,
     s: usize,

@@ -18,14 +18,17 @@ append-from-requires c κs = search needs
 onward-at-requires : tie.Need-onward-at-requires
 onward-at-requires c κs = search needs
 
-append-next-requires : tie.Need-append-next-requires
-append-next-requires c κs = search needs
+add-append-if : tie.Need-add-append-if
+add-append-if c = search needs
+
+append-if-requires : tie.Need-append-if-requires
+append-if-requires c κs = search needs
 
 same-length : tie.Need-same-length
 same-length c = search needs
 
 returns : tie.Need-returns
-returns c = appended-same _ _ (next-at _ _ (viewed _ _ (c .before .before .before .before .before .before .before .before .before .before .before .pre .0) _ (c .before .before .before .before .before .before .before .before .before .before .before .pre .1) refl) (c .before .before .before .before .before .before .before .before .before .target-at .ensures) (c .before .before .before .before .onward-at .ensures)) (appended-both (c .before .before .before .before .before .before .before .append-from .ensures) (c .before .before .append-next .ensures))
+returns c = appended-same _ _ (next-at _ _ (viewed _ _ (c .before .before .before .before .before .before .before .before .before .before .before .pre .0) _ (c .before .before .before .before .before .before .before .before .before .before .before .pre .1) refl) (c .before .before .before .before .before .before .before .before .before .target-at .ensures) (c .before .before .before .before .onward-at .ensures)) (appended-both (c .before .before .before .before .before .before .before .append-from .ensures) (c .before .before .append-if .ensures))
 
 pub append-nexts-spec : {M : Type 1} → statement M
 append-nexts-spec =
@@ -35,6 +38,7 @@ append-nexts-spec =
     target-at-requires
     append-from-requires
     onward-at-requires
-    append-next-requires
+    add-append-if
+    append-if-requires
     same-length
     returns)

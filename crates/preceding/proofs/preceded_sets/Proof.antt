@@ -1,0 +1,44 @@
+-- `preceding::preceded_sets` meets its contract. Assumes nothing.
+use mathlib.Core.Path.{sym}
+use lib.Seq.{length-take-le}
+use Rattle.preceding.specs.AnswerLaws.{preceded-answer}
+use borrow.Author.Needs.{needs}
+use Rattle.preceding.proofs.preceded_sets.Statement.{statement}
+use Rattle.preceding.proofs.preceded_sets.Tie as tie
+
+fill-preceding-requires : tie.Need-fill-preceding-requires
+fill-preceding-requires c κs = search needs
+
+fill-marked-requires : tie.Need-fill-marked-requires
+fill-marked-requires c κs = search needs
+
+slice-reshare-prefix-solve-plain : tie.Need-slice-reshare-prefix-solve-plain
+slice-reshare-prefix-solve-plain c = search needs
+
+slice-aggregate-solve-plain : tie.Need-slice-aggregate-solve-plain
+slice-aggregate-solve-plain c = sym (length-take-le _ _ (c .before .before .before .before .before .before .before .before .fill-preceding .ensures .there))
+
+solve-plain-requires : tie.Need-solve-plain-requires
+solve-plain-requires c κs = search needs
+
+same-length : tie.Need-same-length
+same-length c = search needs
+
+same-length-2 : tie.Need-same-length-2
+same-length-2 c = search needs
+
+returns : tie.Need-returns
+returns c = preceded-answer _ _ (c .before .before .before .before .before .before .before .before .before .before .before .fill-preceding .ensures) (c .before .before .before .before .before .before .before .before .before .before .before .before .before .before .before .before .before .pre .1 .1 .1) (c .before .before .before .before .before .before .before .fill-marked .ensures) (c .before .before .solve-plain .ensures)
+
+pub preceded-sets-spec : {M : Type 1} → statement M
+preceded-sets-spec =
+    tie.close
+    (tie.spec
+    fill-preceding-requires
+    fill-marked-requires
+    slice-reshare-prefix-solve-plain
+    slice-aggregate-solve-plain
+    solve-plain-requires
+    same-length
+    same-length-2
+    returns)

@@ -1,0 +1,73 @@
+-- `start_edges::fill_preceding` meets its contract. Its loop has gone through the statements below s. Assumes nothing.
+use Prim.Native.Nat.{_-_}
+use native.Mathlib.Omega.{arith}
+use Rattle.table.specs.Table.{tableOf}
+use Rattle.edges.specs.EdgeLaws.{Growing, growing-start, growing-next}
+use Rattle.edges.specs.LineLaws.{lined}
+use Rattle.edges.specs.RoutineLaws.{Near, near-start}
+use Rattle.start_edges.specs.StartEdges.{precedingAt}
+use Rattle.start_edges.specs.StartRoom.{preceding-ready}
+use borrow.Author.Needs.{needs}
+use Rattle.start_edges.proofs.fill_preceding.Statement.{statement}
+use Rattle.start_edges.proofs.fill_preceding.Tie as tie
+
+abbrev Inv-loop : tie.InvT-loop
+Inv-loop numbers first reach edges₀ base end last n₀ c₀ s₀ edges n c s = Growing (precedingAt (tableOf numbers) reach) end edges₀ 0 edges n s × Near numbers c s
+
+abbrev μ-loop : tie.MeasureT-loop
+μ-loop numbers first reach edges₀ base end last n₀ c₀ s₀ edges n c s = end - s
+
+first-line-requires : tie.Need-first-line-requires Inv-loop μ-loop
+first-line-requires c κs = search needs
+
+field-of-requires : tie.Need-field-of-requires Inv-loop μ-loop
+field-of-requires c κs = search needs
+
+field-of-requires-2 : tie.Need-field-of-requires-2 Inv-loop μ-loop
+field-of-requires-2 c κs = search needs
+
+add-last : tie.Need-add-last Inv-loop μ-loop
+add-last c = search needs
+
+loop-holds : tie.Need-loop-holds Inv-loop μ-loop
+loop-holds c = (growing-start _ _, near-start _ (c .before .before .before .before .before .before .pre .0))
+
+owner-of-requires : tie.Need-owner-of-requires Inv-loop μ-loop
+owner-of-requires c κs = (c .before .before .before .before .before .before .before .before .pre .1 .0, (c .before .before .before .before .before .before .before .before .pre .0, (omega (arith, c .before .before .before .field-of .ensures .0, c .loop-test .taken), c .before .loop .inv .1)))
+
+append-preceding-requires : tie.Need-append-preceding-requires Inv-loop μ-loop
+append-preceding-requires c κs = ((lined _ (c .before .before .before .before .before .before .before .before .before .before .pre .0) (c .before .before .before .before .before .before .first-line .ensures .0), omega (arith, c .before .before .before .before .before .field-of .ensures .0, c .before .before .loop-test .taken)), ((c .before .before .before .before .before .field-of .ensures .0, c .before .owner-of .ensures .0, omega (arith, c .before .owner-of .ensures .1 .small)), omega (arith, c .before .before .before .before .before .field-of .ensures .0, c .before .before .before .before .field-of2 .ensures .0)))
+
+add-s : tie.Need-add-s Inv-loop μ-loop
+add-s c = search needs
+
+loop-less : tie.Need-loop-less Inv-loop μ-loop
+loop-less c = search needs
+
+loop-again : tie.Need-loop-again Inv-loop μ-loop
+loop-again c = (growing-next (c .before .before .before .before .before .before .loop .inv .0) (c .before .before .before .before .before .loop-test .taken) (c .before .before .append-preceding .ensures), c .before .before .before .before .owner-of .ensures .1)
+
+same-length : tie.Need-same-length Inv-loop μ-loop
+same-length c = search needs
+
+returns : tie.Need-returns Inv-loop μ-loop
+returns c = preceding-ready _ (c .before .before .before .before .before .before .before .before .pre .0) (c .before .before .before .field-of .ensures .0) (c .before .before .before .before .before .before .before .before .pre .1 .1) _ (c .before .loop .inv .0) (c .loop-test .left)
+
+pub fill-preceding-spec : {M : Type 1} → statement M
+fill-preceding-spec =
+    tie.close
+    (tie.spec
+    Inv-loop
+    μ-loop
+    first-line-requires
+    field-of-requires
+    field-of-requires-2
+    add-last
+    loop-holds
+    owner-of-requires
+    append-preceding-requires
+    add-s
+    loop-less
+    loop-again
+    same-length
+    returns)
