@@ -1,10 +1,10 @@
 -- What the solver leaves, from the marked list along each equation's edges, are the report's sets. Assumes nothing.
 use Prim.Native.Nat.{ℕ, _+_, _-_}
-use mathlib.Core.Path.{_≡_, refl, sym, ap, ap₂, _∙_}
+use mathlib.Core.Path.{_≡_, ap, ap₂, _∙_}
 use mathlib.Core.List.{List, map}
 use native.Mathlib.Omega.{arith}
 use lib.IntN.{ℤ}
-use lib.ListN.{length, take}
+use lib.ListN.{take}
 use Rattle.sets.specs.Least.{Edge, edgeOf, least}
 use Rattle.table.specs.Header.{routines, statements}
 use Rattle.table.specs.LookupLaws.{routines-length, statements-length}

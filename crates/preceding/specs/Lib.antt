@@ -1,3 +1,4 @@
 pub mod MarkedLaws
 pub mod AnswerLaws
 pub mod LeaveLaws
+pub mod FrontLaws

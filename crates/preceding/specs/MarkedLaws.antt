@@ -1,13 +1,12 @@
 -- A list whose sets are made empty from the front, and then the last one marked. Assumes nothing.
 use Prim.Native.Nat.{ℕ, _+_, _≤_, _<_}
-use mathlib.Core.Path.{_≡_, refl, sym, ap, _∙_}
+use mathlib.Core.Path.{_≡_, refl}
 use mathlib.Core.Bool.{cond}
 use mathlib.Core.List.{List}
 use native.Mathlib.Omega.{arith}
 use lib.Dec.{eqb}
 use lib.ListN.{length, set}
 use borrow.Author.Tests.{ne-eqb, eq-eqb}
-use Rattle.table.specs.Tabulate.{tabulate}
 use Rattle.table.specs.TabulateLaws.{Filled, filled-none, filled-next, filled-all}
 use Rattle.report.specs.Preceded.{marked}
 
@@ -34,8 +33,5 @@ module _ {n : ℕ} {out : List ℕ} {p : ℕ} (h : Emptying n out p) where
   unfolding marked
   emptying-done l =
       let e : p ≡ n = omega (arith, h .upto) in
-      let f : Filled (mark n) out (n + 1) n = subst-filled e in
+      let f : Filled (mark n) out (n + 1) n = rw e at (h .so-far) in
       filled-all (mark n) (set out n 1) (n + 1) (n + 1) (filled-next (mark n) out (n + 1) n 1 f (omega arith) (rw (eq-eqb n n refl))) (omega arith)
-    where
-      subst-filled : p ≡ n → Filled (mark n) out (n + 1) n
-      subst-filled e = rw e at (h .so-far)

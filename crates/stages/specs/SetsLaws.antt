@@ -1,26 +1,30 @@
 -- The sets of a table, each computed out of those before it, and how many there are of each. Assumes nothing.
 use mathlib.Core.Path.{_≡_, refl, sym, ap, ap₂, _∙_}
-use mathlib.Core.Bool.{true, false}
+use mathlib.Core.Bool.{true, false, cond}
 use mathlib.Core.List.{List, [], _∷_, _++_}
 use Prim.Native.Nat.{ℕ, zero, suc, _+_, _*_, _-_, _≤_}
 use native.Mathlib.Nat.{le-of-suc-le-suc}
 use native.Mathlib.Omega.{arith}
 use lib.IntN.{ℤ}
-use lib.ListN.{length, take, drop, replicate, length-append, length-take, length-drop}
-use lib.Seq.{take-at}
+use lib.ListN.{length, getD, take, drop, replicate, length-append, length-take, length-drop}
+use lib.Seq.{getD-take}
 use borrow.Rule.Slice.PartMut.{putMid, take-put}
 use Rattle.table.specs.Header.{handles, routines, statements}
 use Rattle.table.specs.Table.{Table, tableOf}
 use Rattle.table.specs.Accepted.{Accepted}
 use Rattle.table.specs.CutLaws.{take-replicate}
+use Rattle.table.specs.Tabulate.{tabulate}
+use Rattle.table.specs.TabulateLaws.{tabulate-same}
 use Rattle.table.specs.LookupLaws.{handles-length, routines-length, statements-length}
 use Rattle.report.specs.Layout.{Layout, oneEach}
 use Rattle.report.specs.Flow.{flowSets}
 use Rattle.report.specs.Effect.{effects, gives}
-use Rattle.report.specs.Held.{heldSets}
+use Rattle.report.specs.Held.{allLocks, heldSets}
 use Rattle.report.specs.Future.{futures}
 use Rattle.report.specs.Findings.{setsOf}
-use Rattle.findings.specs.Found.{setsIn}
+use Rattle.report.specs.Preceded.{isPreceded}
+use Rattle.findings.specs.Found.{setsIn, countedHolds}
+use Rattle.preceding.specs.LeaveLaws.{countedAt, precededIn}
 
 -- ---- the sets, each out of those before it
 
@@ -56,6 +60,18 @@ module _ (t : Table) where
         e ∙ ap₂ {C = List ℕ} (λ (x y : List ℕ). x ++ y) (ap₂ {C = List ℕ} (λ (l m : List ℕ). futures t one l m false) is r)
         (ap₂ {C = List ℕ} (λ (l m : List ℕ). futures t one l m true) is w)
 
+-- what counts for the common locks, from the held sets in the first places of a list
+pub counted-known : (f : List ℤ) (work a : List ℕ) → take (statements f) work ≡ setsIn (tableOf f) .held
+    → a ≡ tabulate (statements f) (countedAt (tableOf f) work (precededIn (tableOf f))) → a ≡ countedHolds (tableOf f)
+unfolding setsOf countedHolds
+counted-known f work a h e =
+    e
+    ∙ tabulate-same (statements f) _ _
+    (λ s l.
+    ap (λ (x : ℕ). cond (isPreceded (oneEach (tableOf f)) (precededIn (tableOf f)) s) x (allLocks (tableOf f)))
+    (sym (getD-take (statements f) work s 0 l) ∙ ap (λ (x : List ℕ). getD x s 0) h))
+    ∙ ap (λ (n : ℕ). tabulate n (λ s. cond (isPreceded (oneEach (tableOf f)) (precededIn (tableOf f)) s) (getD (setsIn (tableOf f) .held) s 0) (allLocks (tableOf f)))) (sym (statements-length f))
+
 -- ---- how many there are of each
 
 module _ (f : List ℤ) (acc : Accepted (tableOf f)) where
@@ -65,20 +81,7 @@ module _ (f : List ℤ) (acc : Accepted (tableOf f)) where
   pub routines-few : routines f ≤ 32
   routines-few = let h : length (tableOf f .routines) ≤ 32 = acc .routines-most in omega (arith, routines-length f)
 
--- ---- the first places of a list of zeros, filled anew
-
-module _ (m : ℕ) (a : List ℕ) {n : ℕ} (e : length a ≡ n) where
-  abbrev filled : List ℕ
-  filled = a ++ drop n (replicate m 0)
-
-  pub front-fits : n ≤ length filled
-  front-fits = omega (arith, length-append a (drop n (replicate m 0)))
-
-  pub front-is : take n filled ≡ a
-  front-is = take-at a (drop n (replicate m 0)) n e
-
-  pub front-long : n ≡ length (take n filled)
-  front-long = sym (ap length front-is ∙ e)
+-- ---- the first places of a list of zeros
 
 -- the front of a list of zeros
 pub zeros-front : (n : ℕ) (work : List ℕ) → work ≡ replicate (length work) 0 → n ≤ length work → take n work ≡ replicate n 0

@@ -11,7 +11,7 @@ ghost use Rattle.report.specs.Layout.{oneEach};
 ghost use Rattle.report.specs.Findings.{sharedCells};
 ghost use Rattle.report.specs.Report.{reportText};
 ghost use Rattle.held_edges.specs.TableEdges.{basesOf};
-ghost use Rattle.findings.specs.Found.{setsIn};
+ghost use Rattle.findings.specs.Found.{setsIn, countedHolds};
 ghost use Rattle.report_printer.specs.Printed.{bytesIn, printedOver, countsNothing};
 ghost use Rattle.stages.specs.Lent.{Lent};
 use report_printer::Printed;
@@ -121,22 +121,66 @@ fn shared_of(
     find_shared(numbers, first, flow, later, edges)
 }
 
-// Writes the report, from the flow and held sets and the shared cells.
-fn print_found(numbers: &[i32], flow: &[u64], held: &[u64], shared: u64, out: &mut [u8]) -> Printed
+// Writes the report, from the flow and held sets, those that count for the common locks, and the shared cells.
+fn print_found(
+    numbers: &[i32],
+    flow: &[u64],
+    held: &[u64],
+    counted: &[u64],
+    shared: u64,
+    out: &mut [u8],
+) -> Printed
     requires { ⌜ Accepted (tableOf (now numbers)) ⌝ }
     requires { ⌜ now flow ≡ setsIn (tableOf (now numbers)) .flow ⌝ }
     requires { ⌜ now held ≡ setsIn (tableOf (now numbers)) .held ⌝ }
+    requires { ⌜ now counted ≡ countedHolds (tableOf (now numbers)) ⌝ }
     requires { ⌜ shared ≡ sharedCells (tableOf (now numbers)) (oneEach (tableOf (now numbers))) (setsIn (tableOf (now numbers))) ⌝ }
     ensures bytes { λ r. ⌜ r .bytes ≡ bytesIn (reportText (tableOf (now (numbers .entry)))) (length (now (out .entry))) ⌝ }
     ensures clean { λ r. ⌜ r .clean ≡ countsNothing (tableOf (now (numbers .entry))) ⌝ }
     ensures buffer { λ _. ⌜ now (out .exit) ≡ printedOver (reportText (tableOf (now (numbers .entry)))) (now (out .entry)) ⌝ }
 {
     let mut noted = [0u64; 192];
-    findings::note_accesses(numbers, flow, held, &mut noted);
+    findings::note_accesses(numbers, flow, counted, &mut noted);
     report_printer::print_report(numbers, flow, held, shared, &noted[..], out)
 }
 
-// Writes the report, from the flow sets. The held sets go into the first places of `work`, the futures behind them.
+// Writes the report, from the flow sets, the shared cells and the held sets, which stand first in `work`. Those that count for the common locks go behind
+// them.
+fn with_shared(
+    numbers: &[i32],
+    first: &[usize],
+    flow: &[u64],
+    shared: u64,
+    work: &mut [u64],
+    edges: &mut [u32],
+    out: &mut [u8],
+) -> Printed
+    requires { ⌜ Accepted (tableOf (now numbers)) ⌝ }
+    requires { ⌜ now first ≡ firstStatements (now numbers) ⌝ }
+    requires { ⌜ now flow ≡ setsIn (tableOf (now numbers)) .flow ⌝ }
+    requires { ⌜ take (statements (now numbers)) (now work) ≡ setsIn (tableOf (now numbers)) .held ⌝ }
+    requires { ⌜ shared ≡ sharedCells (tableOf (now numbers)) (oneEach (tableOf (now numbers))) (setsIn (tableOf (now numbers))) ⌝ }
+    requires { ⌜ statements (now numbers) + (statements (now numbers) + routines (now numbers) + 1) ≤ length (now work) ⌝ }
+    requires { ⌜ 4 * statements (now numbers) ≤ length (now edges) ⌝ }
+    ensures bytes { λ r. ⌜ r .bytes ≡ bytesIn (reportText (tableOf (now (numbers .entry)))) (length (now (out .entry))) ⌝ }
+    ensures clean { λ r. ⌜ r .clean ≡ countsNothing (tableOf (now (numbers .entry))) ⌝ }
+    ensures buffer { λ _. ⌜ now (out .exit) ≡ printedOver (reportText (tableOf (now (numbers .entry)))) (now (out .entry)) ⌝ }
+{
+    preceding::counted_holds(numbers, first, edges, work);
+    let count = table::field_of(numbers, 0, 5);
+    let end = count + count;
+    print_found(
+        numbers,
+        flow,
+        &work[..count],
+        &work[count..end],
+        shared,
+        out,
+    )
+}
+
+// Writes the report, from the flow sets. The held sets go into the first places of `work`, the futures behind them, and then what counts for the common
+// locks.
 fn with_flow(
     numbers: &[i32],
     flow: &[u64],
@@ -157,7 +201,7 @@ fn with_flow(
     let places = lockset::places_of(numbers);
     find_held(numbers, &first[..], flow, &mut work[..places], edges);
     let shared = shared_of(numbers, &first[..], flow, &mut work[count..end], edges);
-    print_found(numbers, flow, &work[..count], shared, out)
+    with_shared(numbers, &first[..], flow, shared, work, edges, out)
 }
 
 // Writes the report of an accepted table to the start of `out`, the places behind it stay; if it does not fit, no byte is written.

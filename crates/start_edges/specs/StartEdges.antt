@@ -1,11 +1,11 @@
 -- C-13's two equations over the table's own numbers: which routines reach a START, and which statements a START can precede. With one copy of each routine
 -- these are the edges of the report's definitions, as the code goes through them. Assumes nothing.
 use Prim.Native.Nat.{ℕ, _+_}
-use mathlib.Core.Path.{_≡_, refl, sym, ap, ap₂, _∙_}
-use mathlib.Core.Bool.{Bool, cond}
+use mathlib.Core.Path.{_≡_, refl, ap, _∙_}
+use mathlib.Core.Bool.{cond}
 use mathlib.Core.List.{List, [], _∷_, _++_, map}
 use lib.ListN.{length}
-use Rattle.sets.specs.Least.{Edge, least}
+use Rattle.sets.specs.Least.{Edge}
 use Rattle.table.specs.Table.{Table, statement}
 use Rattle.table.specs.View.{view, listOn, calls, starts}
 use Rattle.table.specs.declared.Reference.{Reference}
@@ -15,7 +15,7 @@ use Rattle.report.specs.Over.{joinedFrom}
 use Rattle.report.specs.OverLaws.{within-below}
 use Rattle.report.specs.Layout.{named, ownerOf, oneEach}
 use Rattle.report.specs.Operations.{nexts}
-use Rattle.report.specs.Preceded.{marked, reachEdges, reachSets, bringsStart, entered, precedingEdges, precededSets}
+use Rattle.report.specs.Preceded.{reachEdges, bringsStart, entered, precedingEdges}
 use Rattle.edges.specs.Equations.{edge, callEdges}
 use Rattle.edges.specs.EdgeLaws.{joined-same}
 use Rattle.edges.specs.RoutineLaws.{copy-of}

@@ -1,13 +1,11 @@
 -- What the attributes of a statement's line say of its edges. Assumes nothing.
-use Prim.Native.Nat.{ℕ, _+_, _≤_, _<_}
+use Prim.Native.Nat.{ℕ, _+_}
 use mathlib.Core.Path.{_≡_, refl, sym, ap, ap₂, _∙_}
 use mathlib.Core.Bool.{Bool, true, false, cond, _||_}
-use mathlib.Core.List.{List, [], _∷_, _++_, map, map-append}
+use mathlib.Core.List.{List, [], _∷_, _++_, map-append}
 use native.Mathlib.Nat.{zero-add}
 use lib.IntN.{ℤ}
-use lib.ListN.{length}
 use Rattle.sets.specs.Least.{Edge}
-use Rattle.sets.specs.AppendLaws.{appended-same}
 use Rattle.table.specs.Header.{routines, statements}
 use Rattle.table.specs.LookupLaws.{routines-length, statements-length}
 use Rattle.table.specs.Table.{Table, tableOf, statement}
@@ -17,12 +15,10 @@ use Rattle.table.specs.declared.Reference.{Reference}
 use Rattle.table.specs.declared.Reference.the-variants.{To, Nothing}
 use Rattle.table.specs.declared.View.{View}
 use Rattle.table.specs.declared.Statement.{Statement}
-use Rattle.report.specs.Over.{joinedFrom}
 use Rattle.report.specs.Layout.{named, ownerOf, oneEach}
 use Rattle.report.specs.Operations.{nexts}
 use Rattle.report.specs.Preceded.{isMarked, reachEdges, bringsStart}
 use Rattle.edges.specs.Equations.{Callers, edge, edgesAt, callEdges}
-use Rattle.edges.specs.EdgeLaws.{Appended, Growing, growing-done}
 use Rattle.start_edges.specs.StartEdges.{reachAt, followingEdges, enteringEdges, lastOf, originOf, precedingAt}
 
 -- ---- a START names the routine that it starts

@@ -1,8 +1,8 @@
 -- A list of four places a statement has room for the edges of both equations: at most four a statement, and every number small. Assumes nothing.
 use Prim.Native.Nat.{ℕ, _+_, _*_, _≤_, _<_}
-use mathlib.Core.Path.{_≡_, refl, sym, ap, ap₂, _∙_, subst}
+use mathlib.Core.Path.{_≡_, sym, ap, _∙_, subst}
 use mathlib.Core.Bool.{Bool, true, false, cond}
-use mathlib.Core.List.{List, [], _∷_, _++_, map}
+use mathlib.Core.List.{List, [], _∷_, _++_}
 use native.Mathlib.Omega.{arith}
 use lib.IntN.{ℤ}
 use lib.ListN.{length}
@@ -11,20 +11,17 @@ use Rattle.sets.specs.AppendLaws.{Room, room-none, room-both, room-more, append
 use Rattle.table.specs.Header.{statements}
 use Rattle.table.specs.Table.{Table, tableOf, statement, InRoutine}
 use Rattle.table.specs.Accepted.{Accepted, Operands}
-use Rattle.table.specs.LookupLaws.{routines-length, statements-length}
+use Rattle.table.specs.LookupLaws.{statements-length}
 use Rattle.table.specs.View.{view, listOn, when, calls, starts}
-use Rattle.table.specs.ViewLaws.{list-map, when-map}
-use Rattle.table.specs.declared.Reference.{Reference}
-use Rattle.table.specs.declared.Reference.the-variants.{To, Nothing}
+use Rattle.table.specs.declared.Reference.the-variants.{Nothing}
 use Rattle.table.specs.declared.View.{View}
 use Rattle.table.specs.declared.Statement.{Statement}
 use Rattle.report.specs.Over.{joinedFrom}
 use Rattle.report.specs.OverLaws.{within-below}
 use Rattle.report.specs.Layout.{named, ownerOf, oneEach}
-use Rattle.report.specs.Operations.{nexts}
 use Rattle.report.specs.Preceded.{bringsStart, reachEdges}
 use Rattle.edges.specs.Equations.{edge, callEdges}
-use Rattle.edges.specs.EdgeLaws.{Appended, Growing, growing-done, Ready, ready}
+use Rattle.edges.specs.EdgeLaws.{Growing, growing-done, Ready, ready}
 use Rattle.edges.specs.RoomLaws.{room-edge, room-joined, room-on, room-when, named-small, owner-small, target-small}
 use Rattle.start_edges.specs.StartEdges.{both-on, reachAt, reachFor, followingEdges, enteringEdges, lastOf, originOf, precedingAt, precedingFor}
 use Rattle.start_edges.specs.StartLaws.{following-split}
@@ -41,10 +38,7 @@ module _ (t : Table) (acc : Accepted t) (s : ℕ) (below : s < length (t .statem
   abbrev σ : Statement
   σ = statement t s
 
-  abbrev Owned : Type 0
-  Owned = (r : ℕ) × (r < length (t .routines)) × InRoutine t r s
-
-  owned : Owned
+  owned : (r : ℕ) × (r < length (t .routines)) × InRoutine t r s
   owned = acc .owner s below
 
   operands : Operands t (owned .0) σ
@@ -52,10 +46,6 @@ module _ (t : Table) (acc : Accepted t) (s : ℕ) (below : s < length (t .statem
 
   named-at : named σ < 512
   named-at = named-small t acc (owned .0) σ operands
-
-  -- an edge between places of the second equation
-  room-place : (m f z : ℕ) → f ≤ lastOf t → z ≤ lastOf t → Room (m + 1) (edge f z ∷ [])
-  room-place m f z p q = room-edge m f z (omega (arith, acc .statements-most, acc .routines-most)) (omega (arith, acc .statements-most, acc .routines-most))
 
   reach-room : Room 4 (reachAt t s)
   unfolding reachAt reachEdges oneEach
@@ -69,7 +59,7 @@ module _ (t : Table) (acc : Accepted t) (s : ℕ) (below : s < length (t .statem
       (room-both {m = 1} {n = 1} (listOn (view σ .target) (λ n. edge origin n ∷ [])) (when (view σ .onward) (edge origin (s + 1) ∷ []))
       (room-on (view σ .target) (λ n. edge origin n ∷ [])
       (λ n e. room-edge 0 origin n small (target-small t acc s (owned .0) (omega (arith, acc .statements-most)) (owned .1) n (operands .target n e))))
-      (room-when (view σ .onward) (edge origin (s + 1) ∷ []) (room-place 0 origin (s + 1) l (omega arith))))
+      (room-when (view σ .onward) (edge origin (s + 1) ∷ []) (room-edge 0 origin (s + 1) small (omega (arith, below, acc .statements-most)))))
     where
       small : origin < 65536
       small = omega (arith, acc .statements-most, acc .routines-most)

@@ -18,10 +18,10 @@ set-at-requires : tie.Need-set-at-requires
 set-at-requires c κs = search needs
 
 returns : tie.Need-returns
-returns c = c .set-at .ensures ∙ ap {B = ℕ} (λ (b : Bool). cond b (getD (now (c .before .before .before .before .before .before .args .held)) (c .before .before .before .before .before .before .args .s) 0) (c .before .before .before .before .before .before .args .all)) (sym (c .before .if1 .taken) ∙ (ap₂ {C = Bool} (λ (x y : Bool). x || y) (c .before .before .before .is-marked .ensures) (c .before .before .is-marked2 .ensures)))
+returns c = c .set-at .ensures ∙ ap {B = ℕ} (λ (b : Bool). cond b (getD (now (c .before .before .before .before .before .args .work)) (c .before .before .before .before .before .args .s) 0) (c .before .before .before .before .before .args .all)) (sym (c .before .if1 .taken) ∙ (ap₂ {C = Bool} (λ (x y : Bool). x || y) (c .before .before .before .is-marked .ensures) (c .before .before .is-marked2 .ensures)))
 
 returns-2 : tie.Need-returns-2
-returns-2 c = ap {B = ℕ} (λ (b : Bool). cond b (getD (now (c .before .before .before .before .before .args .held)) (c .before .before .before .before .before .args .s) 0) (c .before .before .before .before .before .args .all)) (sym (c .if1 .left) ∙ (ap₂ {C = Bool} (λ (x y : Bool). x || y) (c .before .before .is-marked .ensures) (c .before .is-marked2 .ensures)))
+returns-2 c = ap {B = ℕ} (λ (b : Bool). cond b (getD (now (c .before .before .before .before .args .work)) (c .before .before .before .before .args .s) 0) (c .before .before .before .before .args .all)) (sym (c .if1 .left) ∙ (ap₂ {C = Bool} (λ (x y : Bool). x || y) (c .before .before .is-marked .ensures) (c .before .is-marked2 .ensures)))
 
 pub counted-spec : {M : Type 1} → statement M
 counted-spec =

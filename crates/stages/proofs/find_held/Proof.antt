@@ -6,7 +6,8 @@ use lib.ListN.{length-replicate}
 use denote.Ref.{now}
 use Rattle.table.specs.Table.{tableOf}
 use Rattle.table.specs.CutLaws.{cut-long}
-use Rattle.stages.specs.SetsLaws.{routines-few, given-known, held-known, front-fits, front-is, front-long, also-fits, edges-fit}
+use Rattle.stages.specs.SetsLaws.{routines-few, given-known, held-known, also-fits, edges-fit}
+use Rattle.preceding.specs.FrontLaws.{front-fits, front-is, front-long}
 use borrow.Author.Needs.{needs}
 use Rattle.stages.proofs.find_held.Statement.{statement}
 use Rattle.stages.proofs.find_held.Tie as tie

@@ -4,7 +4,8 @@ use Prim.Native.Nat.{ℕ, _≤_}
 use native.Mathlib.Omega.{arith}
 use Rattle.table.specs.Table.{tableOf}
 use Rattle.table.specs.CutLaws.{cut-long}
-use Rattle.stages.specs.SetsLaws.{routines-few, reads-known, writes-known, front-fits, front-is, front-long}
+use Rattle.stages.specs.SetsLaws.{routines-few, reads-known, writes-known}
+use Rattle.preceding.specs.FrontLaws.{front-fits, front-is, front-long}
 use denote.Ref.{now}
 use borrow.Author.Needs.{needs}
 use Rattle.stages.proofs.find_shared.Statement.{statement}

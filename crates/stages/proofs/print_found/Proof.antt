@@ -16,7 +16,7 @@ slice-aggregate-print-report c = let long = ap length (c .before .note-accesses 
 
 print-report-requires : tie.Need-print-report-requires
 print-report-requires c κs = let p = c .before .before .before .before .before .before .before .pre in
-    (p .0, found (now (c .before .before .before .before .before .before .before .args .numbers)) (p .1 .0) (p .1 .1 .0) (p .0) _ _ (p .1 .1 .1) (c .before .before .note-accesses .ensures))
+    (p .0, found (now (c .before .before .before .before .before .before .before .args .numbers)) (p .1 .0) (p .1 .1 .1 .0) (p .0) (p .1 .1 .0) _ _ (p .1 .1 .1 .1) (c .before .before .note-accesses .ensures))
 
 same-length : tie.Need-same-length
 same-length c = search needs
