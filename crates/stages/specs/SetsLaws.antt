@@ -8,7 +8,7 @@ use native.Mathlib.Omega.{arith}
 use lib.IntN.{ℤ}
 use lib.ListN.{length, getD, take, drop, replicate, length-append, length-take, length-drop}
 use lib.Seq.{getD-take}
-use borrow.Rule.Slice.PartMut.{putMid, take-put}
+use borrow.Rule.Slice.PartMut.{putMid, same-len-mid, take-put}
 use Rattle.table.specs.Header.{handles, routines, statements}
 use Rattle.table.specs.Table.{Table, tableOf}
 use Rattle.table.specs.Accepted.{Accepted}
@@ -105,14 +105,23 @@ module _ (n m : ℕ) (work out : List ℕ) (fits : m ≤ length work) (among : n
   pub behind-long : (end : ℕ) → n ≤ end → end ≤ length work → length (take (end - n) (drop n (out ++ drop m work))) ≡ end - n
   behind-long end low high = length-take (end - n) (drop n (out ++ drop m work)) ∙ omega (arith, length-drop n (out ++ drop m work), all-long)
 
-  pub held-kept : (k : ℕ) (later : List ℕ) → take n (putMid n k (out ++ drop m work) later) ≡ take n out
+  held-kept : (k : ℕ) (later : List ℕ) → take n (putMid n k (out ++ drop m work) later) ≡ take n out
   held-kept k later = take-put n k (out ++ drop m work) later (omega (arith, all-long)) ∙ take-inside n out (drop m work) (omega (arith, out-long))
 
-  pub held-count : n ≡ length (take n out)
-  held-count = sym (length-take n out ∙ omega (arith, out-long))
+  -- the held sets, by their number in the table
+  pub held-first : (i k : ℕ) (later : List ℕ) → n ≡ i → take i (putMid n k (out ++ drop m work) later) ≡ take i out
+  held-first i k later q =
+      ap {B = List ℕ} (λ (x : ℕ). take x (putMid n k (out ++ drop m work) later)) (sym q) ∙ held-kept k later ∙ ap {B = List ℕ} (λ (x : ℕ). take x out) q
 
-  pub kept-fits : (k : ℕ) (later : List ℕ) → n ≤ length (putMid n k (out ++ drop m work) later)
-  kept-fits k later = omega (arith, length-take n (putMid n k (out ++ drop m work) later), ap length (held-kept k later), held-count)
+  pub kept-long : (k : ℕ) (later : List ℕ) → length later ≡ length (take k (drop n (out ++ drop m work)))
+      → length (putMid n k (out ++ drop m work) later) ≡ length work
+  kept-long k later q = same-len-mid n k (out ++ drop m work) later q ∙ all-long
+
+-- as many places from the middle of twice as many
+pub second-half : (a : List ℕ) (n i : ℕ) → n ≡ i → take (n + n - n) (drop n a) ≡ take i (drop i a)
+second-half a n i q =
+    let twice : n + n - n ≡ i = omega arith in
+    ap₂ {C = List ℕ} (λ (x y : ℕ). take x (drop y a)) twice q
 
 -- three edges a statement and one more
 pub also-fits : (f : List ℤ) → Accepted (tableOf f) → 3 * statements f + 1 ≤ 1537

@@ -2,7 +2,7 @@
 // are found.
 ghost use mathlib.Core.Path.{_≡_};
 ghost use Prim.Native.Nat.{_+_, _*_, _≤_};
-ghost use lib.ListN.{length, replicate, take};
+ghost use lib.ListN.{length, replicate, take, drop};
 ghost use Rattle.table.specs.Header.{routines, statements};
 ghost use Rattle.table.specs.Extents.{firstStatements};
 ghost use Rattle.table.specs.Table.{tableOf};
@@ -121,27 +121,23 @@ fn shared_of(
     find_shared(numbers, first, flow, later, edges)
 }
 
-// Writes the report, from the flow and held sets, those that count for the common locks, and the shared cells.
-fn print_found(
-    numbers: &[i32],
-    flow: &[u64],
-    held: &[u64],
-    counted: &[u64],
-    shared: u64,
-    out: &mut [u8],
-) -> Printed
+// Writes the report, from the flow sets, the shared cells, the held sets, which stand first in `work`, and behind them those that count for the common locks.
+fn print_found(numbers: &[i32], flow: &[u64], work: &[u64], shared: u64, out: &mut [u8]) -> Printed
     requires { ⌜ Accepted (tableOf (now numbers)) ⌝ }
     requires { ⌜ now flow ≡ setsIn (tableOf (now numbers)) .flow ⌝ }
-    requires { ⌜ now held ≡ setsIn (tableOf (now numbers)) .held ⌝ }
-    requires { ⌜ now counted ≡ countedHolds (tableOf (now numbers)) ⌝ }
+    requires { ⌜ take (statements (now numbers)) (now work) ≡ setsIn (tableOf (now numbers)) .held ⌝ }
+    requires { ⌜ take (statements (now numbers)) (drop (statements (now numbers)) (now work)) ≡ countedHolds (tableOf (now numbers)) ⌝ }
+    requires { ⌜ statements (now numbers) + statements (now numbers) ≤ length (now work) ⌝ }
     requires { ⌜ shared ≡ sharedCells (tableOf (now numbers)) (oneEach (tableOf (now numbers))) (setsIn (tableOf (now numbers))) ⌝ }
     ensures bytes { λ r. ⌜ r .bytes ≡ bytesIn (reportText (tableOf (now (numbers .entry)))) (length (now (out .entry))) ⌝ }
     ensures clean { λ r. ⌜ r .clean ≡ countsNothing (tableOf (now (numbers .entry))) ⌝ }
     ensures buffer { λ _. ⌜ now (out .exit) ≡ printedOver (reportText (tableOf (now (numbers .entry)))) (now (out .entry)) ⌝ }
 {
+    let count = table::field_of(numbers, 0, 5);
+    let end = count + count;
     let mut noted = [0u64; 192];
-    findings::note_accesses(numbers, flow, counted, &mut noted);
-    report_printer::print_report(numbers, flow, held, shared, &noted[..], out)
+    findings::note_accesses(numbers, flow, &work[count..end], &mut noted);
+    report_printer::print_report(numbers, flow, &work[..count], shared, &noted[..], out)
 }
 
 // Writes the report, from the flow sets, the shared cells and the held sets, which stand first in `work`. Those that count for the common locks go behind
@@ -167,16 +163,7 @@ fn with_shared(
     ensures buffer { λ _. ⌜ now (out .exit) ≡ printedOver (reportText (tableOf (now (numbers .entry)))) (now (out .entry)) ⌝ }
 {
     preceding::counted_holds(numbers, first, edges, work);
-    let count = table::field_of(numbers, 0, 5);
-    let end = count + count;
-    print_found(
-        numbers,
-        flow,
-        &work[..count],
-        &work[count..end],
-        shared,
-        out,
-    )
+    print_found(numbers, flow, work, shared, out)
 }
 
 // Writes the report, from the flow sets. The held sets go into the first places of `work`, the futures behind them, and then what counts for the common
