@@ -444,8 +444,7 @@ module _ {t : Table} (copies : Copies t) (reaches : ℕ → Type 0) (preceded : 
 pub preceded-exactly : (t : Table) (k : Layout) (acc : Accepted t) (fits : Fits t k) (reach : List ℕ) (c z : ℕ) → Place (copiesOf fits) c z
     → Preceded k (precededSets t k reach) c z ↔ Sentence (copiesOf fits) (Reaches reach) (Preceded k (precededSets t k reach)) c z
 preceded-exactly t k acc fits reach c z v =
-    let rules = preceded-rules t k acc fits reach in
-    (
+    let rules = preceded-rules t k acc fits reach in (
       λ h. preceded-least t k acc fits reach _ (sentence-rules (copiesOf fits) (Reaches reach) (Preceded k (precededSets t k reach)) rules) c z v h .1,
       sentence-precedes (copiesOf fits) (Reaches reach) (Preceded k (precededSets t k reach)) rules c z v,
     )
