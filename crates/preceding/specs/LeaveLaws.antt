@@ -8,7 +8,7 @@ use lib.Dec.{eqb}
 use lib.IntN.{ℤ}
 use lib.ListN.{length, getD, set, take, drop, length-set, length-drop}
 use lib.Seq.{length-take-le, take-at, drop-at, getD-take, getD-drop, getD-set-same, getD-set-other}
-use borrow.Rule.Slice.PartMut.{putMid, same-len-mid, take-put}
+use borrow.Rule.Slice.PartMut.{putMid, same-len-mid}
 use borrow.Author.Tests.{eqb-true, eqb-false}
 use Rattle.sets.specs.Set.{has, firsts}
 use Rattle.table.specs.Header.{locks, routines, statements}
@@ -21,6 +21,7 @@ use Rattle.report.specs.Layout.{ownerOf, oneEach}
 use Rattle.report.specs.Held.{allLocks}
 use Rattle.report.specs.Preceded.{isMarked, reachSets, precededSets, entered, isPreceded}
 use Rattle.edges.specs.RoutineLaws.{Near, near-start, copy-of}
+use Rattle.preceding.specs.FrontLaws.{part-long, put-first}
 
 -- what statement s of a table has, where `sets` says what a START can precede
 abbrev pub countedAt : Table → List ℕ → List ℕ → ℕ → ℕ
@@ -128,39 +129,38 @@ module _ {f : List ℤ} {w₀ w : List ℕ} {c p : ℕ} (r : Leaving f w₀ w c 
 
 -- ---- a list whose places behind those of the statements were filled anew
 
-module _ (f : List ℤ) (w p : List ℕ) (n r : ℕ) (n-is : n ≡ statements f) (r-is : r ≡ routines f)
+module _ (f : List ℤ) (w : List ℕ) (n r : ℕ) (n-is : n ≡ statements f) (r-is : r ≡ routines f)
     (room : statements f + (statements f + routines f + 1) ≤ length w) where
-  -- as the code has their number
-  abbrev k : ℕ
-  k = n + (n + r + 1) - n
+  -- so many, as the code has their number
+  abbrev many : ℕ
+  many = n + (n + r + 1) - n
 
-  k-is : k ≡ statements f + routines f + 1
-  k-is = omega arith
+  many-is : many ≡ statements f + routines f + 1
+  many-is = omega arith
 
-  -- there are so many such places
-  pub part-long : length (take k (drop n w)) ≡ statements f + routines f + 1
-  part-long = length-take-le k (drop n w) (omega (arith, length-drop n w)) ∙ k-is
+  pub places-long : length (take many (drop n w)) ≡ statements f + routines f + 1
+  places-long = part-long n many w (omega (arith, many-is)) ∙ many-is
 
-  module _ (e : length p ≡ length (take k (drop n w))) where
-    pub put-long : statements f + (statements f + routines f + 1) ≤ length (putMid n k w p)
-    put-long = omega (arith, same-len-mid n k w p e)
+  module _ (p : List ℕ) (e : length p ≡ length (take many (drop n w))) where
+    pub put-long : statements f + (statements f + routines f + 1) ≤ length (putMid n many w p)
+    put-long = omega (arith, same-len-mid n many w p e)
 
-    put-before : take (statements f) (putMid n k w p) ≡ take (statements f) w
-    put-before =
-        ap {B = List ℕ} (λ (m : ℕ). take m (putMid n k w p)) (sym n-is) ∙ take-put n k w p (omega arith) ∙ ap {B = List ℕ} (λ (m : ℕ). take m w) n-is
+    put-before : take (statements f) (putMid n many w p) ≡ take (statements f) w
+    put-before = put-first n many w (statements f) p n-is (omega arith)
 
-    put-behind : behindIn f (putMid n k w p) ≡ p
+    put-behind : behindIn f (putMid n many w p) ≡ p
     put-behind =
-        ap₂ {C = List ℕ} (λ (m i : ℕ). take m (drop i (putMid n k w p))) (sym k-is) (sym n-is)
-        ∙ ap {B = List ℕ} (take k) (drop-at (take n w) (p ++ drop k (drop n w)) n (length-take-le n w (omega arith)))
-        ∙ take-at p (drop k (drop n w)) k (e ∙ part-long ∙ sym k-is)
+        ap₂ {C = List ℕ} (λ (m i : ℕ). take m (drop i (putMid n many w p))) (sym many-is) (sym n-is)
+        ∙ ap {B = List ℕ} (take many) (drop-at (take n w) (p ++ drop many (drop n w)) n (length-take-le n w (omega arith)))
+        ∙ take-at p (drop many (drop n w)) many (e ∙ places-long ∙ sym many-is)
 
-    put-at : (s : ℕ) → s < statements f → getD (putMid n k w p) s 0 ≡ getD w s 0
+    put-at : (s : ℕ) → s < statements f → getD (putMid n many w p) s 0 ≡ getD w s 0
     put-at s l =
-        sym (getD-take (statements f) (putMid n k w p) s 0 l) ∙ ap (λ (x : List ℕ). getD x s 0) put-before ∙ getD-take (statements f) w s 0 l
+        sym (getD-take (statements f) (putMid n many w p) s 0 l) ∙ ap (λ (x : List ℕ). getD x s 0) put-before ∙ getD-take (statements f) w s 0 l
 
-    pub put-counted : (out q : List ℕ) → p ≡ q → take (statements f) out ≡ take (statements f) (putMid n k w p)
-        → take (statements f) (drop (statements f) out) ≡ tabulate (statements f) (countedAt (tableOf f) (putMid n k w p) (behindIn f (putMid n k w p)))
+    -- what is left from it is left from the list before, by what was put there
+    pub put-counted : (out q : List ℕ) → p ≡ q → take (statements f) out ≡ take (statements f) (putMid n many w p)
+        → take (statements f) (drop (statements f) out) ≡ tabulate (statements f) (countedAt (tableOf f) (putMid n many w p) (behindIn f (putMid n many w p)))
         → (take (statements f) out ≡ take (statements f) w) × (take (statements f) (drop (statements f) out) ≡ tabulate (statements f) (countedAt (tableOf f) w q))
     put-counted out q i before behind = (
       before ∙ put-before,

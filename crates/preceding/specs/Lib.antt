@@ -1,4 +1,4 @@
 pub mod MarkedLaws
 pub mod AnswerLaws
-pub mod LeaveLaws
 pub mod FrontLaws
+pub mod LeaveLaws

@@ -8,7 +8,7 @@ use native.Mathlib.Omega.{arith}
 use lib.IntN.{ℤ}
 use lib.ListN.{length, getD, take, drop, replicate, length-append, length-take, length-drop}
 use lib.Seq.{getD-take}
-use borrow.Rule.Slice.PartMut.{putMid, same-len-mid, take-put}
+use borrow.Rule.Slice.PartMut.{putMid, same-len-mid}
 use Rattle.table.specs.Header.{handles, routines, statements}
 use Rattle.table.specs.Table.{Table, tableOf}
 use Rattle.table.specs.Accepted.{Accepted}
@@ -24,6 +24,7 @@ use Rattle.report.specs.Future.{futures}
 use Rattle.report.specs.Findings.{setsOf}
 use Rattle.report.specs.Preceded.{isPreceded}
 use Rattle.findings.specs.Found.{setsIn, countedHolds}
+use Rattle.preceding.specs.FrontLaws.{part-long, put-first}
 use Rattle.preceding.specs.LeaveLaws.{countedAt, precededIn}
 
 -- ---- the sets, each out of those before it
@@ -87,35 +88,44 @@ module _ (f : List ℤ) (acc : Accepted (tableOf f)) where
 pub zeros-front : (n : ℕ) (work : List ℕ) → work ≡ replicate (length work) 0 → n ≤ length work → take n work ≡ replicate n 0
 zeros-front n work z h = ap (take n) z ∙ take-replicate n (length work) 0 h
 
--- ---- the held sets in the first places of the lent list, the futures behind them
+-- ---- the first m places of a list, filled anew
 
 take-inside : (n : ℕ) (a b : List ℕ) → n ≤ length a → take n (a ++ b) ≡ take n a
 take-inside zero a b h = refl
 take-inside (suc n) [] b h = absurd (omega arith)
 take-inside (suc n) (x ∷ a) b h = ap (λ (l : List ℕ). x ∷ l) (take-inside n a b (le-of-suc-le-suc h))
 
--- n held sets in the first of m places
-module _ (n m : ℕ) (work out : List ℕ) (fits : m ≤ length work) (among : n ≤ m) (e : length out ≡ length (take m work)) where
+module _ (m : ℕ) (work out : List ℕ) (fits : m ≤ length work) (e : length out ≡ length (take m work)) where
   out-long : length out ≡ m
   out-long = e ∙ length-take m work ∙ omega arith
 
-  all-long : length (out ++ drop m work) ≡ length work
+  pub all-long : length (out ++ drop m work) ≡ length work
   all-long = length-append out (drop m work) ∙ omega (arith, out-long, length-drop m work)
 
-  pub behind-long : (end : ℕ) → n ≤ end → end ≤ length work → length (take (end - n) (drop n (out ++ drop m work))) ≡ end - n
-  behind-long end low high = length-take (end - n) (drop n (out ++ drop m work)) ∙ omega (arith, length-drop n (out ++ drop m work), all-long)
+  pub first-kept : (i : ℕ) → i ≤ m → take i (out ++ drop m work) ≡ take i out
+  first-kept i h = take-inside i out (drop m work) (omega (arith, out-long))
 
-  held-kept : (k : ℕ) (later : List ℕ) → take n (putMid n k (out ++ drop m work) later) ≡ take n out
-  held-kept k later = take-put n k (out ++ drop m work) later (omega (arith, all-long)) ∙ take-inside n out (drop m work) (omega (arith, out-long))
+-- ---- the futures behind the held sets: two for each statement and each routine, as the code has their number
 
-  -- the held sets, by their number in the table
-  pub held-first : (i k : ℕ) (later : List ℕ) → n ≡ i → take i (putMid n k (out ++ drop m work) later) ≡ take i out
-  held-first i k later q =
-      ap {B = List ℕ} (λ (x : ℕ). take x (putMid n k (out ++ drop m work) later)) (sym q) ∙ held-kept k later ∙ ap {B = List ℕ} (λ (x : ℕ). take x out) q
+module _ (f : List ℤ) (work : List ℕ) (n r : ℕ) (n-is : n ≡ statements f) (r-is : r ≡ routines f)
+    (room : statements f + 2 * (statements f + routines f) ≤ length work) where
+  abbrev many : ℕ
+  many = n + 2 * (n + r) - n
 
-  pub kept-long : (k : ℕ) (later : List ℕ) → length later ≡ length (take k (drop n (out ++ drop m work)))
-      → length (putMid n k (out ++ drop m work) later) ≡ length work
-  kept-long k later q = same-len-mid n k (out ++ drop m work) later q ∙ all-long
+  many-is : many ≡ 2 * (statements f + routines f)
+  many-is = omega arith
+
+  pub later-long : length (take many (drop n work)) ≡ 2 * (statements f + routines f)
+  later-long = part-long n many work (omega (arith, many-is)) ∙ many-is
+
+  -- the held sets stay, and there is room for what counts of them
+  pub later-put : Accepted (tableOf f) → (later : List ℕ) → length later ≡ length (take many (drop n work))
+      → (take (statements f) (putMid n many work later) ≡ take (statements f) work)
+      × (statements f + (statements f + routines f + 1) ≤ length (putMid n many work later))
+  later-put acc later e = (
+    put-first n many work (statements f) later n-is (omega arith),
+    omega (arith, same-len-mid n many work later e, acc .statements-some, statements-length f),
+  )
 
 -- as many places from the middle of twice as many
 pub second-half : (a : List ℕ) (n i : ℕ) → n ≡ i → take (n + n - n) (drop n a) ≡ take i (drop i a)

@@ -166,8 +166,33 @@ fn with_shared(
     print_found(numbers, flow, work, shared, out)
 }
 
-// Writes the report, from the flow sets. The held sets go into the first places of `work`, the futures behind them, and then what counts for the common
+// Writes the report, from the flow sets and the held sets, which stand first in `work`. The futures go behind them, and then those that count for the common
 // locks.
+fn with_held(
+    numbers: &[i32],
+    first: &[usize],
+    flow: &[u64],
+    work: &mut [u64],
+    edges: &mut [u32],
+    out: &mut [u8],
+) -> Printed
+    requires { ⌜ Accepted (tableOf (now numbers)) ⌝ }
+    requires { ⌜ now first ≡ firstStatements (now numbers) ⌝ }
+    requires { ⌜ now flow ≡ setsIn (tableOf (now numbers)) .flow ⌝ }
+    requires { ⌜ take (statements (now numbers)) (now work) ≡ setsIn (tableOf (now numbers)) .held ⌝ }
+    requires { ⌜ statements (now numbers) + 2 * (statements (now numbers) + routines (now numbers)) ≤ length (now work) ⌝ }
+    requires { ⌜ 4 * statements (now numbers) ≤ length (now edges) ⌝ }
+    ensures bytes { λ r. ⌜ r .bytes ≡ bytesIn (reportText (tableOf (now (numbers .entry)))) (length (now (out .entry))) ⌝ }
+    ensures clean { λ r. ⌜ r .clean ≡ countsNothing (tableOf (now (numbers .entry))) ⌝ }
+    ensures buffer { λ _. ⌜ now (out .exit) ≡ printedOver (reportText (tableOf (now (numbers .entry)))) (now (out .entry)) ⌝ }
+{
+    let count = table::field_of(numbers, 0, 5);
+    let end = count + 2 * (count + table::field_of(numbers, 0, 4));
+    let shared = shared_of(numbers, first, flow, &mut work[count..end], edges);
+    with_shared(numbers, first, flow, shared, work, edges, out)
+}
+
+// Writes the report, from the flow sets. The held sets go into the first places of `work`.
 fn with_flow(
     numbers: &[i32],
     flow: &[u64],
@@ -183,12 +208,9 @@ fn with_flow(
     ensures buffer { λ _. ⌜ now (out .exit) ≡ printedOver (reportText (tableOf (now (numbers .entry)))) (now (out .entry)) ⌝ }
 {
     let first = declarations::first_statements(numbers);
-    let count = table::field_of(numbers, 0, 5);
-    let end = count + 2 * (count + table::field_of(numbers, 0, 4));
     let places = lockset::places_of(numbers);
     find_held(numbers, &first[..], flow, &mut work[..places], edges);
-    let shared = shared_of(numbers, &first[..], flow, &mut work[count..end], edges);
-    with_shared(numbers, &first[..], flow, shared, work, edges, out)
+    with_held(numbers, &first[..], flow, work, edges, out)
 }
 
 // Writes the report of an accepted table to the start of `out`, the places behind it stay; if it does not fit, no byte is written.

@@ -2,7 +2,7 @@
 use mathlib.Core.Path.{_∙_}
 use native.Mathlib.Omega.{arith}
 use denote.Ref.{now}
-use Rattle.preceding.specs.LeaveLaws.{part-long, put-long, put-counted}
+use Rattle.preceding.specs.LeaveLaws.{places-long, put-long, put-counted}
 use borrow.Author.Needs.{needs}
 use Rattle.preceding.proofs.counted_holds.Statement.{statement}
 use Rattle.preceding.proofs.counted_holds.Tie as tie
@@ -35,10 +35,10 @@ part-find-preceded-end : tie.Need-part-find-preceded-end
 part-find-preceded-end c = search needs
 
 find-preceded-requires : tie.Need-find-preceded-requires
-find-preceded-requires c κs = (c .before .before .before .before .before .before .before .pre .0, (c .before .before .before .before .before .before .before .pre .1 .0, (c .before .before .before .before .before .before .before .pre .1 .1 .0, part-long (now (c .before .before .before .before .before .before .before .args .numbers)) (now (c .before .before .before .before .before .before .before .args .work)) (now (c .before .before .before .before .before .before .before .args .work)) _ _ (c .before .before .before .field-of .ensures .0) (c .before .before .field-of2 .ensures .0) (c .before .before .before .before .before .before .before .pre .1 .1 .1))))
+find-preceded-requires c κs = (c .before .before .before .before .before .before .before .pre .0, (c .before .before .before .before .before .before .before .pre .1 .0, (c .before .before .before .before .before .before .before .pre .1 .1 .0, places-long (now (c .before .before .before .before .before .before .before .args .numbers)) (now (c .before .before .before .before .before .before .before .args .work)) _ _ (c .before .before .before .field-of .ensures .0) (c .before .before .field-of2 .ensures .0) (c .before .before .before .before .before .before .before .pre .1 .1 .1))))
 
 leave-out-requires : tie.Need-leave-out-requires
-leave-out-requires c κs = (c .before .before .before .before .before .before .before .before .before .before .before .before .before .pre .0, (c .before .before .before .before .before .before .before .before .before .before .before .before .before .pre .1 .0, put-long (now (c .before .before .before .before .before .before .before .before .before .before .before .before .before .args .numbers)) (now (c .before .before .before .before .before .before .before .before .before .before .before .before .before .args .work)) (c .before .before .before .before .before .find-preceded .last .1 .1 .1 .0) _ _ (c .before .before .before .before .before .before .before .before .before .field-of .ensures .0) (c .before .before .before .before .before .before .before .before .field-of2 .ensures .0) (c .before .before .before .before .before .before .before .before .before .before .before .before .before .pre .1 .1 .1) (c .before .before .before .before .before .find-preceded .kept .1 .1 .1 .0)))
+leave-out-requires c κs = (c .before .before .before .before .before .before .before .before .before .before .before .before .before .pre .0, (c .before .before .before .before .before .before .before .before .before .before .before .before .before .pre .1 .0, put-long (now (c .before .before .before .before .before .before .before .before .before .before .before .before .before .args .numbers)) (now (c .before .before .before .before .before .before .before .before .before .before .before .before .before .args .work)) _ _ (c .before .before .before .before .before .before .before .before .before .field-of .ensures .0) (c .before .before .before .before .before .before .before .before .field-of2 .ensures .0) (c .before .before .before .before .before .before .before .before .before .before .before .before .before .pre .1 .1 .1) (c .before .before .before .before .before .find-preceded .last .1 .1 .1 .0) (c .before .before .before .before .before .find-preceded .kept .1 .1 .1 .0)))
 
 same-length : tie.Need-same-length
 same-length c = search needs
@@ -47,7 +47,7 @@ same-length-2 : tie.Need-same-length-2
 same-length-2 c = search needs
 
 returns : tie.Need-returns
-returns c = put-counted (now (c .before .before .before .before .before .before .before .before .before .before .before .before .before .before .before .before .args .numbers)) (now (c .before .before .before .before .before .before .before .before .before .before .before .before .before .before .before .before .args .work)) (c .before .before .before .before .before .before .before .before .find-preceded .last .1 .1 .1 .0) _ _ (c .before .before .before .before .before .before .before .before .before .before .before .before .field-of .ensures .0) (c .before .before .before .before .before .before .before .before .before .before .before .field-of2 .ensures .0) (c .before .before .before .before .before .before .before .before .before .before .before .before .before .before .before .before .pre .1 .1 .1) (c .before .before .before .before .before .before .before .before .find-preceded .kept .1 .1 .1 .0) _ _ (c .before .before .before .before .before .before .before .before .find-preceded .ensures) (c .before .before .leave-out .ensures .0) (c .before .before .leave-out .ensures .1)
+returns c = put-counted (now (c .before .before .before .before .before .before .before .before .before .before .before .before .before .before .before .before .args .numbers)) (now (c .before .before .before .before .before .before .before .before .before .before .before .before .before .before .before .before .args .work)) _ _ (c .before .before .before .before .before .before .before .before .before .before .before .before .field-of .ensures .0) (c .before .before .before .before .before .before .before .before .before .before .before .field-of2 .ensures .0) (c .before .before .before .before .before .before .before .before .before .before .before .before .before .before .before .before .pre .1 .1 .1) (c .before .before .before .before .before .before .before .before .find-preceded .last .1 .1 .1 .0) (c .before .before .before .before .before .before .before .before .find-preceded .kept .1 .1 .1 .0) _ _ (c .before .before .before .before .before .before .before .before .find-preceded .ensures) (c .before .before .leave-out .ensures .0) (c .before .before .leave-out .ensures .1)
 
 pub counted-holds-spec : {M : Type 1} → statement M
 counted-holds-spec =
