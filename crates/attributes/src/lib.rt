@@ -54,15 +54,15 @@ pub fn view_at(numbers: &[i32], line: usize) -> View
     ensures { λ r. ⌜ r ≡ view (statementIn (now (numbers .entry)) line (field (now (numbers .entry)) line 1)) ⌝ }
 {
     let op = field_of(numbers, line, 1);
-    let early = (0 < op) & (op < 12);
+    let keeps = ((0 < op) & (op < 12)) | (op == 13);
     let naming = (op == 8) | (op == 9);
     View {
-        onward: early & !(op == 10),
-        ends: !early,
+        onward: keeps & !(op == 10),
+        ends: !keeps,
         target: first_if(numbers, line, (op == 10) | (op == 11)),
         reads: first_if(numbers, line, op == 1),
         writes: first_if(numbers, line, op == 2),
-        takes: first_if(numbers, line, op == 5),
+        takes: first_if(numbers, line, (op == 5) | (op == 13)),
         writing: op == 5,
         gives: first_if(numbers, line, op == 6),
         points: first_if(numbers, line, op == 7),
@@ -80,7 +80,7 @@ pub fn onward_at(numbers: &[i32], line: usize) -> bool
     ensures { λ r. ⌜ r ≡ view (statementIn (now (numbers .entry)) line (field (now (numbers .entry)) line 1)) .onward ⌝ }
 {
     let op = field_of(numbers, line, 1);
-    (0 < op) & (op < 12) & !(op == 10)
+    (((0 < op) & (op < 12)) | (op == 13)) & !(op == 10)
 }
 
 // The statement that the one in `line` may jump to.

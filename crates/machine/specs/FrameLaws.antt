@@ -14,9 +14,9 @@ use Rattle.table.specs.View.{noArguments, view, On, calls}
 use Rattle.table.specs.ViewLaws.{calls-names}
 use Rattle.table.specs.declared.Arguments.{Arguments}
 use Rattle.table.specs.declared.Statement.{Statement}
-use Rattle.table.specs.declared.Statement.the-variants.{Read, Write, Set, Add, Take, Give, Point, Call, Start, Jump, JumpZero, Return}
-use Rattle.machine.specs.State.{State, Frame, Thread, Holder, free, held, ended, thread, holder, refers, opened, start}
-use Rattle.machine.specs.Step.{moved, refused, taking, giving, isZero, going, goes-on, operate, stepped, step, after, run}
+use Rattle.table.specs.declared.Statement.the-variants.{Read, Write, Set, Add, Take, Give, Point, Call, Start, Jump, JumpZero, Return, TakeRead}
+use Rattle.machine.specs.State.{State, Frame, Thread, Holder, free, ended, thread, holder, refers, opened, start}
+use Rattle.machine.specs.Step.{refused, Turn, passes, stops, taking, reading, giving, isZero, going, goes-on, turned, operate, stepped, step, after, run}
 use Rattle.machine.specs.Engine.{frameSlots, limitOf, engineStep, engineRun}
 use Rattle.machine.specs.EngineLaws.{unlimited, engine-runs-as-machine}
 use Rattle.machine.specs.Words.{Next}
@@ -89,18 +89,6 @@ module _ {t : Table} (accepted : Accepted t) where
         → Bounded t (record { threads = set (state .threads) n th; cells = cells; locks = locks })
     kept th cells locks r = record { rooms = λ m. set-case (λ (x : Thread). Rooms t (x .frames)) (state .threads) n m th ended (λ e. r) (b .rooms m) }
 
-    taken : (w : Holder) (new : State) → Bounded t new → Bounded t (after state (taking w new))
-    taken free new k = k
-    taken (held m) new k = b
-
-    given : (w : Holder) (new : State) → Bounded t new → Bounded t (after state (giving w n new))
-    given free new k = b
-    given (held m) new k = go (eqb m n)
-      where
-        go : (c : Bool) → Bounded t (after state (cond c (moved new) (refused 17)))
-        go true = k
-        go false = b
-
     module _ (a : ℤ) (f : Frame) (older : List Frame) (here : Room t (length older) f) (below : Rooms t older) where
       to : (s : ℕ) → InRoutine t (f .routine) s → Room t (length older) (going f s)
       to s i = record { there = here .there; inside = i; room = here .room }
@@ -115,14 +103,18 @@ module _ {t : Table} (accepted : Accepted t) where
           → Bounded t (goes-on t state n a f older z cells locks)
       went-on σ e o z cells locks = kept (record { accumulator = z; frames = going f (f .next + 1) ∷ older }) cells locks (on σ e o, below)
 
+      took-turn : (σ : Statement) → statement t (f .next) ≡ σ → view σ .onward ≡ true → (k : ℕ) (turn : Turn) → Bounded t (after state (turned t state n a f older k turn))
+      took-turn σ e o k (passes new) = went-on σ e o _ _ _
+      took-turn σ e o k (stops number) = b
+
       operated : (σ : Statement) → statement t (f .next) ≡ σ → Bounded t (after state (operate t state n a f older σ))
       unfolding operate
       operated (Read h) e = went-on (Read h) e refl _ _ _
       operated (Write h) e = went-on (Write h) e refl _ _ _
       operated (Set z) e = went-on (Set z) e refl _ _ _
       operated (Add z) e = went-on (Add z) e refl _ _ _
-      operated (Take h) e = taken (holder state (refers f (h .number))) _ (went-on (Take h) e refl _ _ _)
-      operated (Give h) e = given (holder state (refers f (h .number))) _ (went-on (Give h) e refl _ _ _)
+      operated (Take h) e = took-turn (Take h) e refl (refers f (h .number)) (taking n (holder state (refers f (h .number))))
+      operated (Give h) e = took-turn (Give h) e refl (refers f (h .number)) (giving n (holder state (refers f (h .number))))
       operated (Point h g) e =
           let r = on (Point h g) e refl in kept _ _ _ (record { there = r .there; inside = r .inside; room = r .room }, below)
       operated (Call q arguments) e =
@@ -139,6 +131,7 @@ module _ {t : Table} (accepted : Accepted t) where
           go true = to (s .statement) (operands (JumpZero s) e .target (s .statement) refl)
           go false = on (JumpZero s) e refl
       operated Return e = kept _ _ _ below
+      operated (TakeRead h) e = took-turn (TakeRead h) e refl (refers f (h .number)) (reading n (holder state (refers f (h .number))))
 
     has-stepped : (a : ℤ) (fs : List Frame) → Rooms t fs → Bounded t (after state (stepped t state n a fs))
     unfolding stepped

@@ -1,22 +1,24 @@
--- What single steps do to locks, threads and handles: document 01's refusals 14 to 17, and what TAKE, GIVE, POINT, START and RETURN leave. Assumes nothing.
+-- What single steps do to locks, threads and handles: document 01's refusals 14 to 17, and what TAKE, TAKER, GIVE, POINT, START and RETURN leave. Assumes nothing.
 use Prim.Native.Nat.{ℕ, _+_, _≤_, _<_}
-use mathlib.Core.Path.{_≡_, refl}
+use mathlib.Core.Path.{_≡_, refl, sym, ap, _∙_, subst}
 use mathlib.Core.Bool.{Bool, true, false, cond}
 use mathlib.Core.List.{List, [], _∷_}
-use lib.Dec.{ltb, eqb}
+use lib.Dec.{ltb}
 use lib.IntN.{ℤ, pos}
 use lib.ListN.{length, set, length-append, length-set}
 use lib.Seq.{getD-set-same, getD-set-other, getD-at}
-use borrow.Author.Tests.{le-ltb, eq-eqb, ne-eqb}
+use borrow.Author.Tests.{le-ltb}
 use native.Mathlib.Omega.{arith}
 use Rattle.table.specs.Table.{Table, statement}
 use Rattle.table.specs.declared.Arguments.{Arguments}
 use Rattle.table.specs.declared.Handle.{Handle}
 use Rattle.table.specs.declared.Statement.{Statement}
-use Rattle.table.specs.declared.Statement.the-variants.{Read, Write, Set, Add, Take, Give, Point, Call, Start, Jump, JumpZero, Return}
-use Rattle.machine.specs.State.{State, Frame, Holder, free, held, ended, thread, holder, refers, opened}
-use Rattle.machine.specs.Step.{Answer, moved, refused, taking, giving, going, pointing, goes-on, operate, stepped, step, after}
-use Rattle.machine.specs.Words.{Holds}
+use Rattle.table.specs.declared.Statement.the-variants.{Read, Write, Set, Add, Take, Give, Point, Call, Start, Jump, JumpZero, Return, TakeRead}
+use Rattle.machine.specs.State.{State, Frame, Holder, writer, readers, free, holdsIn, ended, thread, holder, refers, opened}
+use Rattle.machine.specs.Step.{Answer, moved, refused, Turn, passes, stops, taking, reading, giving, going, pointing, turned, operate, stepped, step, after}
+use Rattle.machine.specs.Words.{HoldsIn, Holds}
+use Rattle.machine.specs.LockLaws.{Stops, OnPass, OthersKeep, held-stops-taking, writer-stops-reading, own-hold-stops-reading, not-held-stops-giving}
+use Rattle.machine.specs.LockLaws.{taking-gets, reading-gets, giving-ends, taking-stops, reading-stops, giving-stops}
 
 -- 14: a thread number that is not started is refused
 pub not-started-refused : (t : Table) (state : State) (n : ℕ) → length (state .threads) ≤ n → step t state n ≡ refused 14
@@ -29,24 +31,34 @@ unfolding stepped
 ended-refused t state n a = refl
 
 module _ (t : Table) (state : State) (n : ℕ) (a : ℤ) (f : Frame) (older : List Frame) where
-  -- 16: TAKE finds its lock held, by this thread too
-  pub held-lock-refuses-take : (h : Handle) (m : ℕ) → holder state (refers f (h .number)) ≡ held m → operate t state n a f older (Take h) ≡ refused 16
-  unfolding operate
-  held-lock-refuses-take h m e = rw e
+  -- the lock that a handle refers to, and who holds it
+  abbrev lock : Handle → ℕ
+  lock h = refers f (h .number)
 
-  pub own-lock-refuses-take : (h : Handle) → holder state (refers f (h .number)) ≡ held n → operate t state n a f older (Take h) ≡ refused 16
+  abbrev who : Handle → Holder
+  who h = holder state (lock h)
+
+  -- 16: TAKE finds its lock held, for reading or writing, by this thread too
+  pub held-lock-refuses-take : (h : Handle) (m : ℕ) → Holds state m (lock h) → operate t state n a f older (Take h) ≡ refused 16
+  unfolding operate
+  held-lock-refuses-take h m e = ap (turned t state n a f older (lock h)) (held-stops-taking n m (who h) e)
+
+  pub own-lock-refuses-take : (h : Handle) → Holds state n (lock h) → operate t state n a f older (Take h) ≡ refused 16
   own-lock-refuses-take h e = held-lock-refuses-take h n e
 
-  -- 17: GIVE finds its lock not held by this thread: free
-  pub free-lock-refuses-give : (h : Handle) → holder state (refers f (h .number)) ≡ free → operate t state n a f older (Give h) ≡ refused 17
+  -- 16: TAKER finds its lock held for writing, or held by this thread in either way
+  pub writer-refuses-taker : (h : Handle) (m : ℕ) → HoldsIn true state m (lock h) → operate t state n a f older (TakeRead h) ≡ refused 16
   unfolding operate
-  free-lock-refuses-give h e = rw e
+  writer-refuses-taker h m e = ap (turned t state n a f older (lock h)) (writer-stops-reading n m (who h) e)
 
-  -- 17: or another's
-  pub other-lock-refuses-give : (h : Handle) (m : ℕ) → holder state (refers f (h .number)) ≡ held m → (m ≡ n → ⊥)
-      → operate t state n a f older (Give h) ≡ refused 17
+  pub own-lock-refuses-taker : (h : Handle) → Holds state n (lock h) → operate t state n a f older (TakeRead h) ≡ refused 16
   unfolding operate
-  other-lock-refuses-give h m e other = rw (e, ne-eqb m n other)
+  own-lock-refuses-taker h e = ap (turned t state n a f older (lock h)) (own-hold-stops-reading n (who h) e)
+
+  -- 17: GIVE finds its lock not held by this thread: free, or others hold it
+  pub not-held-refuses-give : (h : Handle) → holdsIn false (who h) n ≡ false → operate t state n a f older (Give h) ≡ refused 17
+  unfolding operate
+  not-held-refuses-give h e = ap (turned t state n a f older (lock h)) (not-held-stops-giving n (who h) e)
 
   -- START hands no lock to the new thread, and adds one thread
   pub start-keeps-locks : (r : ℕ) (arguments : Arguments) → after state (operate t state n a f older (Start r arguments)) .locks ≡ state .locks
@@ -87,17 +99,34 @@ module _ (t : Table) (state : State) (n : ℕ) (a : ℤ) (f : Frame) (older : Li
   pub others-refer : (h x other : ℕ) → (other ≡ h → ⊥) → refers (pointing f h x) other ≡ refers f other
   others-refer h x other differ = getD-set-other (f .values) h other x 0 differ
 
-  -- a thread "holds a lock from the step by which it gets it": a free lock that is there
-  pub take-gets : (h : Handle) → holder state (refers f (h .number)) ≡ free → refers f (h .number) < length (state .locks)
-      → Holds (after state (operate t state n a f older (Take h))) n (refers f (h .number))
-  unfolding operate
-  take-gets h e there = rw e (getD-set-same (state .locks) (refers f (h .number)) (held n) free there)
+  -- what a turn that passes says of who holds the lock, a lock that is there, holds after it
+  after-turn : (k : ℕ) (turn : Turn) (P : Holder → Type 0) → k < length (state .locks) → OnPass turn P
+      → OnPass turn (λ new. P (holder (after state (turned t state n a f older k turn)) k))
+  after-turn k (passes new) P there p = subst P (sym (getD-set-same (state .locks) k new free there)) p
+  after-turn k (stops number) P there p = tt
 
-  -- "to the step by which it gives it up": nobody holds it then
-  pub give-frees : (h : Handle) → Holds state n (refers f (h .number)) → refers f (h .number) < length (state .locks)
-      → holder (after state (operate t state n a f older (Give h))) (refers f (h .number)) ≡ free
+  -- a thread "holds a lock from the step by which it gets it": for writing by TAKE, and so in either way; for reading by TAKER
+  pub take-gets : (h : Handle) → lock h < length (state .locks)
+      → OnPass (taking n (who h)) (λ new. (w : Bool) → HoldsIn w (after state (operate t state n a f older (Take h))) n (lock h))
   unfolding operate
-  give-frees h e there = rw (e, eq-eqb n n refl) (getD-set-same (state .locks) (refers f (h .number)) free free there)
+  take-gets h there = after-turn (lock h) (taking n (who h)) (λ new. (w : Bool) → holdsIn w new n ≡ true) there (taking-gets n (who h))
+
+  pub taker-gets : (h : Handle) → lock h < length (state .locks)
+      → OnPass (reading n (who h)) (λ new. Holds (after state (operate t state n a f older (TakeRead h))) n (lock h))
+  unfolding operate
+  taker-gets h there = after-turn (lock h) (reading n (who h)) (λ new. holdsIn false new n ≡ true) there (reading-gets n (who h))
+
+  -- "to the step by which it gives it up": it holds the lock in no way then
+  pub give-ends : (h : Handle) → lock h < length (state .locks)
+      → OnPass (giving n (who h)) (λ new. (w : Bool) → HoldsIn w (after state (operate t state n a f older (Give h))) n (lock h) → ⊥)
+  unfolding operate
+  give-ends h there =
+      after-turn (lock h) (giving n (who h)) (λ new. (w : Bool) → holdsIn w new n ≡ true → ⊥) there
+      (ends (giving n (who h)) (giving-ends n (who h)))
+    where
+      ends : (turn : Turn) → OnPass turn (λ new. (w : Bool) → holdsIn w new n ≡ false) → OnPass turn (λ new. (w : Bool) → holdsIn w new n ≡ true → ⊥)
+      ends (passes new) e = λ w i. let z : true ≡ false = sym i ∙ e w in let y : _≡_ {A = ℕ} 0 1 = cc in omega arith
+      ends (stops number) e = tt
 
   -- "An ended thread keeps its locks"
   pub return-keeps-locks : after state (operate t state n a f older Return) .locks ≡ state .locks
@@ -110,17 +139,10 @@ abbrev pub Within : Answer → Type 0
 Within (moved new) = Unit {0}
 Within (refused number) = (14 ≤ number) × (number ≤ 17)
 
-taking-within : (w : Holder) (new : State) → Within (taking w new)
-taking-within free new = tt
-taking-within (held m) new = (omega arith, omega arith)
-
-giving-within : (w : Holder) (n : ℕ) (new : State) → Within (giving w n new)
-giving-within free n new = (omega arith, omega arith)
-giving-within (held m) n new = go (eqb m n)
-  where
-    go : (b : Bool) → Within (cond b (moved new) (refused 17))
-    go true = tt
-    go false = (omega arith, omega arith)
+turned-within : (t : Table) (state : State) (n : ℕ) (a : ℤ) (f : Frame) (older : List Frame) (k number : ℕ) (turn : Turn) → 14 ≤ number → number ≤ 17
+    → Stops number turn → Within (turned t state n a f older k turn)
+turned-within t state n a f older k number (passes new) low high e = tt
+turned-within t state n a f older k number (stops other) low high e = (omega arith, omega arith)
 
 operate-within : (t : Table) (state : State) (n : ℕ) (a : ℤ) (f : Frame) (older : List Frame) (σ : Statement) → Within (operate t state n a f older σ)
 unfolding operate
@@ -129,15 +151,20 @@ operate-within t state n a f older (Write h) = tt
 operate-within t state n a f older (Set number) = tt
 operate-within t state n a f older (Add number) = tt
 operate-within t state n a f older (Take h) =
-    taking-within (holder state (refers f (h .number))) (goes-on t state n a f older a (state .cells) (set (state .locks) (refers f (h .number)) (held n)))
+    turned-within t state n a f older (refers f (h .number)) 16 (taking n (holder state (refers f (h .number)))) (omega arith) (omega arith)
+    (taking-stops n (holder state (refers f (h .number))))
 operate-within t state n a f older (Give h) =
-    giving-within (holder state (refers f (h .number))) n (goes-on t state n a f older a (state .cells) (set (state .locks) (refers f (h .number)) free))
+    turned-within t state n a f older (refers f (h .number)) 17 (giving n (holder state (refers f (h .number)))) (omega arith) (omega arith)
+    (giving-stops n (holder state (refers f (h .number))))
 operate-within t state n a f older (Point h g) = tt
 operate-within t state n a f older (Call r arguments) = tt
 operate-within t state n a f older (Start r arguments) = tt
 operate-within t state n a f older (Jump s) = tt
 operate-within t state n a f older (JumpZero s) = tt
 operate-within t state n a f older Return = tt
+operate-within t state n a f older (TakeRead h) =
+    turned-within t state n a f older (refers f (h .number)) 16 (reading n (holder state (refers f (h .number)))) (omega arith) (omega arith)
+    (reading-stops n (holder state (refers f (h .number))))
 
 stepped-within : (t : Table) (state : State) (n : ℕ) (a : ℤ) (fs : List Frame) → Within (stepped t state n a fs)
 unfolding stepped

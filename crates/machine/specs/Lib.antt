@@ -5,6 +5,7 @@ pub mod SumLaws
 pub mod Words
 pub mod Engine
 pub mod Notebook
+pub mod LockLaws
 pub mod Laws
 pub mod EngineLaws
 pub mod FrameLaws

@@ -13,7 +13,7 @@ use Rattle.table.specs.Tabulate.{tabulateFrom, tabulate}
 use Rattle.table.specs.declared.Arguments.{Arguments}
 use Rattle.table.specs.declared.Statement.{Statement}
 use Rattle.table.specs.declared.Statement.the-variants.{Read, Write, Add, Take, Give, Call, Start, JumpZero, Return}
-use Rattle.machine.specs.State.{State, Frame, thread, start, opened, entered, free, held}
+use Rattle.machine.specs.State.{State, Frame, thread, start, opened, entered, free}
 use Rattle.machine.specs.Step.{refused, saturate, step, after, run}
 use Rattle.machine.specs.Engine.{frameSlots, engineStep, answer}
 use Rattle.machine.specs.Words.{Safe}
@@ -79,7 +79,7 @@ own-lock-stays-shut = refl
 -- (b) of demand 3 says something: a thread that stands before a GIVE of a free lock is not safe
 pub give-of-free-is-not-safe : let t = alone (Give (record { number = 0 }) ∷ Return ∷ Return ∷ []) in Safe t (start t) → ⊥
 unfolding alone start opened entered tabulateFrom tabulate
-give-of-free-is-not-safe safe = let held-by : free ≡ held 0 = safe .no-stray 0 0 (0, refl, refl) in let z : _≡_ {A = ℕ} 0 1 = cc in omega arith
+give-of-free-is-not-safe safe = let held-by : false ≡ true = safe .no-stray 0 0 (0, refl, refl) in let z : _≡_ {A = ℕ} 0 1 = cc in omega arith
 
 -- ---- document 01's own table
 

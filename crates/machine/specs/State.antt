@@ -1,6 +1,6 @@
 -- The state of a run and where a run begins. Assumes nothing.
 use Prim.Native.Nat.{ℕ, _-_}
-use mathlib.Core.Bool.{cond}
+use mathlib.Core.Bool.{Bool, false, cond, _||_}
 use mathlib.Core.List.{List, [], _∷_}
 use lib.Dec.{eqb}
 use lib.IntN.{ℤ, pos}
@@ -20,10 +20,29 @@ pub record Thread : Type 0 where
   pub accumulator : ℤ
   pub frames : List Frame
 
--- who holds a lock: nobody, or a thread
+-- who holds a lock (C-18): one thread for writing, or some for reading
 pub data Holder : Type 0 where
-  free : Holder
-  held : ℕ → Holder
+  writer : ℕ → Holder
+  readers : List ℕ → Holder
+
+-- a lock that nobody holds
+abbrev pub free : Holder
+free = readers []
+
+-- thread n is among these
+abbrev pub among : ℕ → List ℕ → Bool
+among n [] = false
+among n (m ∷ ms) = eqb m n || among n ms
+
+-- these without thread n
+abbrev pub without : ℕ → List ℕ → List ℕ
+without n [] = []
+without n (m ∷ ms) = cond (eqb m n) (without n ms) (m ∷ without n ms)
+
+-- thread n holds the lock: for writing (true), or in either way (false)
+abbrev pub holdsIn : Bool → Holder → ℕ → Bool
+holdsIn w (writer m) n = eqb m n
+holdsIn w (readers ms) n = cond w false (among n ms)
 
 -- the threads that were started, each by its number (so the next number is how many there are), the cells' values, and who holds each lock
 pub record State : Type 0 where

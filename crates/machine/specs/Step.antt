@@ -8,8 +8,8 @@ use lib.ListN.{getD, length, set}
 use lib.Signed.{ltZ}
 use Rattle.table.specs.Table.{Table, statement}
 use Rattle.table.specs.declared.Statement.{Statement}
-use Rattle.table.specs.declared.Statement.the-variants.{Read, Write, Set, Add, Take, Give, Point, Call, Start, Jump, JumpZero, Return}
-use Rattle.machine.specs.State.{State, Frame, Holder, free, held, thread, holder, refers, opened}
+use Rattle.table.specs.declared.Statement.the-variants.{Read, Write, Set, Add, Take, Give, Point, Call, Start, Jump, JumpZero, Return, TakeRead}
+use Rattle.machine.specs.State.{State, Frame, Holder, writer, readers, free, among, without, thread, holder, refers, opened}
 
 -- what a step answers: the state after it, or the number of a refusal
 pub data Answer : Type 0 where
@@ -25,15 +25,26 @@ abbrev pub isZero : ℤ → Bool
 isZero (pos k) = eqb k 0
 isZero (negsuc k) = false
 
--- 16: "TAKE finds its lock held, by this thread too"
-abbrev pub taking : Holder → State → Answer
-taking free after = moved after
-taking (held m) after = refused 16
+-- what becomes of a lock that a thread asks for or gives up: who holds it then, or the number of a refusal
+pub data Turn : Type 0 where
+  passes : Holder → Turn
+  stops : ℕ → Turn
 
--- 17: "GIVE finds its lock not held by this thread"
-abbrev pub giving : Holder → ℕ → State → Answer
-giving free n after = refused 17
-giving (held m) n after = cond (eqb m n) (moved after) (refused 17)
+-- TAKE of thread n: "the free lock becomes this thread's"; 16: it "waits while anybody holds it" (document 02, C-18)
+abbrev pub taking : ℕ → Holder → Turn
+taking n (writer m) = stops 16
+taking n (readers []) = passes (writer n)
+taking n (readers (m ∷ ms)) = stops 16
+
+-- TAKER (C-18): "takes a lock for reading. It waits (16) while a thread holds the lock for writing or this thread holds it at all"
+abbrev pub reading : ℕ → Holder → Turn
+reading n (writer m) = stops 16
+reading n (readers ms) = cond (among n ms) (stops 16) (passes (readers (n ∷ ms)))
+
+-- GIVE: it "ends either hold" (C-18); 17: "GIVE finds its lock not held by this thread"
+abbrev pub giving : ℕ → Holder → Turn
+giving n (writer m) = cond (eqb m n) (passes free) (stops 17)
+giving n (readers ms) = cond (among n ms) (passes (readers (without n ms))) (stops 17)
 
 -- the frame with another next statement
 abbrev pub going : Frame → ℕ → Frame
@@ -58,6 +69,11 @@ module _ (t : Table) (state : State) (n : ℕ) (a : ℤ) (f : Frame) (older : Li
   abbrev pub goes-to : ℕ → State
   goes-to s = with-thread state n a (going f s ∷ older) (state .cells) (state .locks)
 
+  -- the thread goes on where its turn at lock k passes
+  abbrev pub turned : ℕ → Turn → Answer
+  turned k (passes new) = moved (goes-on a (state .cells) (set (state .locks) k new))
+  turned k (stops number) = refused number
+
   unfoldable pub operate : Statement → Answer
   -- READ: "accumulator becomes the cell's value"
   operate (Read h) = moved (goes-on (getD (state .cells) (refers f (h .number)) (pos 0)) (state .cells) (state .locks))
@@ -68,9 +84,9 @@ module _ (t : Table) (state : State) (n : ℕ) (a : ℤ) (f : Frame) (older : Li
   -- ADD: "added", and "stops at 2,147,483,647 and at -2,147,483,648"
   operate (Add number) = moved (goes-on (saturate (a +ℤ number)) (state .cells) (state .locks))
   -- TAKE: "the free lock becomes this thread's"
-  operate (Take h) = taking (holder state (refers f (h .number))) (goes-on a (state .cells) (set (state .locks) (refers f (h .number)) (held n)))
-  -- GIVE: "this thread's lock becomes free"
-  operate (Give h) = giving (holder state (refers f (h .number))) n (goes-on a (state .cells) (set (state .locks) (refers f (h .number)) free))
+  operate (Take h) = turned (refers f (h .number)) (taking n (holder state (refers f (h .number))))
+  -- GIVE: "ends either hold"
+  operate (Give h) = turned (refers f (h .number)) (giving n (holder state (refers f (h .number))))
   -- POINT: "h refers to what g refers to"
   operate (Point h g) =
       moved (with-thread state n a (pointing (going f (f .next + 1)) (h .number) (refers f (g .number)) ∷ older) (state .cells) (state .locks))
@@ -91,6 +107,8 @@ module _ (t : Table) (state : State) (n : ℕ) (a : ℤ) (f : Frame) (older : Li
   operate (JumpZero s) = moved (goes-to (cond (isZero a) (s .statement) (f .next + 1)))
   -- RETURN: "closes the frame; the last one ends the thread"
   operate Return = moved (with-thread state n a older (state .cells) (state .locks))
+  -- TAKER: "takes a lock for reading"
+  operate (TakeRead h) = turned (refers f (h .number)) (reading n (holder state (refers f (h .number))))
 
 -- 15: "The thread has ended"; else the statement of its newest frame
 unfoldable pub stepped : Table → State → ℕ → ℤ → List Frame → Answer

@@ -1,13 +1,13 @@
 -- The words of demand 3, and the demand's (a) and (b) of one state. Assumes nothing.
 use Prim.Native.Nat.{ℕ}
 use mathlib.Core.Path.{_≡_}
-use mathlib.Core.Bool.{Bool, true}
+use mathlib.Core.Bool.{Bool, true, false}
 use mathlib.Core.List.{List, [], _∷_}
 use mathlib.Core.Logic.{_⊎_}
 use Rattle.table.specs.Table.{Table, statement}
 use Rattle.table.specs.View.{view, On, accesses}
 use Rattle.table.specs.declared.Statement.{Statement}
-use Rattle.machine.specs.State.{State, Frame, held, thread, holder, refers}
+use Rattle.machine.specs.State.{State, Frame, holdsIn, thread, holder, refers}
 
 -- "An access to a cell is a READ or WRITE whose handle refers to that cell in that frame; a WRITE is a write": the statement, in frame f, is an access to
 -- cell x, a write if `writes` is true
@@ -31,9 +31,13 @@ Access t state n writes x = Next t (λ f s. AccessIn f s writes x) (thread state
 abbrev pub Release : Table → State → ℕ → ℕ → Type 0
 Release t state n k = Next t (λ f s. ReleaseIn f s k) (thread state n .frames)
 
--- thread n holds lock k: "from the step by which it gets it to the step by which it gives it up"
+-- thread n holds lock k for writing (true), or in either way (false)
+abbrev pub HoldsIn : Bool → State → ℕ → ℕ → Type 0
+HoldsIn w state n k = holdsIn w (holder state k) n ≡ true
+
+-- thread n holds lock k, for reading or writing: "from the step by which it gets it to the step by which it gives it up"
 abbrev pub Holds : State → ℕ → ℕ → Type 0
-Holds state n k = holder state k ≡ held n
+Holds state n k = HoldsIn false state n k
 
 -- (a) no two different threads both have as next statement an access to one cell with at least one a write, and
 -- (b) no thread stands before a release of a lock that it does not hold

@@ -138,7 +138,7 @@ fn operation_ok(
     if (op == 3) | (op == 4) {
         return is_unused(numbers, line, 3);
     }
-    if (op == 5) | (op == 6) {
+    if (op == 5) | (op == 6) | (op == 13) {
         return own_of_kind(numbers, r, 2, a) & is_unused(numbers, line, 3);
     }
     if op == 7 {

@@ -23,7 +23,7 @@ use Rattle.table.specs.ReachLaws.{In}
 use Rattle.table.specs.LookupLaws.{handles-length, routines-length, declaration-says, routine-says, in-routine}
 use Rattle.table.specs.Table.{tableOf, declaration, routine, passed, argumentsIn, statementOf, InRoutine, OwnHandle}
 use Rattle.table.specs.View.{noArguments, view}
-use Rattle.table.specs.ViewLaws.{to-if, set-has, set-from, isEarly, firstIf, viewIn, view-in}
+use Rattle.table.specs.ViewLaws.{to-if, set-has, set-from, keepsFrame, firstIf, viewIn, view-in}
 use Rattle.table.specs.Accepted.{OwnOfKind, Passes, Operands, GoesOn, Names}
 use Rattle.table.specs.declared.Reference.{Reference}
 use Rattle.table.specs.declared.Reference.the-variants.{To}
@@ -31,11 +31,11 @@ use Rattle.table.specs.declared.View.{View}
 
 -- ---- by the operation
 
-unknown : (f : List ℤ) (r line op : ℕ) → ((k : ℕ) → 1 ≤ k → k ≤ 12 → op ≡ k → ⊥) → operationOk f r line op ≡ false
+unknown : (f : List ℤ) (r line op : ℕ) → ((k : ℕ) → 1 ≤ k → k ≤ 13 → op ≡ k → ⊥) → operationOk f r line op ≡ false
 unfolding operationOk
 unknown f r line op n =
-    let t : (k : ℕ) → 1 ≤ k → k ≤ 12 → eqb op k ≡ false = λ k a b. ne-eqb op k (n k a b) in
-    let small : (k : ℕ) → k < 12 → eqb op (suc k) ≡ false = λ k a. t (suc k) (omega arith) (omega arith) in
+    let t : (k : ℕ) → 1 ≤ k → k ≤ 13 → eqb op k ≡ false = λ k a b. ne-eqb op k (n k a b) in
+    let small : (k : ℕ) → k < 13 → eqb op (suc k) ≡ false = λ k a. t (suc k) (omega arith) (omega arith) in
     rw (
       small 0 (omega arith),
       small 1 (omega arith),
@@ -49,16 +49,17 @@ unknown f r line op n =
       small 9 (omega arith),
       small 10 (omega arith),
       small 11 (omega arith),
+      small 12 (omega arith),
     )
 
--- an operation that keeps its rule is one of the twelve
-known : (f : List ℤ) (r line op : ℕ) → operationOk f r line op ≡ true → (1 ≤ op) × (op ≤ 12)
-known f r line op e = go (decLt 0 op) (decLt op 13)
+-- an operation that keeps its rule is one of the thirteen
+known : (f : List ℤ) (r line op : ℕ) → operationOk f r line op ≡ true → (1 ≤ op) × (op ≤ 13)
+known f r line op e = go (decLt 0 op) (decLt op 14)
   where
-    none : ((k : ℕ) → 1 ≤ k → k ≤ 12 → op ≡ k → ⊥) → ⊥
+    none : ((k : ℕ) → 1 ≤ k → k ≤ 13 → op ≡ k → ⊥) → ⊥
     none n = let z : true ≡ false = sym e ∙ unknown f r line op n in let w : _≡_ {A = ℕ} 0 1 = cc in omega arith
 
-    go : Dec (0 < op) → Dec (op < 13) → (1 ≤ op) × (op ≤ 12)
+    go : Dec (0 < op) → Dec (op < 14) → (1 ≤ op) × (op ≤ 13)
     go (yes p) (yes q) = (omega arith, omega arith)
     go (no p) q = absurd (none (λ k a b c. omega arith))
     go (yes p) (no q) = absurd (none (λ k a b c. omega arith))
@@ -119,11 +120,16 @@ has-names f r s q few ok h =
 pub goes-on : (f : List ℤ) (r s : ℕ) → statementOk f r s ≡ true
     → ((operation f s ≡ 10 → ⊥) → (operation f s ≡ 12 → ⊥) → InRoutine (tableOf f) r (s + 1)) → GoesOn (tableOf f) r s (statementOf f s)
 goes-on f r s ok next on =
-    let e : (isEarly (operation f s) && not (eqb (operation f s) 10)) ≡ true = sym (ap (λ v. v .onward) (said f s)) ∙ on in
-    let p = both (isEarly (operation f s)) (not (eqb (operation f s) 10)) e in
-    let q = both (ltb 0 (operation f s)) (ltb (operation f s) 12) (p .0) in
-    let l = ltb-true (operation f s) 12 (q .1) in
-    next (eqb-false (operation f s) 10 (not-true (eqb (operation f s) 10) (p .1))) (omega arith)
+    let e : (keepsFrame (operation f s) && not (eqb (operation f s) 10)) ≡ true = sym (ap (λ v. v .onward) (said f s)) ∙ on in
+    let p = both (keepsFrame (operation f s)) (not (eqb (operation f s) 10)) e in
+    next (eqb-false (operation f s) 10 (not-true (eqb (operation f s) 10) (p .1)))
+    (⊎-elim early late (either-of (ltb 0 (operation f s) && ltb (operation f s) 12) (eqb (operation f s) 13) (p .0)))
+  where
+    early : (ltb 0 (operation f s) && ltb (operation f s) 12) ≡ true → operation f s ≡ 12 → ⊥
+    early e is = omega (arith, ltb-true (operation f s) 12 (both (ltb 0 (operation f s)) (ltb (operation f s) 12) e .1))
+
+    late : eqb (operation f s) 13 ≡ true → operation f s ≡ 12 → ⊥
+    late e is = omega (arith, eqb-true (operation f s) 13 e)
 
 -- ---- operands
 
@@ -214,7 +220,7 @@ module _ (f : List ℤ)
   operands r s b ok not-first = record {
     reads = λ h e. of-kind 1 1 h (refers f s (λ v. v .reads) (eqb op 1) refl e) (λ k. k);
     writes = λ h e. of-kind 2 1 h (refers f s (λ v. v .writes) (eqb op 2) refl e) (λ k. k);
-    takes = λ h e. of-kind 5 2 h (refers f s (λ v. v .takes) (eqb op 5) refl e) (λ k. k);
+    takes = λ h e. taken h (refers f s (λ v. v .takes) (eqb op 5 || eqb op 13) refl e);
     gives = λ h e. of-kind 6 2 h (refers f s (λ v. v .gives) (eqb op 6) refl e) (λ k. k);
     points = λ h e. point h (refers f s (λ v. v .points) (eqb op 7) refl e);
     passes = λ q n. passing q n;
@@ -234,6 +240,9 @@ module _ (f : List ℤ)
           → (operationOk f r line o ≡ true → (ownOfKind f r kind x && unused f line 3) ≡ true) → OwnOfKind (tableOf f) r kind h
       of-kind o kind h (e, is) k =
           subst (OwnOfKind (tableOf f) r kind) is (own-of-kind f r kind x (both (ownOfKind f r kind x) (unused f line 3) (k (rule-of f r s ok o e)) .0))
+
+      taken : (h : ℕ) → ((eqb op 5 || eqb op 13) ≡ true) × (x ≡ h) → OwnOfKind (tableOf f) r 2 h
+      taken h (e, is) = ⊎-elim (λ a. of-kind 5 2 h (a, is) (λ k. k)) (λ a. of-kind 13 2 h (a, is) (λ k. k)) (either-of (eqb op 5) (eqb op 13) e)
 
       inside : (ownStatement f r x && unused f line 3) ≡ true → InRoutine (tableOf f) r x
       inside k =

@@ -62,7 +62,7 @@ operationOk f r line op =
     let from-10 = cond (eqb op 10 || eqb op 11) jump end in
     let from-8 = cond (eqb op 8 || eqb op 9) naming from-10 in
     let from-7 = cond (eqb op 7) point from-8 in
-    let from-5 = cond (eqb op 5 || eqb op 6) lock from-7 in
+    let from-5 = cond (eqb op 5 || eqb op 6 || eqb op 13) lock from-7 in
     let from-3 = cond (eqb op 3 || eqb op 4) value from-5 in
     cond (eqb op 1 || eqb op 2) cell from-3
 

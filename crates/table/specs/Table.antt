@@ -14,7 +14,7 @@ use Rattle.table.specs.Routines.{countOf, firstOf}
 use Rattle.table.specs.Statements.{operation}
 use Rattle.table.specs.declared.Arguments.{Arguments}
 use Rattle.table.specs.declared.Statement.{Statement}
-use Rattle.table.specs.declared.Statement.the-variants.{Read, Write, Set, Add, Take, Give, Point, Call, Start, Jump, JumpZero, Return}
+use Rattle.table.specs.declared.Statement.the-variants.{Read, Write, Set, Add, Take, Give, Point, Call, Start, Jump, JumpZero, Return, TakeRead}
 use Rattle.table.specs.declared.Declaration.{Declaration}
 use Rattle.table.specs.declared.Routine.{Routine}
 use Rattle.table.specs.declared.Counts.{Counts}
@@ -76,7 +76,8 @@ statementIn f line op =
     (cond (eqb op 9) (Start a arguments)
     (cond (eqb op 10) (Jump (record { statement = a }))
     (cond (eqb op 11) (JumpZero (record { statement = a }))
-    Return))))))))))
+    (cond (eqb op 13) (TakeRead (record { number = a }))
+    Return)))))))))))
 
 -- statement s
 unfoldable pub statementOf : List ℤ → ℕ → Statement

@@ -9,7 +9,7 @@ use Rattle.table.specs.declared.Reference.{Reference}
 use Rattle.table.specs.declared.Reference.the-variants.{To, Nothing}
 use Rattle.table.specs.declared.View.{View}
 use Rattle.table.specs.declared.Statement.{Statement}
-use Rattle.table.specs.declared.Statement.the-variants.{Read, Write, Set, Add, Take, Give, Point, Call, Start, Jump, JumpZero, Return}
+use Rattle.table.specs.declared.Statement.the-variants.{Read, Write, Set, Add, Take, Give, Point, Call, Start, Jump, JumpZero, Return, TakeRead}
 
 -- ---- the view
 
@@ -110,6 +110,7 @@ view (Start q a) = naming (To q) true a
 view (Jump s) = going false false (To (s .statement))
 view (JumpZero s) = going true false (To (s .statement))
 view Return = going false true Nothing
+view (TakeRead h) = through Nothing Nothing (To (h .number)) false Nothing
 
 -- ---- references
 
@@ -148,6 +149,10 @@ calls v = cond (v .starting) Nothing (v .names)
 
 abbrev pub starts : View → Reference
 starts v = cond (v .starting) (v .names) Nothing
+
+-- the handle whose lock it takes: for writing (true), or in either way (false)
+abbrev pub takesIn : Bool → View → Reference
+takesIn w v = cond w (cond (v .writing) (v .takes) Nothing) (v .takes)
 
 -- the handle whose cell it reads (false) or writes (true)
 abbrev pub accesses : Bool → View → Reference

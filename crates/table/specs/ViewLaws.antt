@@ -18,7 +18,7 @@ use Rattle.table.specs.declared.Reference.{Reference}
 use Rattle.table.specs.declared.Reference.the-variants.{To, Nothing}
 use Rattle.table.specs.declared.View.{View}
 use Rattle.table.specs.declared.Statement.{Statement}
-use Rattle.table.specs.declared.Statement.the-variants.{Read, Write, Set, Add, Take, Give, Point, Call, Start, Jump, JumpZero, Return}
+use Rattle.table.specs.declared.Statement.the-variants.{Read, Write, Set, Add, Take, Give, Point, Call, Start, Jump, JumpZero, Return, TakeRead}
 
 -- ---- references
 
@@ -149,6 +149,7 @@ forms (Start q a) = started q a refl
 forms (Jump s) = to (s .statement) refl
 forms (JumpZero s) = either (s .statement) refl
 forms Return = back refl
+forms (TakeRead h) = taken (h .number) false refl
 
 pub points-or-names : (σ : Statement) → (view σ .points ≡ Nothing) ⊎ (view σ .names ≡ Nothing)
 points-or-names σ = go (forms σ)
@@ -166,11 +167,11 @@ points-or-names σ = go (forms σ)
     go (either z p) = inl (ap (λ (v : View). v .points) p)
     go (back p) = inl (ap (λ (v : View). v .points) p)
 
--- ---- each attribute, by the number of the operation: 1 to 11, and RETURN for every other
+-- ---- each attribute, by the number of the operation: 1 to 11 and 13, and RETURN for every other
 
--- the operation is one of 1 to 11
-abbrev pub isEarly : ℕ → Bool
-isEarly op = ltb 0 op && ltb op 12
+-- the operation is one of 1 to 11, or 13: it does not close its frame
+abbrev pub keepsFrame : ℕ → Bool
+keepsFrame op = (ltb 0 op && ltb op 12) || eqb op 13
 
 -- a reference to the first operand, the second operand and the arguments, if a test holds
 abbrev pub firstIf : List ℤ → ℕ → Bool → Reference
@@ -185,12 +186,12 @@ argumentsIf f line b = cond b (argumentsIn f line) noArguments
 abbrev pub viewIn : List ℤ → ℕ → ℕ → View
 viewIn f line op =
     record {
-      onward = isEarly op && not (eqb op 10);
-      ends = not (isEarly op);
+      onward = keepsFrame op && not (eqb op 10);
+      ends = not (keepsFrame op);
       target = firstIf f line (eqb op 10 || eqb op 11);
       reads = firstIf f line (eqb op 1);
       writes = firstIf f line (eqb op 2);
-      takes = firstIf f line (eqb op 5);
+      takes = firstIf f line (eqb op 5 || eqb op 13);
       writing = eqb op 5;
       gives = firstIf f line (eqb op 6);
       points = firstIf f line (eqb op 7);
@@ -214,8 +215,10 @@ view-in f line (suc (suc (suc (suc (suc (suc (suc (suc zero)))))))) = refl
 view-in f line (suc (suc (suc (suc (suc (suc (suc (suc (suc zero))))))))) = refl
 view-in f line (suc (suc (suc (suc (suc (suc (suc (suc (suc (suc zero)))))))))) = refl
 view-in f line (suc (suc (suc (suc (suc (suc (suc (suc (suc (suc (suc zero))))))))))) = refl
-view-in f line (suc (suc (suc (suc (suc (suc (suc (suc (suc (suc (suc (suc n)))))))))))) =
-    let op : ℕ = suc (suc (suc (suc (suc (suc (suc (suc (suc (suc (suc (suc n))))))))))) in
+view-in f line (suc (suc (suc (suc (suc (suc (suc (suc (suc (suc (suc (suc zero)))))))))))) = refl
+view-in f line (suc (suc (suc (suc (suc (suc (suc (suc (suc (suc (suc (suc (suc zero))))))))))))) = refl
+view-in f line (suc (suc (suc (suc (suc (suc (suc (suc (suc (suc (suc (suc (suc (suc n)))))))))))))) =
+    let op : ℕ = suc (suc (suc (suc (suc (suc (suc (suc (suc (suc (suc (suc (suc (suc n))))))))))))) in
     rw (
       lt-ltb 0 op (omega arith),
       le-ltb op 12 (omega arith),
@@ -230,6 +233,7 @@ view-in f line (suc (suc (suc (suc (suc (suc (suc (suc (suc (suc (suc (suc n))))
       ne-eqb op 9 (omega arith),
       ne-eqb op 10 (omega arith),
       ne-eqb op 11 (omega arith),
+      ne-eqb op 13 (omega arith),
     )
 
 -- CALL and START by their numbers

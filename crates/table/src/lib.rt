@@ -45,7 +45,7 @@ pub struct Arguments {
     pub fourth: usize,
 }
 
-// A statement of the table: document 01's operations 1 to 12 in their order.
+// A statement of the table: document 01's operations 1 to 12 in their order, and document 02's operation 13, TAKER.
 pub enum Statement {
     Read(Handle),
     Write(Handle),
@@ -68,6 +68,7 @@ pub enum Statement {
     Jump(Target),
     JumpZero(Target),
     Return,
+    TakeRead(Handle),
 }
 
 // A handle, statement or routine that a statement names in one way, by its number, or none.
@@ -85,7 +86,7 @@ pub struct View {
     // The handle whose cell it reads, and writes.
     pub reads: Reference,
     pub writes: Reference,
-    // The handle whose lock it takes, whether for writing (false where it takes none), and the handle whose lock it gives up.
+    // The handle whose lock it takes, whether for writing (false where for reading or none), and the handle whose lock it gives up.
     pub takes: Reference,
     pub writing: bool,
     pub gives: Reference,
@@ -231,6 +232,7 @@ fn statement_in(numbers: &[i32], line: usize, op: usize) -> Statement
         },
         10 => Statement::Jump(Target { statement: number }),
         11 => Statement::JumpZero(Target { statement: number }),
+        13 => Statement::TakeRead(Handle { number }),
         _ => Statement::Return,
     }
 }

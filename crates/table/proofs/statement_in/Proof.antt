@@ -71,18 +71,23 @@ returns-11 c = rw (c .match .keys11, c .before .field-in .ensures .0)
 
 returns-12 : tie.Need-returns-12
 unfolding statementIn
-returns-12 c = rw (
-  ne-eqb _ 1 (c .match .rest .0 .0 .0 .0 .0 .0 .0 .0 .0 .0 .1),
-  ne-eqb _ 2 (c .match .rest .0 .0 .0 .0 .0 .0 .0 .0 .0 .1),
-  ne-eqb _ 3 (c .match .rest .0 .0 .0 .0 .0 .0 .0 .0 .1),
-  ne-eqb _ 4 (c .match .rest .0 .0 .0 .0 .0 .0 .0 .1),
-  ne-eqb _ 5 (c .match .rest .0 .0 .0 .0 .0 .0 .1),
-  ne-eqb _ 6 (c .match .rest .0 .0 .0 .0 .0 .1),
-  ne-eqb _ 7 (c .match .rest .0 .0 .0 .0 .1),
-  ne-eqb _ 8 (c .match .rest .0 .0 .0 .1),
-  ne-eqb _ 9 (c .match .rest .0 .0 .1),
-  ne-eqb _ 10 (c .match .rest .0 .1),
-  ne-eqb _ 11 (c .match .rest .1),
+returns-12 c = rw (c .match .keys12, c .before .field-in .ensures .0)
+
+returns-13 : tie.Need-returns-13
+unfolding statementIn
+returns-13 c = rw (
+  ne-eqb _ 1 (c .match .rest .0 .0 .0 .0 .0 .0 .0 .0 .0 .0 .0 .1),
+  ne-eqb _ 2 (c .match .rest .0 .0 .0 .0 .0 .0 .0 .0 .0 .0 .1),
+  ne-eqb _ 3 (c .match .rest .0 .0 .0 .0 .0 .0 .0 .0 .0 .1),
+  ne-eqb _ 4 (c .match .rest .0 .0 .0 .0 .0 .0 .0 .0 .1),
+  ne-eqb _ 5 (c .match .rest .0 .0 .0 .0 .0 .0 .0 .1),
+  ne-eqb _ 6 (c .match .rest .0 .0 .0 .0 .0 .0 .1),
+  ne-eqb _ 7 (c .match .rest .0 .0 .0 .0 .0 .1),
+  ne-eqb _ 8 (c .match .rest .0 .0 .0 .0 .1),
+  ne-eqb _ 9 (c .match .rest .0 .0 .0 .1),
+  ne-eqb _ 10 (c .match .rest .0 .0 .1),
+  ne-eqb _ 11 (c .match .rest .0 .1),
+  ne-eqb _ 13 (c .match .rest .1),
 )
 
 pub statement-in-spec : {M : Type 1} → statement M
@@ -106,4 +111,5 @@ statement-in-spec =
     returns-9
     returns-10
     returns-11
-    returns-12)
+    returns-12
+    returns-13)
