@@ -2,7 +2,7 @@
 use Prim.Native.Nat.{ℕ, _+_, _-_, _<_, _≤_}
 use native.Mathlib.Omega.{arith}
 use mathlib.Core.Path.{_≡_, sym, ap, _∙_, subst}
-use mathlib.Core.Bool.{cond}
+use mathlib.Core.Bool.{Bool, cond}
 use mathlib.Core.List.{List, [], _∷_}
 use mathlib.Core.Logic.{inr, ⊎-elim}
 use lib.Dec.{eqb}
@@ -22,7 +22,7 @@ use Rattle.guarantee.specs.Invariant.{Mark, Fits, Valued, Has, AllWait, 
 module _ {t : Table} (copies : Copies t) (f : Families) (rules : Rules copies f) where
   -- older frames survive when only locks are lost that the frame above may give up
   pub wait-still : (locks locks′ : List Holder) (n d : ℕ) (ms : List Mark)
-      → ((k : ℕ) → (f .gives d k → ⊥) → Has copies f locks n k → Has copies f locks′ n k) → AllWait copies f locks n d ms → AllWait copies f locks′ n d ms
+      → ((w : Bool) (k : ℕ) → (f .gives d k → ⊥) → Has copies f locks n w k → Has copies f locks′ n w k) → AllWait copies f locks n d ms → AllWait copies f locks′ n d ms
   wait-still locks locks′ n d [] keep wait = wait
   wait-still locks locks′ n d (m ∷ ms) keep (here, below) = (
     record {
@@ -32,9 +32,9 @@ module _ {t : Table} (copies : Copies t) (f : Families) (rules : Rules copies f)
       calls = here .calls;
       leads = here .leads;
       valued = here .valued;
-      holds = λ k held kept. keep k kept (here .holds k held kept);
+      holds = λ w k held kept. keep w k kept (here .holds w k held kept);
     },
-    wait-still locks locks′ n (m .copy) ms (λ k kept. keep k (λ given. kept (up k given))) below,
+    wait-still locks locks′ n (m .copy) ms (λ w k kept. keep w k (λ given. kept (up k given))) below,
   )
     where
       up : (k : ℕ) → f .gives d k → f .gives (m .copy) k
@@ -43,12 +43,12 @@ module _ {t : Table} (copies : Copies t) (f : Families) (rules : Rules copies f)
           (subst (λ (e : ℕ). f .gives e k) (sym (here .leads)) given)
 
   -- a thread that loses no lock keeps all
-  pub good-still : (locks locks′ : List Holder) (n : ℕ) (ms : List Mark) → ((k : ℕ) → Has copies f locks n k → Has copies f locks′ n k)
+  pub good-still : (locks locks′ : List Holder) (n : ℕ) (ms : List Mark) → ((w : Bool) (k : ℕ) → Has copies f locks n w k → Has copies f locks′ n w k)
       → Good copies f locks n ms → Good copies f locks′ n ms
   good-still locks locks′ n [] keep good = good
   good-still locks locks′ n (m ∷ ms) keep (here, below) = (
-    record { here = here .here; valued = here .valued; holds = λ k held. keep k (here .holds k held) },
-    wait-still locks locks′ n (m .copy) ms (λ k kept. keep k) below,
+    record { here = here .here; valued = here .valued; holds = λ w k held. keep w k (here .holds w k held) },
+    wait-still locks locks′ n (m .copy) ms (λ w k kept. keep w k) below,
   )
 
   -- below a copy that holds or reaches a START, so does every copy that waits

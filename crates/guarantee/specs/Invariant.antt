@@ -2,15 +2,14 @@
 -- can precede. Assumes nothing.
 use Prim.Native.Nat.{ℕ, _+_, _<_}
 use mathlib.Core.Path.{_≡_}
-use mathlib.Core.Bool.{Bool}
+use mathlib.Core.Bool.{Bool, true}
 use mathlib.Core.List.{List, [], _∷_}
 use mathlib.Core.Logic.{_⊎_}
 use lib.ListN.{getD, length}
 use Rattle.table.specs.Table.{Table, declaration, routine, statement, OwnHandle}
 use Rattle.table.specs.declared.Arguments.{Arguments}
 use Rattle.table.specs.declared.Statement.the-variants.{Call}
-use Rattle.machine.specs.State.{State, Frame, Holder, free, thread}
-use Rattle.machine.specs.State as Machine
+use Rattle.machine.specs.State.{State, Frame, Holder, free, holdsIn, thread}
 use Rattle.report.specs.Rules.{Copies, Place, Goes, Does, Clash, Families}
 
 -- a frame as the proof sees it: its copy, its values, and its statement: the next one, or, for an older frame, the CALL that it waits at
@@ -53,14 +52,15 @@ module _ {t : Table} (copies : Copies t) (f : Families) where
 
   -- ---- locks
 
-  abbrev pub Has : List Holder → ℕ → ℕ → Type 0
-  Has locks n k = getD locks k free ≡ Machine.held n
+  -- thread n holds lock k: for writing (true), or in either way (false)
+  abbrev pub Has : List Holder → ℕ → Bool → ℕ → Type 0
+  Has locks n w k = holdsIn w (getD locks k free) n ≡ true
 
   -- the newest frame of thread n
   pub record Stands (locks : List Holder) (n : ℕ) (m : Mark) : Type 0 where
     pub here : Place copies (m .copy) (m .place)
     pub valued : Valued (m .copy) (m .values)
-    pub holds : (k : ℕ) → f .held (m .copy) (m .place) k → Has locks n k
+    pub holds : (w : Bool) (k : ℕ) → f .held w (m .copy) (m .place) k → Has locks n w k
 
   -- an older frame of thread n, which waits for the copy d
   pub record Waits (locks : List Holder) (n d : ℕ) (m : Mark) : Type 0 where
@@ -70,7 +70,7 @@ module _ {t : Table} (copies : Copies t) (f : Families) where
     pub calls : statement t (m .place) ≡ Call named arguments
     pub leads : copies .leads (m .copy) (m .place) ≡ d
     pub valued : Valued (m .copy) (m .values)
-    pub holds : (k : ℕ) → f .held (m .copy) (m .place) k → (f .gives d k → ⊥) → Has locks n k
+    pub holds : (w : Bool) (k : ℕ) → f .held w (m .copy) (m .place) k → (f .gives d k → ⊥) → Has locks n w k
 
   abbrev pub AllWait : List Holder → ℕ → ℕ → List Mark → Type 0
   AllWait locks n d [] = Unit {0}

@@ -5,24 +5,22 @@ use mathlib.Core.Path.{_≡_, refl, sym, ap, _∙_, subst}
 use mathlib.Core.Bool.{Bool, true, false, cond}
 use mathlib.Core.List.{List, [], _∷_}
 use mathlib.Core.Logic.{_⊎_, inl, inr, ⊎-elim}
-use lib.Dec.{eqb}
 use lib.IntN.{ℤ, pos}
 use lib.ListN.{getD, length, set, length-set}
 use lib.Seq.{getD-set-same}
-use borrow.Author.Tests.{eqb-true}
 use Rattle.table.specs.Table.{Table, routine, statement}
-use Rattle.table.specs.View.{view, calls, starts}
-use Rattle.table.specs.ViewLaws.{nothing-to, one-reference}
+use Rattle.table.specs.View.{view, calls, starts, takesIn}
+use Rattle.table.specs.ViewLaws.{nothing-to, one-reference, taken-takes}
 use Rattle.table.specs.declared.Reference.the-variants.{To, Nothing}
 use Rattle.table.specs.Accepted.{Accepted, Operands, Passes, OwnOfKind, Names}
 use Rattle.table.specs.declared.Arguments.{Arguments}
 use Rattle.table.specs.declared.Handle.{Handle}
 use Rattle.table.specs.declared.Statement.{Statement}
-use Rattle.table.specs.declared.Statement.the-variants.{Read, Write, Set, Add, Take, Give, Point, Call, Start, Jump, JumpZero, Return}
-use Rattle.machine.specs.State.{State, Frame, Holder, free, holder, opened}
-use Rattle.machine.specs.State as Machine
+use Rattle.table.specs.declared.Statement.the-variants.{Read, Write, Set, Add, Take, Give, Point, Call, Start, Jump, JumpZero, Return, TakeRead}
+use Rattle.machine.specs.State.{State, Frame, Holder, free, holdsIn, holder, opened}
 use Rattle.machine.specs.Lists.{set-case}
-use Rattle.machine.specs.Step.{Answer, moved, refused, operate, taking, giving, with-thread, after, isZero}
+use Rattle.machine.specs.Step.{Answer, moved, Turn, passes, stops, taking, reading, giving, turned, operate, with-thread, after, isZero}
+use Rattle.machine.specs.LockLaws.{OnPass, on-both, OthersKeep, taking-gets, taking-others, reading-gets, reading-keeps, giving-others}
 use Rattle.report.specs.Rules.{Copies, Place, Goes, After, Clash, Families, Rules, Passing}
 use Rattle.guarantee.specs.Lists.{replaced, replaced-all}
 use Rattle.guarantee.specs.Invariant.{Mark, Several, newest, waiting, older, Fits, Valued, Has, Stands, AllWait, Good, Left, Potential}
@@ -34,13 +32,6 @@ use Rattle.guarantee.specs.Threads.{others-behind, thread-changed, threa
 -- the invariant holds after an answer, for some marks
 abbrev pub Kept : {t : Table} (copies : Copies t) (f : Families) → State → Answer → Type 0
 Kept copies f state answer = (marks : ℕ → List Mark) × Invariant copies f (after state answer) marks
-
--- two holders of one lock are one
-pub one-holder : (h : Holder) (m n : ℕ) → h ≡ Machine.held m → h ≡ Machine.held n → m ≡ n
-one-holder h m n p q = cc
-
-pub held-not-free : (h : Holder) (m : ℕ) → h ≡ Machine.held m → h ≡ free → ⊥
-held-not-free h m p q = let z : _≡_ {A = ℕ} 0 1 = cc in omega arith
 
 module _ {t : Table} (accepted : Accepted t) (copies : Copies t) (f : Families) (rules : Rules copies f) (state : State) (marks : ℕ → List Mark)
     (inv : Invariant copies f state marks) (n : ℕ) (there : n < length (state .threads)) (a : ℤ) (m : Mark) (ms : List Mark) (e : marks n ≡ m ∷ ms) where
@@ -72,11 +63,11 @@ module _ {t : Table} (accepted : Accepted t) (copies : Copies t) (f : Families) 
   goes-as σ eq s g = subst (λ (τ : Statement). Goes (m .place) τ s) (sym eq) g
 
   -- what is held at the statement that it goes to, is held after it
-  after-as : (σ : Statement) → statement t (m .place) ≡ σ → (s : ℕ) → Goes (m .place) σ s → (k : ℕ) → f .held (m .copy) s k
-      → After copies (f .flow) (f .gives) (f .held) (m .copy) (m .place) k σ
-  after-as σ eq s g k held =
-      subst (After copies (f .flow) (f .gives) (f .held) (m .copy) (m .place) k) eq
-      (rules .held-rules .way (m .copy) (m .place) s k (top .here) (goes-as σ eq s g) held)
+  after-as : (σ : Statement) → statement t (m .place) ≡ σ → (s : ℕ) → Goes (m .place) σ s → (w : Bool) (k : ℕ) → f .held w (m .copy) s k
+      → After copies w (f .flow) (f .gives) (f .held w) (m .copy) (m .place) k σ
+  after-as σ eq s g w k held =
+      subst (After copies w (f .flow) (f .gives) (f .held w) (m .copy) (m .place) k) eq
+      (rules .held-rules w .way (m .copy) (m .place) s k (top .here) (goes-as σ eq s g) held)
 
   -- a step inside the newest frame touches nothing new
   stays-within : (s : ℕ) (values : List ℕ) → Goes (m .place) (statement t (m .place)) s → (w : Bool) (x : ℕ)
@@ -90,8 +81,9 @@ module _ {t : Table} (accepted : Accepted t) (copies : Copies t) (f : Families) 
 
   -- the thread goes to statement s of its frame, with the values, cells and locks given
   in-frame : (s : ℕ) (values : List ℕ) (b : ℤ) (cells : List ℤ) (locks : List Holder) (σ : Statement) → statement t (m .place) ≡ σ → Goes (m .place) σ s
-      → length locks ≡ t .locks → Valued copies f (m .copy) values → ((k : ℕ) → f .held (m .copy) s k → Has copies f locks n k)
-      → AllWait copies f locks n (m .copy) ms → ((o k : ℕ) → (o ≡ n → ⊥) → Has copies f (state .locks) o k → Has copies f locks o k)
+      → length locks ≡ t .locks → Valued copies f (m .copy) values → ((w : Bool) (k : ℕ) → f .held w (m .copy) s k → Has copies f locks n w k)
+      → AllWait copies f locks n (m .copy) ms
+      → ((o : ℕ) (w : Bool) (k : ℕ) → (o ≡ n → ⊥) → Has copies f (state .locks) o w k → Has copies f locks o w k)
       → Kept copies f state
       (moved (with-thread state n b (newest copies f (record { copy = m .copy; place = s; values = values }) ∷ older copies f ms) cells locks))
   in-frame s values b cells locks σ eq g all valued holds wait others = (
@@ -108,11 +100,11 @@ module _ {t : Table} (accepted : Accepted t) (copies : Copies t) (f : Families) 
       to = goes-place accepted copies (top .here) goes
 
   -- a statement that takes nothing and calls nothing adds no lock
-  adds-none : (k : ℕ) (σ : Statement) → view σ .takes ≡ Nothing → calls (view σ) ≡ Nothing
-      → After copies (f .flow) (f .gives) (f .held) (m .copy) (m .place) k σ → f .held (m .copy) (m .place) k
-  adds-none k σ takes calls (inl (inl (h, is, only))) = nothing-to (sym takes ∙ is)
-  adds-none k σ takes calls (inl (inr (q, is, all))) = nothing-to (sym calls ∙ is)
-  adds-none k σ takes calls (inr (was, kept)) = was
+  adds-none : (w : Bool) (k : ℕ) (σ : Statement) → view σ .takes ≡ Nothing → calls (view σ) ≡ Nothing
+      → After copies w (f .flow) (f .gives) (f .held w) (m .copy) (m .place) k σ → f .held w (m .copy) (m .place) k
+  adds-none w k σ takes calls (inl (inl (h, is, only))) = nothing-to (sym takes ∙ taken-takes w (view σ) is)
+  adds-none w k σ takes calls (inl (inr (q, is, all))) = nothing-to (sym calls ∙ is)
+  adds-none w k σ takes calls (inr (was, kept)) = was
 
   -- an operation that keeps the values and the locks
   onward : (s : ℕ) (b : ℤ) (cells : List ℤ) (σ : Statement) → statement t (m .place) ≡ σ → Goes (m .place) σ s
@@ -121,106 +113,129 @@ module _ {t : Table} (accepted : Accepted t) (copies : Copies t) (f : Families) 
       (moved (with-thread state n b (newest copies f (record { copy = m .copy; place = s; values = m .values }) ∷ older copies f ms) cells (state .locks)))
   onward s b cells σ eq g takes calls =
       in-frame s (m .values) b cells (state .locks) σ eq g (inv .all-locks) (top .valued)
-      (λ k held. top .holds k (adds-none k σ takes calls (after-as σ eq s g k held))) below (λ o k other has. has)
+      (λ w k held. top .holds w k (adds-none w k σ takes calls (after-as σ eq s g w k held))) below (λ o w k other has. has)
 
-  -- ---- TAKE and GIVE
+  -- ---- TAKE, TAKER and GIVE
 
-  taken : (h : Handle) → statement t (m .place) ≡ Take h → (w : Holder) → holder state (getD (m .values) (h .number) 0) ≡ w
-      → Kept copies f state
-      (taking w
-      (with-thread state n a (newest copies f (record { copy = m .copy; place = m .place + 1; values = m .values }) ∷ older copies f ms) (state .cells)
-      (set (state .locks) (getD (m .values) (h .number) 0) (Machine.held n))))
-  taken h eq (Machine.held o) is = (marks, inv)
-  taken h eq free is =
-      in-frame (m .place + 1) (m .values) a (state .cells) locks (Take h) eq (inr (refl, refl)) (length-set (state .locks) x (Machine.held n) ∙ inv .all-locks) (top .valued)
-      (λ k held. holds k (after-as (Take h) eq (m .place + 1) (inr (refl, refl)) k held))
-      (wait-still copies f rules (state .locks) locks n (m .copy) ms (λ k kept. mine k) below) others
+  -- a turn at the lock that a handle of the newest frame refers to
+  module _ (σ : Statement) (eq : statement t (m .place) ≡ σ) (h : ℕ) (own : OwnOfKind t (copies .of (m .copy)) 2 h)
+      (onward : view σ .onward ≡ true) (no-call : calls (view σ) ≡ Nothing) where
+    abbrev lock : ℕ
+    lock = getD (m .values) h 0
+
+    fits : Fits copies f (m .copy) h lock
+    fits = top .valued h (own .own)
+
+    in-range : lock < length (state .locks)
+    in-range = rw (inv .all-locks) (fits .lock (own .kind))
+
+    goes-on-to : Goes (m .place) σ (m .place + 1)
+    goes-on-to = inr (onward, refl)
+
+    -- what this turn makes of the lock, with what it says of other locks kept
+    module _ (new : Holder) where
+      abbrev after-turn : List Holder
+      after-turn = set (state .locks) lock new
+
+      at-lock : (o : ℕ) (w : Bool) (k : ℕ) → lock ≡ k → holdsIn w new o ≡ true → Has copies f after-turn o w k
+      at-lock o w k at holds =
+          subst (λ (j : ℕ). Has copies f after-turn o w j) at (subst (λ (x : Holder). holdsIn w x o ≡ true) (sym (getD-set-same (state .locks) lock new free in-range)) holds)
+
+      -- a thread that keeps its hold on this lock keeps every hold
+      keeps : (o : ℕ) (w : Bool) (k : ℕ) → (k ≡ lock → holdsIn w new o ≡ true) → Has copies f (state .locks) o w k → Has copies f after-turn o w k
+      keeps o w k here has = set-case (λ x. holdsIn w x o ≡ true) (state .locks) lock k new free here has
+
+      other-keeps : OthersKeep n (holder state lock) new → (o : ℕ) (w : Bool) (k : ℕ) → (o ≡ n → ⊥) → Has copies f (state .locks) o w k → Has copies f after-turn o w k
+      other-keeps others o w k other has =
+          keeps o w k (λ at. others w o other (subst (λ (j : ℕ). Has copies f (state .locks) o w j) at has)) has
+
+    -- where it passes, the thread goes on: it holds what the statement adds, and what it held but for what the statement may give up, and the others lose nothing
+    record Turned (new : Holder) : Type 0 where
+      adds : (w : Bool) (k : ℕ) → takesIn w (view σ) ≡ To h → lock ≡ k → holdsIn w new n ≡ true
+      own-kept : (w : Bool) → (view σ .gives ≡ To h → ⊥) → holdsIn w (holder state lock) n ≡ true → holdsIn w new n ≡ true
+      others : OthersKeep n (holder state lock) new
+
+    turn-kept : (takes : (w : Bool) (j : ℕ) → takesIn w (view σ) ≡ To j → j ≡ h) (turn : Turn)
+        → OnPass turn Turned → Kept copies f state (turned t state n a (newest copies f m) (older copies f ms) lock turn)
+    turn-kept takes (stops number) p = (marks, inv)
+    turn-kept takes (passes new) p =
+        in-frame (m .place + 1) (m .values) a (state .cells) (after-turn new) σ eq goes-on-to (length-set (state .locks) lock new ∙ inv .all-locks) (top .valued)
+        (λ w k held. holds w k (after-as σ eq (m .place + 1) goes-on-to w k held))
+        (wait-still copies f rules (state .locks) (after-turn new) n (m .copy) ms (λ w k not-given has. kept w k (λ at gave. not-given (given at gave)) has) below)
+        (other-keeps new (p .others))
+      where
+        given : {k : ℕ} → k ≡ lock → view σ .gives ≡ To h → f .gives (m .copy) k
+        given at gave =
+            subst (f .gives (m .copy)) (sym at)
+            (rules .gives-rules .by-give (m .copy) (m .place) lock h (top .here) (ap (λ (τ : Statement). view τ .gives) eq ∙ gave) (fits .flows))
+
+        kept : (w : Bool) (k : ℕ) → (k ≡ lock → view σ .gives ≡ To h → ⊥) → Has copies f (state .locks) n w k → Has copies f (after-turn new) n w k
+        kept w k stays has =
+            keeps new n w k (λ at. p .own-kept w (stays at) (subst (λ (j : ℕ). Has copies f (state .locks) n w j) at has)) has
+
+        holds : (w : Bool) (k : ℕ) → After copies w (f .flow) (f .gives) (f .held w) (m .copy) (m .place) k σ → Has copies f (after-turn new) n w k
+        holds w k (inl (inl (j, is, only))) =
+            let same : j ≡ h = takes w j is in
+            let at : lock ≡ k = only .alone lock (subst (λ (i : ℕ). f .flow (m .copy) i lock) (sym same) (fits .flows)) in
+            at-lock new n w k at (p .adds w k (is ∙ ap To same) at)
+        holds w k (inl (inr (q, is, all))) = nothing-to (sym no-call ∙ is)
+        holds w k (inr (was, stays)) =
+            kept w k (λ at gave. stays (inl (h, gave, subst (f .flow (m .copy) h) (sym at) (fits .flows)))) (top .holds w k was)
+
+  taken : (h : Handle) → statement t (m .place) ≡ Take h → Kept copies f state (operate t state n a (newest copies f m) (older copies f ms) (Take h))
+  unfolding operate
+  taken h eq =
+      turn-kept σ eq (h .number) own refl refl (λ w j is. one-reference (view σ .takes) (taken-takes w (view σ) is) refl) (taking n who)
+      (on-both (taking n who) {R = Turned σ eq (h .number) own refl refl}
+      (λ new gets others. record { adds = λ w k is at. gets w; own-kept = λ w stays has. gets w; others = others }) (taking-gets n who) (taking-others n who))
     where
-      x : ℕ
-      x = getD (m .values) (h .number) 0
+      σ : Statement
+      σ = Take h
 
-      locks : List Holder
-      locks = set (state .locks) x (Machine.held n)
+      who : Holder
+      who = holder state (getD (m .values) (h .number) 0)
 
-      operand : OwnOfKind t (copies .of (m .copy)) 2 (h .number)
-      operand = operands (Take h) eq .takes (h .number) refl
+      own : OwnOfKind t (copies .of (m .copy)) 2 (h .number)
+      own = operands σ eq .takes (h .number) refl
 
-      fits : Fits copies f (m .copy) (h .number) x
-      fits = top .valued (h .number) (operand .own)
-
-      in-range : x < length (state .locks)
-      in-range = rw (inv .all-locks) (fits .lock (operand .kind))
-
-      mine : (k : ℕ) → Has copies f (state .locks) n k → Has copies f locks n k
-      mine k has = set-case (λ w. w ≡ Machine.held n) (state .locks) x k (Machine.held n) free (λ at. refl) has
-
-      new : (k : ℕ) → x ≡ k → Has copies f locks n k
-      new k at = subst (λ (j : ℕ). Has copies f locks n j) at (getD-set-same (state .locks) x (Machine.held n) free in-range)
-
-      holds : (k : ℕ) → After copies (f .flow) (f .gives) (f .held) (m .copy) (m .place) k (Take h) → Has copies f locks n k
-      holds k (inl (inl (j, is, only))) =
-          new k (only .alone x (subst (λ (i : ℕ). f .flow (m .copy) i x) (one-reference (To j) (sym is) refl) (fits .flows)))
-      holds k (inl (inr (q, is, all))) = nothing-to is
-      holds k (inr (was, kept)) = mine k (top .holds k was)
-
-      others : (o k : ℕ) → (o ≡ n → ⊥) → Has copies f (state .locks) o k → Has copies f locks o k
-      others o k other has =
-          set-case (λ w. w ≡ Machine.held o) (state .locks) x k (Machine.held n) free
-          (λ at. absurd (held-not-free (holder state x) o (subst (λ (j : ℕ). Has copies f (state .locks) o j) at has) is)) has
-
-  given-now : (h : Handle) → statement t (m .place) ≡ Give h → holder state (getD (m .values) (h .number) 0) ≡ Machine.held n
-      → Kept copies f state
-      (moved
-      (with-thread state n a (newest copies f (record { copy = m .copy; place = m .place + 1; values = m .values }) ∷ older copies f ms) (state .cells)
-      (set (state .locks) (getD (m .values) (h .number) 0) free)))
-  given-now h eq is =
-      in-frame (m .place + 1) (m .values) a (state .cells) locks (Give h) eq (inr (refl, refl)) (length-set (state .locks) x free ∙ inv .all-locks) (top .valued)
-      (λ k held. holds k (after-as (Give h) eq (m .place + 1) (inr (refl, refl)) k held))
-      (wait-still copies f rules (state .locks) locks n (m .copy) ms
-      (λ k not-given. kept n k (λ at. not-given (subst (f .gives (m .copy)) (sym at) gives))) below)
-      (λ o k other has. kept o k (λ at. other (one-holder (holder state x) o n (subst (λ (j : ℕ). Has copies f (state .locks) o j) at has) is)) has)
+  taken-to-read : (h : Handle) → statement t (m .place) ≡ TakeRead h → Kept copies f state (operate t state n a (newest copies f m) (older copies f ms) (TakeRead h))
+  unfolding operate
+  taken-to-read h eq =
+      turn-kept σ eq (h .number) own refl refl (λ w j is. one-reference (view σ .takes) (taken-takes w (view σ) is) refl) (reading n who)
+      (on-both (reading n who) {R = Turned σ eq (h .number) own refl refl}
+      (λ new gets keeps. record { adds = λ w k is at. adds new gets w is; own-kept = λ w stays has. keeps w n has; others = λ w o other has. keeps w o has })
+      (reading-gets n who) (reading-keeps n who))
     where
-      x : ℕ
-      x = getD (m .values) (h .number) 0
+      σ : Statement
+      σ = TakeRead h
 
-      locks : List Holder
-      locks = set (state .locks) x free
+      who : Holder
+      who = holder state (getD (m .values) (h .number) 0)
 
-      operand : OwnOfKind t (copies .of (m .copy)) 2 (h .number)
-      operand = operands (Give h) eq .gives (h .number) refl
+      own : OwnOfKind t (copies .of (m .copy)) 2 (h .number)
+      own = operands σ eq .takes (h .number) refl
 
-      fits : Fits copies f (m .copy) (h .number) x
-      fits = top .valued (h .number) (operand .own)
+      -- "TAKER adds only to the second set"
+      adds : (new : Holder) → holdsIn false new n ≡ true → (w : Bool) → takesIn w (view (TakeRead h)) ≡ To (h .number) → holdsIn w new n ≡ true
+      adds new gets true is = nothing-to is
+      adds new gets false is = gets
 
-      gives : f .gives (m .copy) x
-      gives = rules .gives-rules .by-give (m .copy) (m .place) x (h .number) (top .here) (ap (λ (σ : Statement). view σ .gives) eq) (fits .flows)
-
-      kept : (o k : ℕ) → (k ≡ x → ⊥) → Has copies f (state .locks) o k → Has copies f locks o k
-      kept o k other has = set-case (λ w. w ≡ Machine.held o) (state .locks) x k free free (λ at. absurd (other at)) has
-
-      holds : (k : ℕ) → After copies (f .flow) (f .gives) (f .held) (m .copy) (m .place) k (Give h) → Has copies f locks n k
-      holds k (inl (inl (j, is, only))) = nothing-to is
-      holds k (inl (inr (q, is, all))) = nothing-to is
-      holds k (inr (was, stays)) =
-          kept n k (λ at. stays (inl (h .number, refl, subst (f .flow (m .copy) (h .number)) (sym at) (fits .flows)))) (top .holds k was)
-
-  given : (h : Handle) → statement t (m .place) ≡ Give h → (w : Holder) → holder state (getD (m .values) (h .number) 0) ≡ w
-      → Kept copies f state
-      (giving w n
-      (with-thread state n a (newest copies f (record { copy = m .copy; place = m .place + 1; values = m .values }) ∷ older copies f ms) (state .cells)
-      (set (state .locks) (getD (m .values) (h .number) 0) free)))
-  given h eq free is = (marks, inv)
-  given h eq (Machine.held o) is = go (eqb o n) refl
+  given : (h : Handle) → statement t (m .place) ≡ Give h → Kept copies f state (operate t state n a (newest copies f m) (older copies f ms) (Give h))
+  unfolding operate
+  given h eq =
+      turn-kept σ eq (h .number) own refl refl (λ w j is. nothing-to (taken-takes w (view σ) is)) (giving n who)
+      (on-both (giving n who) {R = Turned σ eq (h .number) own refl refl}
+      (λ new others too. record { adds = λ w k is at. nothing-to (taken-takes w (view σ) is); own-kept = λ w stays has. absurd (stays refl); others = others })
+      (giving-others n who) (giving-others n who))
     where
-      go : (b : Bool) → eqb o n ≡ b
-          → Kept copies f state
-          (cond b
-          (moved
-          (with-thread state n a (newest copies f (record { copy = m .copy; place = m .place + 1; values = m .values }) ∷ older copies f ms) (state .cells)
-          (set (state .locks) (getD (m .values) (h .number) 0) free)))
-          (refused 17))
-      go true same = given-now h eq (is ∙ ap Machine.held (eqb-true o n same))
-      go false same = (marks, inv)
+      σ : Statement
+      σ = Give h
+
+      who : Holder
+      who = holder state (getD (m .values) (h .number) 0)
+
+      own : OwnOfKind t (copies .of (m .copy)) 2 (h .number)
+      own = operands σ eq .gives (h .number) refl
 
   -- ---- CALL, RETURN and START
 
@@ -276,7 +291,7 @@ module _ {t : Table} (accepted : Accepted t) (copies : Copies t) (f : Families) 
           record {
             here = new-place;
             valued = callee-valued σ eq q arguments refl passes passing;
-            holds = λ k held. top .holds k (rules .held-rules .by-call (m .copy) (m .place) k q (top .here) calls-q held);
+            holds = λ w k held. top .holds w k (rules .held-rules w .by-call (m .copy) (m .place) k q (top .here) calls-q held);
           },
           (
             record {
@@ -286,12 +301,12 @@ module _ {t : Table} (accepted : Accepted t) (copies : Copies t) (f : Families) 
               calls = eq;
               leads = refl;
               valued = top .valued;
-              holds = λ k held kept. top .holds k held;
+              holds = λ w k held kept. top .holds w k held;
             },
             below,
           ),
         )
-        (λ o k other has. has) (λ w x p. before w x (within w x p))
+        (λ o w k other has. has) (λ w x p. before w x (within w x p))
         (λ several. (
           rules .preceded-rules .by-call (m .copy) (m .place) (new .place) q (top .here) calls-q new-place (top-preceded several),
           (inl (top-preceded several), below-called several),
@@ -330,13 +345,13 @@ module _ {t : Table} (accepted : Accepted t) (copies : Copies t) (f : Families) 
           → Kept copies f state (moved (with-thread state n a (older copies f cs) (state .cells) (state .locks)))
       go [] wait less were = (
         replaced marks n [],
-        thread-changed copies f rules state marks inv n there a [] (state .cells) (state .locks) [] refl (inv .all-locks) tt (λ o k other has. has)
+        thread-changed copies f rules state marks inv n there a [] (state .cells) (state .locks) [] refl (inv .all-locks) tt (λ o w k other has. has)
             (λ w x p. absurd p) (λ several. tt),
       )
       go (c ∷ cs) (wait, under) less were = (
         replaced marks n (back ∷ cs),
         thread-changed copies f rules state marks inv n there a _ (state .cells) (state .locks) (back ∷ cs) refl (inv .all-locks)
-            (record { here = back-place; valued = wait .valued; holds = holds }, under) (λ o k other has. has)
+            (record { here = back-place; valued = wait .valued; holds = holds }, under) (λ o w k other has. has)
             (λ w x p. less w x (⊎-elim (λ ahead. inl (ahead-follows accepted copies f rules back-place goes ahead)) (λ left. inr left) p))
             (λ several. (back-preceded (were several .0), were several .1)),
       )
@@ -357,20 +372,20 @@ module _ {t : Table} (accepted : Accepted t) (copies : Copies t) (f : Families) 
               rules .preceded-rules .next (c .copy) (c .place) (c .place + 1) (wait .here) back-place goes
               (inr (wait .named, ap (λ (τ : Statement). calls (view τ)) (wait .calls), subst (f .reaches) (sym (wait .leads)) reaches))
 
-          holds-after : (k : ℕ) → After copies (f .flow) (f .gives) (f .held) (c .copy) (c .place) k (Call (wait .named) (wait .arguments))
-              → Has copies f (state .locks) n k
-          holds-after k (inl (inl (h, is, only))) = nothing-to is
-          holds-after k (inl (inr (q, is, all))) =
-              top .holds k
-              (subst (λ (d : ℕ). f .held d (m .place) k) (wait .leads)
+          holds-after : (w : Bool) (k : ℕ) → After copies w (f .flow) (f .gives) (f .held w) (c .copy) (c .place) k (Call (wait .named) (wait .arguments))
+              → Has copies f (state .locks) n w k
+          holds-after w k (inl (inl (h, is, only))) = nothing-to (taken-takes w (view (Call (wait .named) (wait .arguments))) is)
+          holds-after w k (inl (inr (q, is, all))) =
+              top .holds w k
+              (subst (λ (d : ℕ). f .held w d (m .place) k) (wait .leads)
               (all (m .place) (subst (λ (d : ℕ). Place copies d (m .place)) (sym (wait .leads)) (top .here)) (ap (λ (τ : Statement). view τ .ends) eq)))
-          holds-after k (inr (was, kept)) = wait .holds k was (λ given. kept (inr (wait .named, refl, subst (λ (d : ℕ). f .gives d k) (sym (wait .leads)) given)))
+          holds-after w k (inr (was, kept)) = wait .holds w k was (λ given. kept (inr (wait .named, refl, subst (λ (d : ℕ). f .gives d k) (sym (wait .leads)) given)))
 
-          holds : (k : ℕ) → f .held (c .copy) (c .place + 1) k → Has copies f (state .locks) n k
-          holds k held =
-              holds-after k
-              (subst (After copies (f .flow) (f .gives) (f .held) (c .copy) (c .place) k) (wait .calls)
-              (rules .held-rules .way (c .copy) (c .place) (c .place + 1) k (wait .here) goes held))
+          holds : (w : Bool) (k : ℕ) → f .held w (c .copy) (c .place + 1) k → Has copies f (state .locks) n w k
+          holds w k held =
+              holds-after w k
+              (subst (After copies w (f .flow) (f .gives) (f .held w) (c .copy) (c .place) k) (wait .calls)
+              (rules .held-rules w .way (c .copy) (c .place) (c .place + 1) k (wait .here) goes held))
 
   started : (q : ℕ) (arguments : Arguments) → statement t (m .place) ≡ Start q arguments
       → Kept copies f state (operate t state n a (newest copies f m) (older copies f ms) (Start q arguments))
@@ -382,7 +397,7 @@ module _ {t : Table} (accepted : Accepted t) (copies : Copies t) (f : Families) 
           record {
             here = new-place;
             valued = callee-valued σ eq q arguments refl passes passing;
-            holds = λ k held. absurd (rules .held-rules .by-start (m .copy) (m .place) k q (top .here) starts-q held);
+            holds = λ w k held. absurd (rules .held-rules w .by-start (m .copy) (m .place) k q (top .here) starts-q held);
           },
           tt,
         ) parted (λ some-thread. ((rules .preceded-rules .by-start (m .copy) (m .place) (new .place) q (top .here) starts-q new-place, tt), all-behind)),
@@ -455,8 +470,8 @@ module _ {t : Table} (accepted : Accepted t) (copies : Copies t) (f : Families) 
   operated (Write h) eq = onward (m .place + 1) a _ (Write h) eq (inr (refl, refl)) refl refl
   operated (Set number) eq = onward (m .place + 1) number (state .cells) (Set number) eq (inr (refl, refl)) refl refl
   operated (Add number) eq = onward (m .place + 1) _ (state .cells) (Add number) eq (inr (refl, refl)) refl refl
-  operated (Take h) eq = taken h eq _ refl
-  operated (Give h) eq = given h eq _ refl
+  operated (Take h) eq = taken h eq
+  operated (Give h) eq = given h eq
   operated (Point h g) eq =
       let ops = operands (Point h g) eq .points (h .number) refl in
       in-frame (m .place + 1) _ a (state .cells) (state .locks) (Point h g) eq (inr (refl, refl)) (inv .all-locks)
@@ -464,8 +479,8 @@ module _ {t : Table} (accepted : Accepted t) (copies : Copies t) (f : Families) 
       (subst (λ (τ : Statement). (x : ℕ) → f .flow (m .copy) (view τ .source) x → f .flow (m .copy) (h .number) x) eq
       (rules .flow-rules .point (m .copy) (m .place) (h .number) (top .here) (ap (λ (τ : Statement). view τ .points) eq)))
       (top .valued))
-      (λ k held. top .holds k (adds-none k (Point h g) refl refl (after-as (Point h g) eq (m .place + 1) (inr (refl, refl)) k held))) below
-      (λ o k other has. has)
+      (λ w k held. top .holds w k (adds-none w k (Point h g) refl refl (after-as (Point h g) eq (m .place + 1) (inr (refl, refl)) w k held))) below
+      (λ o w k other has. has)
   operated (Call q arguments) eq = called q arguments eq
   operated (Start q arguments) eq = started q arguments eq
   operated (Jump z) eq = onward (z .statement) a (state .cells) (Jump z) eq (inl refl) refl refl
@@ -475,3 +490,4 @@ module _ {t : Table} (accepted : Accepted t) (copies : Copies t) (f : Families) 
       either true = inl refl
       either false = inr (refl, refl)
   operated Return eq = returned eq
+  operated (TakeRead h) eq = taken-to-read h eq

@@ -79,7 +79,7 @@ module _ {t : Table} (accepted : Accepted t) (copies : Copies t) (f : Families) 
       record {
         here = first-place accepted copies (copies .main) 0 (copies .main-there) (copies .main-of);
         valued = opened-valued accepted copies f rules (copies .main) 0 [] no-arguments (copies .main-there) (copies .main-of) (λ k h. absurd (none k h));
-        holds = λ k held. absurd (rules .held-rules .by-main k held);
+        holds = λ w k held. absurd (rules .held-rules w .by-main k held);
       }
     where
       none : (k : ℕ) → k < routine t 0 .parameters → ⊥

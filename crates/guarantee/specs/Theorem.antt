@@ -3,7 +3,7 @@ use Prim.Native.Nat.{ℕ, _<_}
 use mathlib.Core.Path.{_≡_, sym, subst, _∙_}
 use mathlib.Core.Bool.{Bool, true, false}
 use mathlib.Core.List.{List, [], _∷_}
-use mathlib.Core.Logic.{_⊎_, inl, ⊎-elim}
+use mathlib.Core.Logic.{_⊎_, inl, inr, ⊎-elim}
 use native.Mathlib.Omega.{arith}
 use lib.ListN.{length}
 use Rattle.table.specs.Table.{Table, statement}
@@ -11,13 +11,13 @@ use Rattle.table.specs.View.{view, accesses}
 use Rattle.table.specs.declared.Reference.the-variants.{To}
 use Rattle.table.specs.Accepted.{Accepted, Operands, OwnOfKind}
 use Rattle.table.specs.declared.Statement.{Statement}
-use Rattle.machine.specs.State.{State, holder, thread, start}
+use Rattle.machine.specs.State.{State, Holder, holdsIn, holder, thread, start}
 use Rattle.machine.specs.Step.{run}
-use Rattle.machine.specs.Words.{AccessIn, ReleaseIn, Next, Access, Release, Holds, Safe}
+use Rattle.machine.specs.Words.{AccessIn, ReleaseIn, Next, Access, Release, HoldsIn, Holds, Safe}
+use Rattle.machine.specs.LockLaws.{writer-alone}
 use Rattle.report.specs.Rules.{Copies, Place, Accesses, Families, Rules, Clean}
 use Rattle.guarantee.specs.Invariant.{Mark, Several, newest, frames, Fits, Stands, Good, Potential, Behind, Invariant}
 use Rattle.guarantee.specs.Threads.{with-frames-started}
-use Rattle.guarantee.specs.Operations.{one-holder}
 use Rattle.guarantee.specs.Runs.{run-keeps, start-keeps}
 
 -- what the invariant says of a thread that stands before an access: where it stands, that the access is one by flow sets, that it may touch the cell, that
@@ -29,9 +29,14 @@ record Before {t : Table} (copies : Copies t) (f : Families) (state : State) (n 
   accesses : Accesses copies (f .flow) copy (statement t place) w x
   is-cell : x < t .cells
   touches : Potential copies f ms w x
-  holds : (k : ℕ) → f .held copy place k → Holds state n k
+  holds : (w : Bool) (k : ℕ) → f .held w copy place k → HoldsIn w state n k
   started : n < length (state .threads)
   preceded : Several state → f .preceded copy place
+
+-- two threads that hold one lock, one of them for writing, are one
+one-of-two : (h : Holder) (m n : ℕ) (v w : Bool) → (v ≡ true) ⊎ (w ≡ true) → holdsIn v h m ≡ true → holdsIn w h n ≡ true → m ≡ n
+one-of-two h m n v w (inl e) one too = writer-alone w h m n (subst (λ (b : Bool). holdsIn b h m ≡ true) e one) too
+one-of-two h m n v w (inr e) one too = sym (writer-alone v h n m (subst (λ (b : Bool). holdsIn b h n ≡ true) e too) one)
 
 module _ {t : Table} (accepted : Accepted t) (copies : Copies t) (f : Families) (rules : Rules copies f) where
   operands : (m : Mark) → Place copies (m .copy) (m .place) → Operands t (copies .of (m .copy)) (statement t (m .place))
@@ -74,7 +79,7 @@ module _ {t : Table} (accepted : Accepted t) (copies : Copies t) (f : Families) 
       let sound = clean .not-stray (m .copy) (m .place) h (top .here) is in
       let own = operands m (top .here) .gives h is in
       let same : k ≡ sound .lock = sym at ∙ sound .one .alone _ (top .valued h (own .own) .flows) in
-      rw same (top .holds (sound .lock) (sound .before))
+      rw same (top .holds false (sound .lock) (sound .before))
 
   release-held : Clean copies f → (state : State) (n k : ℕ) (ms : List Mark) → Good copies f (state .locks) n ms
       → Next t (λ g σ. ReleaseIn g σ k) (frames copies f ms) → Holds state n k
@@ -100,9 +105,9 @@ module _ {t : Table} (accepted : Accepted t) (copies : Copies t) (f : Families) 
           (λ unshared. unshared
           (inv .apart m n x other (record { v = v; w = w; touches = here .touches; touches-too = too .touches; one-writes = writes })))
           (λ lock. other
-          (one-holder (holder state (lock .0)) m n
-          (here .holds (lock .0) (lock .1 (here .copy) (here .place) v (here .here) (here .accesses) (here .preceded several)))
-          (too .holds (lock .0) (lock .1 (too .copy) (too .place) w (too .here) (too .accesses) (too .preceded several)))))
+          (one-of-two (holder state (lock .0)) m n v w writes
+          (here .holds v (lock .0) (lock .1 (here .copy) (here .place) v (here .here) (here .accesses) (here .preceded several)))
+          (too .holds w (lock .0) (lock .1 (too .copy) (too .place) w (too .here) (too .accesses) (too .preceded several)))))
           (clean .guarded x (here .is-cell))
 
       no-stray : (n k : ℕ) → Release t state n k → Holds state n k

@@ -37,7 +37,7 @@ module _ {t : Table} (copies : Copies t) (f : Families) (rules : Rules copies f)
   -- thread n changes: its new stack is good, may touch no more than before and is behind a START if there are several, and the others lose no lock
   pub thread-changed : (state : State) (marks : ℕ → List Mark) → Invariant copies f state marks → (n : ℕ) → n < length (state .threads) → (b : ℤ)
       (fs : List Frame) (cells : List ℤ) (locks : List Holder) (ms : List Mark) → fs ≡ frames copies f ms → length locks ≡ t .locks
-      → Good copies f locks n ms → ((m k : ℕ) → (m ≡ n → ⊥) → Has copies f (state .locks) m k → Has copies f locks m k)
+      → Good copies f locks n ms → ((m : ℕ) (w : Bool) (k : ℕ) → (m ≡ n → ⊥) → Has copies f (state .locks) m w k → Has copies f locks m w k)
       → ((w : Bool) (x : ℕ) → Potential copies f ms w x → Potential copies f (marks n) w x) → (Several state → Behind copies f ms)
       → Invariant copies f (with-thread state n b fs cells locks) (replaced marks n ms)
   thread-changed state marks inv n there b fs cells locks ms shape all good others less behind =
@@ -45,7 +45,7 @@ module _ {t : Table} (copies : Copies t) (f : Families) (rules : Rules copies f)
         all-locks = all;
         shape = replaced-all (λ m s. getD (set (state .threads) n new) m ended .frames ≡ frames copies f s) marks n ms this-shape other-shape;
         good = replaced-all (λ m s. Good copies f locks m s) marks n ms good
-            (λ m other. good-still copies f rules (state .locks) locks m (marks m) (λ k. others m k other) (inv .good m));
+            (λ m other. good-still copies f rules (state .locks) locks m (marks m) (λ w k. others m w k other) (inv .good m));
         apart = λ m k x other clash. inv .apart m k x other (clash-wider (λ w. within m w x) (λ w. within k w x) clash);
         behind = λ several.
             let still : Several state = rw length-set at several in

@@ -72,6 +72,11 @@ abbrev pub OnPass : Turn → (Holder → Type 0) → Type 0
 OnPass (passes new) P = P new
 OnPass (stops number) P = Unit {0}
 
+-- what follows from two things that hold of it
+pub on-both : (turn : Turn) {P Q R : Holder → Type 0} → ((new : Holder) → P new → Q new → R new) → OnPass turn P → OnPass turn Q → OnPass turn R
+on-both (passes new) f p q = f new p q
+on-both (stops number) f p q = tt
+
 -- every other thread holds what it held
 abbrev pub OthersKeep : ℕ → Holder → Holder → Type 0
 OthersKeep n old new = (w : Bool) (o : ℕ) → (o ≡ n → ⊥) → holdsIn w old o ≡ true → holdsIn w new o ≡ true

@@ -1,11 +1,11 @@
 -- What the report says of a cell and of a GIVE, from the sets. Assumes nothing.
 use Prim.Native.Nat.{ℕ}
-use mathlib.Core.Bool.{Bool, cond, not, _&&_, _||_}
+use mathlib.Core.Bool.{Bool, false, true, cond, not, _&&_, _||_}
 use mathlib.Core.List.{List}
 use lib.ListN.{getD, length}
 use Rattle.sets.specs.Set.{has, union, inter, subset, isEmpty, isSingle}
 use Rattle.table.specs.Table.{Table, statement}
-use Rattle.table.specs.View.{view, setOn, testOn, starts}
+use Rattle.table.specs.View.{view, setOn, testOn, onOr, starts}
 use Rattle.table.specs.declared.Statement.{Statement}
 use Rattle.report.specs.Over.{unionFrom, interFrom, countFrom, unionAt}
 use Rattle.report.specs.Layout.{Layout}
@@ -16,14 +16,15 @@ use Rattle.report.specs.Held.{allLocks, heldSets}
 use Rattle.report.specs.Future.{futures}
 use Rattle.report.specs.Preceded.{reachSets, precededSets, isPreceded}
 
--- all sets of a table: flow by handle; reads, writes and given locks by copy; held locks and futures by statement; whether a START is reached, by copy,
--- and whether one can precede, by statement
+-- all sets of a table: flow by handle; reads, writes and given locks by copy; the locks surely held in either way, and those surely held for writing, and
+-- the futures by statement; whether a START is reached, by copy, and whether one can precede, by statement
 pub record Sets : Type 0 where
   pub flow : List ℕ
   pub reads : List ℕ
   pub writes : List ℕ
   pub given : List ℕ
   pub held : List ℕ
+  pub heldToWrite : List ℕ
   pub futureReads : List ℕ
   pub futureWrites : List ℕ
   pub reach : List ℕ
@@ -42,7 +43,8 @@ setsOf t k =
       reads = reads;
       writes = writes;
       given = given;
-      held = heldSets t k flow given;
+      held = heldSets t k false flow given;
+      heldToWrite = heldSets t k true flow given;
       futureReads = futures t k flow reads reading;
       futureWrites = futures t k flow writes writing;
       reach = reach;
@@ -81,10 +83,14 @@ touchesAt t k a x p = has (ownAccess t k a reading p) x || has (ownAccess t k a 
 unfoldable pub countedAt : Table → Layout → Sets → ℕ → ℕ → Bool
 countedAt t k a x p = touchesAt t k a x p && isPreceded k (a .preceded) p
 
+-- what an access at a place has to hold, as C-18 has it: "surely held for writing at each counted WRITE and surely held either way at each counted READ"
+unfoldable pub heldAt : Table → Layout → Sets → ℕ → ℕ
+heldAt t k a p = onOr (view (statement t (k .statementAt p)) .writes) (λ h. getD (a .heldToWrite) p 0) (getD (a .held) p 0)
+
 -- "Common locks of a cell: the intersection of the held sets of all its access statements; all locks if there are none", those that are counted
 unfoldable pub commonLocks : Table → Layout → Sets → ℕ → ℕ
 commonLocks t k a x =
-    interFrom (allLocks t) 0 (k .statements) (λ p. cond (countedAt t k a x p) (getD (a .held) p 0) (allLocks t))
+    interFrom (allLocks t) 0 (k .statements) (λ p. cond (countedAt t k a x p) (heldAt t k a p) (allLocks t))
 
 -- unguarded: shared, and no lock is common
 unfoldable pub isUnguarded : ℕ → ℕ → ℕ → Bool
@@ -92,7 +98,7 @@ isUnguarded shared common x = has shared x && isEmpty common
 
 -- ---- stray
 
--- "A GIVE is stray unless its flow set is one lock that is held there"
+-- "A GIVE is stray unless its flow set is one lock that is held there", C-18: "surely held either way"
 unfoldable pub strayBy : (ℕ → ℕ) → ℕ → Statement → Bool
 strayBy flow held σ = testOn (view σ .gives) (λ h. not (isSingle (flow h) && subset (flow h) held))
 

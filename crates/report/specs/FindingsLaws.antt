@@ -10,10 +10,11 @@ use borrow.Author.Tests.{eqb-true, eq-eqb, not-false}
 use Rattle.sets.specs.Set.{has, subset, isEmpty, isSingle, count}
 use Rattle.sets.specs.SetLaws.{has-beyond, below-of-has, firsts-below, subset-has, has-subset, single-is-one, has-one, lowest-some, lowest-is}
 use Rattle.table.specs.Table.{Table, statement}
-use Rattle.table.specs.View.{view}
-use Rattle.table.specs.ViewLaws.{test-is}
+use Rattle.table.specs.View.{view, onOr}
+use Rattle.table.specs.ViewLaws.{nothing-to, write-alone, test-is}
 use Rattle.table.specs.Accepted.{Accepted}
-use Rattle.table.specs.declared.Reference.the-variants.{To}
+use Rattle.table.specs.declared.Reference.{Reference}
+use Rattle.table.specs.declared.Reference.the-variants.{To, Nothing}
 use Rattle.report.specs.Over.{unionAt}
 use Rattle.report.specs.OverLaws.{never, none-in, both-true, true-both, either, either-left, either-right, not-has, inter-at, inter-inside, inter-has, unionAt-has, unionAt-from, below-within, within-below}
 use Rattle.report.specs.Layout.{Layout}
@@ -24,10 +25,10 @@ use Rattle.report.specs.FlowLaws.{flow-sets}
 use Rattle.report.specs.EffectLaws.{accessed-accesses, accesses-accessed}
 use Rattle.report.specs.Held.{allLocks}
 use Rattle.report.specs.HeldLaws.{single-only, only-single}
-use Rattle.report.specs.Findings.{Sets, setsOf, sharedCells, ownAccess, touchesAt, countedAt, commonLocks, isUnguarded, strayBy, strayAt, isStray}
+use Rattle.report.specs.Findings.{Sets, setsOf, sharedCells, ownAccess, touchesAt, countedAt, heldAt, commonLocks, isUnguarded, strayBy, strayAt, isStray}
 use Rattle.report.specs.Preceded.{isPreceded}
 use Rattle.report.specs.PlaceLaws.{placed, place-at, at-placed, from-placed}
-use Rattle.report.specs.ReportRules.{families}
+use Rattle.report.specs.ReportRules.{heldList, families}
 use Rattle.report.specs.Rules.{Place, Accesses, Common, Sound}
 
 -- ---- a mark, and a set that is not empty
@@ -83,7 +84,19 @@ module _ (t : Table) (k : Layout) (acc : Accepted t) (fits : Fits t k) where
       go (inl a) = (false, accessed-accesses t k fits (theSets .flow) flow-below (k .statementCopy p) false x (statement t (k .statementAt p)) a)
       go (inr a) = (true, accessed-accesses t k fits (theSets .flow) flow-below (k .statementCopy p) true x (statement t (k .statementAt p)) a)
 
-  -- ---- common locks: exactly the locks that are held at all accesses that a START can precede
+  -- ---- common locks: exactly the locks that are held, in the way of each, at all accesses that a START can precede
+
+  -- what is held at a place, in the way of an access there
+  held-by-way : (p : ℕ) (w : Bool) (x : ℕ) → Accesses (copiesOf fits) (families t k .flow) (k .statementCopy p) (statement t (k .statementAt p)) w x
+      → heldAt t k theSets p ≡ getD (heldList theSets w) p 0
+  unfolding heldAt
+  held-by-way p true x (h, e, a) = rw e
+  held-by-way p false x (h, e, a) = go (view (statement t (k .statementAt p)) .writes) refl
+    where
+      go : (r : Reference) → view (statement t (k .statementAt p)) .writes ≡ r
+          → onOr r (λ h. getD (theSets .heldToWrite) p 0) (getD (theSets .held) p 0) ≡ getD (theSets .held) p 0
+      go (To y) i = nothing-to (sym (write-alone (statement t (k .statementAt p)) i .0) ∙ e)
+      go Nothing i = refl
 
   pub common-has : (x l : ℕ) → has (allLocks t) l ≡ true → Common (copiesOf fits) (families t k .flow) (families t k .held) (families t k .preceded) x l
       → has (commonLocks t k theSets x) l ≡ true
@@ -91,12 +104,13 @@ module _ (t : Table) (k : Layout) (acc : Accepted t) (fits : Fits t k) where
   common-has x l a f =
       inter-has (allLocks t) 0 (k .statements) _ l a (λ p w. go p (within-below w) (countedAt t k theSets x p) refl)
     where
-      go : (p : ℕ) → p < k .statements → (b : Bool) → countedAt t k theSets x p ≡ b → has (cond b (getD (theSets .held) p 0) (allLocks t)) l ≡ true
+      go : (p : ℕ) → p < k .statements → (b : Bool) → countedAt t k theSets x p ≡ b → has (cond b (heldAt t k theSets p) (allLocks t)) l ≡ true
       go p m true e =
           let b = both-true (touchesAt t k theSets x p) (isPreceded k (theSets .preceded) p) e in
           let r = touch-accesses p x (b .0) in
           let back : k .statementPlace (k .statementCopy p) (k .statementAt p) ≡ p = fits .statement-there p m .back in
-          subst (λ (z : ℕ). has (getD (theSets .held) z 0) l ≡ true) back
+          ap (λ (y : ℕ). has y l) (held-by-way p (r .0) x (r .1))
+          ∙ subst (λ (z : ℕ). has (getD (heldList theSets (r .0)) z 0) l ≡ true) back
           (f (k .statementCopy p) (k .statementAt p) (r .0) (place-at t k fits p m) (r .1) (ap (isPreceded k (theSets .preceded)) back ∙ b .1))
       go p m false e = a
 
@@ -106,9 +120,14 @@ module _ (t : Table) (k : Layout) (acc : Accepted t) (fits : Fits t k) where
   common-from x l h = (
     inter-inside (allLocks t) 0 (k .statements) _ l h,
     λ c s w v a g.
-        ap (λ (b : Bool). has (cond b (getD (theSets .held) (k .statementPlace c s) 0) (allLocks t)) l) (sym (true-both (accesses-touch c s w x v a) g))
+        ap (λ (y : ℕ). has y l) (sym (held-by-way (k .statementPlace c s) w x (here c s w v a)))
+        ∙ ap (λ (b : Bool). has (cond b (heldAt t k theSets (k .statementPlace c s)) (allLocks t)) l) (sym (true-both (accesses-touch c s w x v a) g))
         ∙ inter-at (allLocks t) 0 (k .statements) _ (k .statementPlace c s) l (below-within (placed t k fits c s v .there)) h,
   )
+    where
+      here : (c s : ℕ) (w : Bool) → Place (copiesOf fits) c s → Accesses (copiesOf fits) (families t k .flow) c (statement t s) w x
+          → Accesses (copiesOf fits) (families t k .flow) (k .statementCopy (k .statementPlace c s)) (statement t (k .statementAt (k .statementPlace c s))) w x
+      here c s w v = at-placed t k fits (λ p d z τ. Accesses (copiesOf fits) (families t k .flow) d τ w x) c s v (statement t s) refl
 
   common-below : (x : ℕ) → commonLocks t k theSets x < 2 ^ 64
   unfolding commonLocks
@@ -161,7 +180,7 @@ module _ (t : Table) (k : Layout) (acc : Accepted t) (fits : Fits t k) where
   strayThrough c locks h = let F : ℕ = flowAt k (theSets .flow) c h in not (isSingle F && subset F locks)
 
   pub sound-if : (c s h : ℕ) → Place (copiesOf fits) c s → view (statement t s) .gives ≡ To h → strayAt t k theSets (k .statementPlace c s) ≡ false
-      → Sound (families t k .flow) (families t k .held) c s h
+      → Sound (families t k .flow) (families t k .held false) c s h
   unfolding strayAt strayBy isSingle
   sound-if c s h v e f =
       let F : ℕ = flowAt k (theSets .flow) c h in
@@ -177,7 +196,7 @@ module _ (t : Table) (k : Layout) (acc : Accepted t) (fits : Fits t k) where
         before = subset-has F H (b .1) (i .0) (i .1);
       }
 
-  pub sound-is : (c s h : ℕ) → Place (copiesOf fits) c s → view (statement t s) .gives ≡ To h → Sound (families t k .flow) (families t k .held) c s h
+  pub sound-is : (c s h : ℕ) → Place (copiesOf fits) c s → view (statement t s) .gives ≡ To h → Sound (families t k .flow) (families t k .held false) c s h
       → strayAt t k theSets (k .statementPlace c s) ≡ false
   unfolding strayAt strayBy
   sound-is c s h v e o =

@@ -1,4 +1,4 @@
--- The held sets satisfy document 01's rules, and contain any sets that do. Assumes nothing.
+-- The held sets of each mode satisfy their rules, and contain any sets that do. Assumes nothing.
 use Prim.Native.Nat.{ℕ, _^_, _≤_, _<_}
 use mathlib.Core.Path.{_≡_, refl, sym, ap, _∙_, subst}
 use mathlib.Core.Bool.{Bool, true, false, cond}
@@ -12,7 +12,7 @@ use borrow.Author.Tests.{eqb-true, eq-eqb, ltb-true, ltb-false, lt-ltb}
 use Rattle.sets.specs.Set.{has, one, minus, count, isSingle}
 use Rattle.sets.specs.SetLaws.{has-union-left, has-union-right, union-cases, has-firsts, firsts-below, has-one, has-beyond, single-is-one, count-one, inside-both}
 use Rattle.table.specs.Table.{Table, routine, statement}
-use Rattle.table.specs.View.{view, On, setOn, listOn, calls, starts}
+use Rattle.table.specs.View.{view, On, setOn, listOn, calls, starts, takesIn}
 use Rattle.table.specs.ViewLaws.{set-has, set-from, list-has, list-from, calls-names, starts-names}
 use Rattle.table.specs.Accepted.{Accepted, Names}
 use Rattle.table.specs.declared.Statement.{Statement}
@@ -82,11 +82,11 @@ pub only-has : (s : ℕ) → s < 2 ^ 64 → (x : ℕ) → Only (λ y. has s y �
 unfolding onlyLock
 only-has s l x o = rw (only-single s x l o) (o .member)
 
-module _ (t : Table) (k : Layout) (acc : Accepted t) (fits : Fits t k) (flow : List ℕ) (below : (i : ℕ) → getD flow i 0 < 2 ^ 64) (given : List ℕ) where
+module _ (t : Table) (k : Layout) (acc : Accepted t) (fits : Fits t k) (mode : Bool) (flow : List ℕ) (below : (i : ℕ) → getD flow i 0 < 2 ^ 64) (given : List ℕ) where
   -- ---- the ways, by the statement that makes them
 
   abbrev onward : ℕ → ℕ → Statement → ℕ → Way
-  onward c s σ n = record { to = k .statementPlace c n; brings = λ held. heldAfter t k flow given held c s σ }
+  onward c s σ n = record { to = k .statementPlace c n; brings = λ held. heldAfter t k mode flow given held c s σ }
 
   abbrev callWay : ℕ → ℕ → Way
   callWay c s = record { to = entry t k (k .leads c s); brings = λ held. held (k .statementPlace c s) }
@@ -107,21 +107,21 @@ module _ (t : Table) (k : Layout) (acc : Accepted t) (fits : Fits t k) (flow : L
   firstWay = record { to = entry t k (k .first); brings = λ held. 0 }
 
   module _ (c s : ℕ) (v : Place (copiesOf fits) c s) where
-    way-among : (w : Way) → List·Memᴰ w (waysAt (k .statementPlace c s) c s (statement t s)) → List·Memᴰ w (allWays t k flow given)
+    way-among : (w : Way) → List·Memᴰ w (waysAt (k .statementPlace c s) c s (statement t s)) → List·Memᴰ w (allWays t k mode flow given)
     unfolding allWays waysFrom
     way-among w m = List·Memᴰ·tail (among-all t k fits waysAt w c s v (statement t s) refl m)
 
-    onward-among : (n : ℕ) → Goes s (statement t s) n → List·Memᴰ (onward c s (statement t s) n) (allWays t k flow given)
+    onward-among : (n : ℕ) → Goes s (statement t s) n → List·Memᴰ (onward c s (statement t s) n) (allWays t k mode flow given)
     onward-among n g =
         way-among _ (Memᴰ·append-left (callWays c s (statement t s) ++ startWays c s (statement t s))
         (map-has (onward c s (statement t s)) (nexts s (statement t s)) n (goes-next s (statement t s) n g)))
 
-    call-among : (q : ℕ) → calls (view (statement t s)) ≡ To q → List·Memᴰ (callWay c s) (allWays t k flow given)
+    call-among : (q : ℕ) → calls (view (statement t s)) ≡ To q → List·Memᴰ (callWay c s) (allWays t k mode flow given)
     call-among q e =
         way-among _ (Memᴰ·append-right (map (onward c s (statement t s)) (nexts s (statement t s)))
         (Memᴰ·append-left (startWays c s (statement t s)) (list-has (calls (view (statement t s))) (λ r. callWay c s ∷ []) _ e (List·Memᴰ·head refl))))
 
-    start-among : (q : ℕ) → starts (view (statement t s)) ≡ To q → List·Memᴰ (startWay c s) (allWays t k flow given)
+    start-among : (q : ℕ) → starts (view (statement t s)) ≡ To q → List·Memᴰ (startWay c s) (allWays t k mode flow given)
     start-among q e =
         way-among _ (Memᴰ·append-right (map (onward c s (statement t s)) (nexts s (statement t s)))
         (Memᴰ·append-right (callWays c s (statement t s)) (list-has (starts (view (statement t s))) (λ r. startWay c s ∷ []) _ e (List·Memᴰ·head refl))))
@@ -148,7 +148,7 @@ module _ (t : Table) (k : Layout) (acc : Accepted t) (fits : Fits t k) (flow : L
         (List·Memᴰ·append-cases (callWays c s (statement t s)) i))
         (List·Memᴰ·append-cases (map (onward c s (statement t s)) (nexts s (statement t s))) m)
 
-    ways-cases : (w : Way) → List·Memᴰ w (allWays t k flow given) → C w
+    ways-cases : (w : Way) → List·Memᴰ w (allWays t k mode flow given) → C w
     unfolding allWays waysFrom
     ways-cases w (List·Memᴰ·head e) = subst C (sym e) first
     ways-cases w (List·Memᴰ·tail m) =
@@ -169,25 +169,25 @@ module _ (t : Table) (k : Layout) (acc : Accepted t) (fits : Fits t k) (flow : L
         go z true a = sub (k .statementPlace c z) x a
         go z false a = a
 
-    gained-more : (c s : ℕ) (σ : Statement) (x : ℕ) → has (gained t k flow G c s σ) x ≡ true → has (gained t k flow H c s σ) x ≡ true
+    gained-more : (c s : ℕ) (σ : Statement) (x : ℕ) → has (gained t k mode flow G c s σ) x ≡ true → has (gained t k mode flow H c s σ) x ≡ true
     unfolding gained
     gained-more c s σ x a =
-        let taken : ℕ = setOn (view σ .takes) (λ h. onlyLock (flowAt k flow c h)) in
+        let taken : ℕ = setOn (takesIn mode (view σ)) (λ h. onlyLock (flowAt k flow c h)) in
         union-cases taken (setOn (calls (view σ)) (λ q. atReturns t k G (k .leads c s))) x (has-union-left taken _ x)
         (λ b.
         let o : On (calls (view σ)) (λ q. has (atReturns t k G (k .leads c s)) x ≡ true) = set-from (calls (view σ)) (λ q. atReturns t k G (k .leads c s)) x b in
         has-union-right taken _ x (set-has (calls (view σ)) (λ q. atReturns t k H (k .leads c s)) x (o .1) (returns-more (k .leads c s) x (o .2)))) a
 
-    after-more : (c s : ℕ) (σ : Statement) (x : ℕ) → has (heldAfter t k flow given G c s σ) x ≡ true → has (heldAfter t k flow given H c s σ) x ≡ true
+    after-more : (c s : ℕ) (σ : Statement) (x : ℕ) → has (heldAfter t k mode flow given G c s σ) x ≡ true → has (heldAfter t k mode flow given H c s σ) x ≡ true
     unfolding heldAfter
     after-more c s σ x a =
-        union-cases (gained t k flow G c s σ) (minus (G (k .statementPlace c s)) (lost k flow given c s σ)) x
-        (λ b. has-union-left (gained t k flow H c s σ) _ x (gained-more c s σ x b))
+        union-cases (gained t k mode flow G c s σ) (minus (G (k .statementPlace c s)) (lost k flow given c s σ)) x
+        (λ b. has-union-left (gained t k mode flow H c s σ) _ x (gained-more c s σ x b))
         (λ b.
         let m = minus-from (G (k .statementPlace c s)) (lost k flow given c s σ) x b in
-        has-union-right (gained t k flow H c s σ) _ x (minus-has (H (k .statementPlace c s)) (lost k flow given c s σ) x (sub _ x (m .0)) (m .1))) a
+        has-union-right (gained t k mode flow H c s σ) _ x (minus-has (H (k .statementPlace c s)) (lost k flow given c s σ) x (sub _ x (m .0)) (m .1))) a
 
-  monotone : (w : Way) → List·Memᴰ w (allWays t k flow given) → Monotone w
+  monotone : (w : Way) → List·Memᴰ w (allWays t k mode flow given) → Monotone w
   monotone =
       ways-cases Monotone (record { more = λ G H sub x h. h })
       (λ c s n v g. record { more = λ G H sub x h. after-more G H sub c s (statement t s) x h })
@@ -203,26 +203,26 @@ module _ (t : Table) (k : Layout) (acc : Accepted t) (fits : Fits t k) (flow : L
   locks-64 = let l : t .locks ≤ 16 = acc .locks-most in omega arith
 
   abbrev Held : ℕ → ℕ → ℕ → Type 0
-  Held = HeldHas k (heldSets t k flow given)
+  Held = HeldHas k (heldSets t k mode flow given)
 
   -- the sets as the ways see them
   abbrev left : ℕ → ℕ
-  left = leaving (allLocks t) (leftOut (allLocks t) (k .statements) (allWays t k flow given))
+  left = leaving (allLocks t) (leftOut (allLocks t) (k .statements) (allWays t k mode flow given))
 
   left-held : (c s x : ℕ) → Place (copiesOf fits) c s → has (left (k .statementPlace c s)) x ≡ true → Held c s x
   unfolding heldSets
   left-held c s x v h =
-      ap (λ (y : ℕ). has y x) (greatest-is (allLocks t) small (k .statements) (allWays t k flow given) monotone (k .statementPlace c s) (placed t k fits c s v .there)) ∙ h
+      ap (λ (y : ℕ). has y x) (greatest-is (allLocks t) small (k .statements) (allWays t k mode flow given) monotone (k .statementPlace c s) (placed t k fits c s v .there)) ∙ h
 
-  kept : (w : Way) → List·Memᴰ w (allWays t k flow given) → (x : ℕ) → has (getD (heldSets t k flow given) (w .to) 0) x ≡ true → has (w .brings left) x ≡ true
+  kept : (w : Way) → List·Memᴰ w (allWays t k mode flow given) → (x : ℕ) → has (getD (heldSets t k mode flow given) (w .to) 0) x ≡ true → has (w .brings left) x ≡ true
   unfolding heldSets
-  kept = greatest-kept (allLocks t) small (k .statements) (allWays t k flow given) monotone
+  kept = greatest-kept (allLocks t) small (k .statements) (allWays t k mode flow given) monotone
 
-  inside : (p x : ℕ) → has (getD (heldSets t k flow given) p 0) x ≡ true → (p < k .statements) × (has (allLocks t) x ≡ true)
+  inside : (p x : ℕ) → has (getD (heldSets t k mode flow given) p 0) x ≡ true → (p < k .statements) × (has (allLocks t) x ≡ true)
   unfolding heldSets
-  inside = greatest-inside (allLocks t) small (k .statements) (allWays t k flow given) monotone
+  inside = greatest-inside (allLocks t) small (k .statements) (allWays t k mode flow given) monotone
 
-  returns-rule : (c x : ℕ) → has (atReturns t k left c) x ≡ true → AtReturns (copiesOf fits) (FlowHas k flow) (GivesHas given) Held c x
+  returns-rule : (c x : ℕ) → has (atReturns t k left c) x ≡ true → AtReturns (copiesOf fits) mode (FlowHas k flow) (GivesHas given) Held c x
   unfolding atReturns
   returns-rule c x h z v e =
       left-held c z x v
@@ -231,51 +231,51 @@ module _ (t : Table) (k : Layout) (acc : Accepted t) (fits : Fits t k) (flow : L
 
   -- what is lost, as a set and by the rule, whatever is held
   module _ (held : ℕ → ℕ → ℕ → Type 0) (c s : ℕ) (σ : Statement) (x : ℕ) where
-    loses-lost : Loses (copiesOf fits) (FlowHas k flow) (GivesHas given) held c s x σ → has (lost k flow given c s σ) x ≡ true
+    loses-lost : Loses (copiesOf fits) mode (FlowHas k flow) (GivesHas given) held c s x σ → has (lost k flow given c s σ) x ≡ true
     unfolding lost
     loses-lost (inl (h, e, a)) = has-union-left (setOn (view σ .gives) (flowAt k flow c)) _ x (set-has (view σ .gives) (flowAt k flow c) x e a)
     loses-lost (inr (q, e, a)) =
         has-union-right (setOn (view σ .gives) (flowAt k flow c)) _ x (set-has (calls (view σ)) (λ q. getD given (k .leads c s) 0) x e a)
 
-    lost-loses : has (lost k flow given c s σ) x ≡ true → Loses (copiesOf fits) (FlowHas k flow) (GivesHas given) held c s x σ
+    lost-loses : has (lost k flow given c s σ) x ≡ true → Loses (copiesOf fits) mode (FlowHas k flow) (GivesHas given) held c s x σ
     unfolding lost
     lost-loses =
         union-cases (setOn (view σ .gives) (flowAt k flow c)) (setOn (calls (view σ)) (λ q. getD given (k .leads c s) 0)) x
         (λ a. inl (set-from (view σ .gives) (flowAt k flow c) x a)) (λ a. inr (set-from (calls (view σ)) (λ q. getD given (k .leads c s) 0) x a))
 
-  gains-rule : (c s : ℕ) (σ : Statement) (x : ℕ) → has (gained t k flow left c s σ) x ≡ true
-      → Gains (copiesOf fits) (FlowHas k flow) (GivesHas given) Held c s x σ
+  gains-rule : (c s : ℕ) (σ : Statement) (x : ℕ) → has (gained t k mode flow left c s σ) x ≡ true
+      → Gains (copiesOf fits) mode (FlowHas k flow) (GivesHas given) Held c s x σ
   unfolding gained
   gains-rule c s σ x =
-      union-cases (setOn (view σ .takes) (λ h. onlyLock (flowAt k flow c h))) (setOn (calls (view σ)) (λ q. atReturns t k left (k .leads c s))) x
+      union-cases (setOn (takesIn mode (view σ)) (λ h. onlyLock (flowAt k flow c h))) (setOn (calls (view σ)) (λ q. atReturns t k left (k .leads c s))) x
       (λ a.
-      let o : On (view σ .takes) (λ h. has (onlyLock (flowAt k flow c h)) x ≡ true) = set-from (view σ .takes) (λ h. onlyLock (flowAt k flow c h)) x a in
+      let o : On (takesIn mode (view σ)) (λ h. has (onlyLock (flowAt k flow c h)) x ≡ true) = set-from (takesIn mode (view σ)) (λ h. onlyLock (flowAt k flow c h)) x a in
       inl (o .0, o .1, only-from _ (below (k .handlePlace c (o .0))) x (o .2)))
       (λ a.
       let o : On (calls (view σ)) (λ q. has (atReturns t k left (k .leads c s)) x ≡ true) = set-from (calls (view σ)) (λ q. atReturns t k left (k .leads c s)) x a in
       inr (o .0, o .1, returns-rule (k .leads c s) x (o .2)))
 
-  after-rule : (c s : ℕ) → Place (copiesOf fits) c s → (σ : Statement) → (x : ℕ) → has (heldAfter t k flow given left c s σ) x ≡ true
-      → After (copiesOf fits) (FlowHas k flow) (GivesHas given) Held c s x σ
+  after-rule : (c s : ℕ) → Place (copiesOf fits) c s → (σ : Statement) → (x : ℕ) → has (heldAfter t k mode flow given left c s σ) x ≡ true
+      → After (copiesOf fits) mode (FlowHas k flow) (GivesHas given) Held c s x σ
   unfolding heldAfter
   after-rule c s v σ x =
-      union-cases (gained t k flow left c s σ) (minus (left (k .statementPlace c s)) (lost k flow given c s σ)) x (λ a. inl (gains-rule c s σ x a))
+      union-cases (gained t k mode flow left c s σ) (minus (left (k .statementPlace c s)) (lost k flow given c s σ)) x (λ a. inl (gains-rule c s σ x a))
       (λ a.
       let m = minus-from (left (k .statementPlace c s)) (lost k flow given c s σ) x a in
       inr (left-held c s x v (m .0), λ l. m .1 (loses-lost Held c s σ x l)))
 
   -- the way into the copy that a statement names leads to the first statement of the routine named
   entry-is : (c s q x : ℕ) → Place (copiesOf fits) c s → Names (statement t s) q → Held (k .leads c s) (routine t q .first) x
-      → has (getD (heldSets t k flow given) (entry t k (k .leads c s)) 0) x ≡ true
+      → has (getD (heldSets t k mode flow given) (entry t k (k .leads c s)) 0) x ≡ true
   unfolding entry
   entry-is c s q x v n h =
       subst (λ (r : ℕ). Held (k .leads c s) (routine t r .first) x) (sym (fits .leads-of c s q (v .there) (v .inside) n)) h
 
-  first-among : List·Memᴰ firstWay (allWays t k flow given)
+  first-among : List·Memᴰ firstWay (allWays t k mode flow given)
   unfolding allWays
   first-among = List·Memᴰ·head refl
 
-  pub held-rules : HeldRules (copiesOf fits) (FlowHas k flow) (GivesHas given) Held
+  pub held-rules : HeldRules (copiesOf fits) mode (FlowHas k flow) (GivesHas given) Held
   unfolding entry
   held-rules = record {
     locks = λ c s x v h. ltb-true x (t .locks) (sym (has-firsts (t .locks) x locks-64) ∙ inside (k .statementPlace c s) x h .1);
@@ -288,7 +288,7 @@ module _ (t : Table) (k : Layout) (acc : Accepted t) (fits : Fits t k) (flow : L
 
   -- ---- the greatest
 
-  module _ (other : ℕ → ℕ → ℕ → Type 0) (rules : HeldRules (copiesOf fits) (FlowHas k flow) (GivesHas given) other) where
+  module _ (other : ℕ → ℕ → ℕ → Type 0) (rules : HeldRules (copiesOf fits) mode (FlowHas k flow) (GivesHas given) other) where
     record At (p x : ℕ) : Type 0 where
       there : p < k .statements
       held : other (k .statementCopy p) (k .statementAt p) x
@@ -319,7 +319,7 @@ module _ (t : Table) (k : Layout) (acc : Accepted t) (fits : Fits t k) (flow : L
       here : (c s x : ℕ) → Place (copiesOf fits) c s → other c s x → has (H (k .statementPlace c s)) x ≡ true
       here c s x v a = sub (k .statementPlace c s) x (of-pair c s x v a)
 
-      at-returns : (c x : ℕ) → c < k .copies → has (allLocks t) x ≡ true → AtReturns (copiesOf fits) (FlowHas k flow) (GivesHas given) other c x
+      at-returns : (c x : ℕ) → c < k .copies → has (allLocks t) x ≡ true → AtReturns (copiesOf fits) mode (FlowHas k flow) (GivesHas given) other c x
           → has (atReturns t k H c) x ≡ true
       unfolding atReturns
       at-returns c x l a f =
@@ -331,22 +331,22 @@ module _ (t : Table) (k : Layout) (acc : Accepted t) (fits : Fits t k) (flow : L
           go z v false e = a
 
       gains-has : (c s : ℕ) → Place (copiesOf fits) c s → (x : ℕ) → has (allLocks t) x ≡ true
-          → Gains (copiesOf fits) (FlowHas k flow) (GivesHas given) other c s x (statement t s) → has (gained t k flow H c s (statement t s)) x ≡ true
+          → Gains (copiesOf fits) mode (FlowHas k flow) (GivesHas given) other c s x (statement t s) → has (gained t k mode flow H c s (statement t s)) x ≡ true
       unfolding gained
       gains-has c s v x l (inl (h, e, a)) =
-          has-union-left (setOn (view (statement t s) .takes) (λ h. onlyLock (flowAt k flow c h))) _ x
-          (set-has (view (statement t s) .takes) (λ h. onlyLock (flowAt k flow c h)) x e (only-has (flowAt k flow c h) (below (k .handlePlace c h)) x a))
+          has-union-left (setOn (takesIn mode (view (statement t s))) (λ h. onlyLock (flowAt k flow c h))) _ x
+          (set-has (takesIn mode (view (statement t s))) (λ h. onlyLock (flowAt k flow c h)) x e (only-has (flowAt k flow c h) (below (k .handlePlace c h)) x a))
       gains-has c s v x l (inr (q, e, a)) =
-          has-union-right (setOn (view (statement t s) .takes) (λ h. onlyLock (flowAt k flow c h))) _ x
+          has-union-right (setOn (takesIn mode (view (statement t s))) (λ h. onlyLock (flowAt k flow c h))) _ x
           (set-has (calls (view (statement t s))) (λ q. atReturns t k H (k .leads c s)) x e
           (at-returns (k .leads c s) x (fits .leads-there c s q (v .there) (v .inside) (calls-names (view (statement t s)) e)) l a))
 
       after-has : (c s : ℕ) → Place (copiesOf fits) c s → (x : ℕ) → has (allLocks t) x ≡ true
-          → After (copiesOf fits) (FlowHas k flow) (GivesHas given) other c s x (statement t s) → has (heldAfter t k flow given H c s (statement t s)) x ≡ true
+          → After (copiesOf fits) mode (FlowHas k flow) (GivesHas given) other c s x (statement t s) → has (heldAfter t k mode flow given H c s (statement t s)) x ≡ true
       unfolding heldAfter
-      after-has c s v x l (inl g) = has-union-left (gained t k flow H c s (statement t s)) _ x (gains-has c s v x l g)
+      after-has c s v x l (inl g) = has-union-left (gained t k mode flow H c s (statement t s)) _ x (gains-has c s v x l g)
       after-has c s v x l (inr (a, keeps)) =
-          has-union-right (gained t k flow H c s (statement t s)) _ x
+          has-union-right (gained t k mode flow H c s (statement t s)) _ x
           (minus-has (H (k .statementPlace c s)) (lost k flow given c s (statement t s)) x (here c s x v a) (λ m. keeps (lost-loses other c s (statement t s) x m)))
 
       at-entry : (c s q x : ℕ) → Place (copiesOf fits) c s → Names (statement t s) q → At (entry t k (k .leads c s)) x → other (k .leads c s) (routine t q .first) x
@@ -361,7 +361,7 @@ module _ (t : Table) (k : Layout) (acc : Accepted t) (fits : Fits t k) (flow : L
           absurd (rules .by-main x (subst (λ (r : ℕ). other (k .first) (routine t r .first) x) (fits .first-of)
           (to-pair (k .first) _ x (first-place (k .first) (fits .first-there)) a)))
 
-      brings-has : (w : Way) → List·Memᴰ w (allWays t k flow given) → (x : ℕ) → At (w .to) x → has (w .brings H) x ≡ true
+      brings-has : (w : Way) → List·Memᴰ w (allWays t k mode flow given) → (x : ℕ) → At (w .to) x → has (w .brings H) x ≡ true
       brings-has =
           ways-cases (λ w. (x : ℕ) → At (w .to) x → has (w .brings H) x ≡ true) first-has
           (λ c s n v g x a.
@@ -371,10 +371,10 @@ module _ (t : Table) (k : Layout) (acc : Accepted t) (fits : Fits t k) (flow : L
           (λ c s q v e x a. absurd (rules .by-start c s x q v e (at-entry c s q x v (starts-names (view (statement t s)) e) a)))
 
     -- any sets that satisfy the rules are inside
-    pub held-greatest : (c s x : ℕ) → Place (copiesOf fits) c s → other c s x → HeldHas k (heldSets t k flow given) c s x
+    pub held-greatest : (c s x : ℕ) → Place (copiesOf fits) c s → other c s x → HeldHas k (heldSets t k mode flow given) c s x
     unfolding heldSets
     held-greatest c s x v a =
-        greatest-contains (allLocks t) small (k .statements) (allWays t k flow given) monotone At
+        greatest-contains (allLocks t) small (k .statements) (allWays t k mode flow given) monotone At
         (λ p y b. is-lock (k .statementCopy p) (k .statementAt p) y (place-at t k fits p (b .there)) (b .held))
         (λ w m H sub y l b. brings-has H sub w m y b)
         (k .statementPlace c s) x (placed t k fits c s v .there) (of-pair c s x v a)
@@ -383,7 +383,7 @@ module _ (t : Table) (k : Layout) (acc : Accepted t) (fits : Fits t k) (flow : L
 
   -- lock x comes by every way into statement s of copy c
   pub record EveryWay (c s x : ℕ) : Type 0 where
-    pub before : (z : ℕ) → Place (copiesOf fits) c z → Goes z (statement t z) s → After (copiesOf fits) (FlowHas k flow) (GivesHas given) Held c z x (statement t z)
+    pub before : (z : ℕ) → Place (copiesOf fits) c z → Goes z (statement t z) s → After (copiesOf fits) mode (FlowHas k flow) (GivesHas given) Held c z x (statement t z)
     pub by-main : s ≡ routine t (k .routineOf c) .first → c ≡ k .first → ⊥
     pub by-call : s ≡ routine t (k .routineOf c) .first → (d z q : ℕ) → Place (copiesOf fits) d z → calls (view (statement t z)) ≡ To q → k .leads d z ≡ c → Held d z x
     pub by-start : s ≡ routine t (k .routineOf c) .first → (d z q : ℕ) → Place (copiesOf fits) d z → starts (view (statement t z)) ≡ To q → k .leads d z ≡ c → ⊥
@@ -399,8 +399,8 @@ module _ (t : Table) (k : Layout) (acc : Accepted t) (fits : Fits t k) (flow : L
     at-left : (p y : ℕ) → At Held held-rules p y → has (left p) y ≡ true
     unfolding heldSets
     at-left p y a =
-        ap (λ (z : ℕ). has z y) (sym (greatest-is (allLocks t) small (k .statements) (allWays t k flow given) monotone p (a .there)))
-        ∙ subst (λ (q : ℕ). has (getD (heldSets t k flow given) q 0) y ≡ true) (fits .statement-there p (a .there) .back) (a .held)
+        ap (λ (z : ℕ). has z y) (sym (greatest-is (allLocks t) small (k .statements) (allWays t k mode flow given) monotone p (a .there)))
+        ∙ subst (λ (q : ℕ). has (getD (heldSets t k mode flow given) q 0) y ≡ true) (fits .statement-there p (a .there) .back) (a .held)
 
     -- the first statement of a copy stands at the place: it is this one
     entered : (d : ℕ) → d < k .copies → entry t k d ≡ k .statementPlace c s → (d ≡ c) × (s ≡ routine t (k .routineOf c) .first)
@@ -414,14 +414,14 @@ module _ (t : Table) (k : Layout) (acc : Accepted t) (fits : Fits t k) (flow : L
         → (k .leads d z ≡ c) × (s ≡ routine t (k .routineOf c) .first)
     entered-from d z q u n i = entered (k .leads d z) (fits .leads-there d z q (u .there) (u .inside) n) i
 
-    brings : (w : Way) → List·Memᴰ w (allWays t k flow given) → w .to ≡ k .statementPlace c s → has (w .brings left) x ≡ true
+    brings : (w : Way) → List·Memᴰ w (allWays t k mode flow given) → w .to ≡ k .statementPlace c s → has (w .brings left) x ≡ true
     brings =
         ways-cases (λ w. w .to ≡ k .statementPlace c s → has (w .brings left) x ≡ true)
         (λ e. let r = entered (k .first) (fits .first-there) e in absurd (ways .by-main (r .1) (sym (r .0))))
         (λ d z n u g e.
         let r : (d ≡ c) × (n ≡ s) = same-place c s d n v (goes-placed t k acc fits d z n u g) e in
         after-has Held held-rules left at-left d z u x lock
-        (subst (λ (b : ℕ). After (copiesOf fits) (FlowHas k flow) (GivesHas given) Held b z x (statement t z)) (sym (r .0))
+        (subst (λ (b : ℕ). After (copiesOf fits) mode (FlowHas k flow) (GivesHas given) Held b z x (statement t z)) (sym (r .0))
         (ways .before z (subst (λ (b : ℕ). Place (copiesOf fits) b z) (r .0) u) (subst (Goes z (statement t z)) (r .1) g))))
         (λ d z q u e i.
         let r = entered-from d z q u (calls-names (view (statement t z)) e) i in
@@ -431,9 +431,9 @@ module _ (t : Table) (k : Layout) (acc : Accepted t) (fits : Fits t k) (flow : L
         absurd (ways .by-start (r .1) d z q u e (r .0)))
 
   -- so held sets are exactly the intersections
-  pub held-meets : (c s x : ℕ) → Place (copiesOf fits) c s → x < t .locks → EveryWay c s x → HeldHas k (heldSets t k flow given) c s x
+  pub held-meets : (c s x : ℕ) → Place (copiesOf fits) c s → x < t .locks → EveryWay c s x → HeldHas k (heldSets t k mode flow given) c s x
   unfolding heldSets
   held-meets c s x v l ways =
       let lock : has (allLocks t) x ≡ true = has-firsts (t .locks) x locks-64 ∙ lt-ltb x (t .locks) l in
-      greatest-meets (allLocks t) small (k .statements) (allWays t k flow given) monotone (k .statementPlace c s) x (placed t k fits c s v .there) lock
+      greatest-meets (allLocks t) small (k .statements) (allWays t k mode flow given) monotone (k .statementPlace c s) x (placed t k fits c s v .there) lock
       (brings c s x v lock ways)

@@ -27,7 +27,7 @@ use Rattle.report.specs.Preceded.{reachSets}
 use Rattle.report.specs.PrecededLaws.{Reaches, Preceded, reach-rules, preceded-rules}
 use Rattle.report.specs.Findings.{Sets, setsOf, clash, sharedAt, sharedCells}
 use Rattle.report.specs.PlaceLaws.{placed, place-at, at-placed}
-use Rattle.report.specs.Rules.{Place, Clash, SharedRules, EffectRules, FutureRules, Families, Rules}
+use Rattle.report.specs.Rules.{Place, Clash, SharedRules, HeldRules, EffectRules, FutureRules, Families, Rules}
 
 -- reads or writes, by which is asked for
 abbrev pub effectList : Sets → Bool → List ℕ
@@ -36,12 +36,16 @@ effectList a w = cond w (a .writes) (a .reads)
 abbrev pub futureList : Sets → Bool → List ℕ
 futureList a w = cond w (a .futureWrites) (a .futureReads)
 
+-- held for writing, or in either way
+abbrev pub heldList : Sets → Bool → List ℕ
+heldList a mode = cond mode (a .heldToWrite) (a .held)
+
 -- the sets as the rules have them
 abbrev pub families : Table → Layout → Families
 families t k = record {
   flow = FlowHas k (setsOf t k .flow);
   gives = GivesHas (setsOf t k .given);
-  held = HeldHas k (setsOf t k .held);
+  held = λ mode. HeldHas k (heldList (setsOf t k) mode);
   effect = EffectHas (effectList (setsOf t k));
   future = FutureHas k (futureList (setsOf t k));
   reaches = Reaches (setsOf t k .reach);
@@ -172,6 +176,11 @@ module _ (t : Table) (k : Layout) (acc : Accepted t) (fits : Fits t k) where
       let r = union-from 0 (k .statements) (sharedAt t k theSets) x h in
       start-from (r .0) (within-below (r .1)) x (r .2)
 
+  the-held-rules : (mode : Bool) → HeldRules (copiesOf fits) mode (FlowHas k (flowSets t k)) (GivesHas (gives t k (flowSets t k))) (HeldHas k (heldList (setsOf t k) mode))
+  unfolding setsOf
+  the-held-rules true = held-rules t k acc fits true (flowSets t k) flow-below (gives t k (flowSets t k))
+  the-held-rules false = held-rules t k acc fits false (flowSets t k) flow-below (gives t k (flowSets t k))
+
   -- ---- all rules
 
   pub report-rules : Rules (copiesOf fits) (families t k)
@@ -179,7 +188,7 @@ module _ (t : Table) (k : Layout) (acc : Accepted t) (fits : Fits t k) where
   report-rules = record {
     flow-rules = flow-rules t k acc fits;
     gives-rules = gives-rules t k fits (flowSets t k) flow-below;
-    held-rules = held-rules t k acc fits (flowSets t k) flow-below (gives t k (flowSets t k));
+    held-rules = the-held-rules;
     effect-rules = the-effect-rules;
     future-rules = the-future-rules;
     reach-rules = reach-rules t k fits;

@@ -1,12 +1,12 @@
--- The rules of "The report", as document 01 words them: flow, held, effect, future, shared, common locks and stray, over copies of routines and over sets
+-- The rules of "The report", as document 01 words them, with C-13 and C-18: flow, held, effect, future, shared, common locks and stray, over copies of routines and over sets
 -- that are predicates. Each record says that sets satisfy their rules; "least" and "greatest" are said elsewhere, of the sets that satisfy them. Assumes nothing.
 use Prim.Native.Nat.{ℕ, _+_, _<_}
 use mathlib.Core.Path.{_≡_}
-use mathlib.Core.Bool.{Bool, true}
+use mathlib.Core.Bool.{Bool, true, false}
 use mathlib.Core.Logic.{_⊎_}
 use lib.ListN.{getD, length}
 use Rattle.table.specs.Table.{Table, declaration, routine, statement, passed, InRoutine, OwnHandle}
-use Rattle.table.specs.View.{view, On, accesses, calls, starts}
+use Rattle.table.specs.View.{view, On, accesses, calls, starts, takesIn}
 use Rattle.table.specs.Accepted.{Names}
 use Rattle.table.specs.declared.Arguments.{Arguments}
 use Rattle.table.specs.declared.Reference.the-variants.{To}
@@ -66,17 +66,17 @@ pub record GivesRules {t : Table} (copies : Copies t) (flow : ℕ → ℕ → �
   pub by-give : (c s k h : ℕ) → Place copies c s → view (statement t s) .gives ≡ To h → flow c h k → gives c k
   pub by-call : (c s k q : ℕ) → Place copies c s → calls (view (statement t s)) ≡ To q → gives (copies .leads c s) k → gives c k
 
--- ---- held: sets of locks before each statement of each copy
+-- ---- held: sets of locks before each statement of each copy; C-18: surely held for writing (mode true), and surely held in either way (mode false)
 
-module _ {t : Table} (copies : Copies t) (flow : ℕ → ℕ → ℕ → Type 0) (gives : ℕ → ℕ → Type 0) (held : ℕ → ℕ → ℕ → Type 0) where
+module _ {t : Table} (copies : Copies t) (mode : Bool) (flow : ℕ → ℕ → ℕ → Type 0) (gives : ℕ → ℕ → Type 0) (held : ℕ → ℕ → ℕ → Type 0) where
   -- "the intersection of the sets before r's RETURNs (all locks if there is none)", of copy c
   abbrev pub AtReturns : ℕ → ℕ → Type 0
   AtReturns c k = (z : ℕ) → Place copies c z → view (statement t z) .ends ≡ true → held c z k
 
-  -- lock k is added by statement s of copy c: "TAKE adds the lock if its flow set has exactly one. After CALL r: the intersection of the sets before r's
-  -- RETURNs"
+  -- lock k is added by statement s of copy c: "TAKE adds the lock if its flow set has exactly one", "to both sets; TAKER adds only to the second set, under
+  -- TAKE's one-lock condition" (C-18). "After CALL r: the intersection of the sets before r's RETURNs"
   abbrev pub Gains : ℕ → ℕ → ℕ → Statement → Type 0
-  Gains c s k σ = On (view σ .takes) (λ h. Only (flow c h) k) ⊎ On (calls (view σ)) (λ q. AtReturns (copies .leads c s) k)
+  Gains c s k σ = On (takesIn mode (view σ)) (λ h. Only (flow c h) k) ⊎ On (calls (view σ)) (λ q. AtReturns (copies .leads c s) k)
 
   -- or may be given up by it: "GIVE removes its whole flow set", and over a CALL go the locks that a "GIVE in r, or in what r reaches by CALLs, has in its
   -- flow set"
@@ -160,13 +160,14 @@ pub record SharedRules {t : Table} (copies : Copies t) (effect : ℕ → Bool �
     : Type 0 where
   pub at-start : (c s x q : ℕ) → Place copies c s → starts (view (statement t s)) ≡ To q → Clash (effect (copies .leads c s)) (future c s) x → shared x
 
--- "Common locks of a cell: the intersection of the held sets of all its access statements; all locks if there are none", and C-13: "Leave an access out of
--- the common locks if no START can precede it": lock k is one of cell x
-abbrev pub Common : {t : Table} (copies : Copies t) (flow held : ℕ → ℕ → ℕ → Type 0) (preceded : ℕ → ℕ → Type 0) → ℕ → ℕ → Type 0
+-- C-18: "A lock is now common to a cell if it is surely held for writing at each counted WRITE and surely held either way at each counted READ", and C-13:
+-- "Leave an access out of the common locks if no START can precede it": lock k is one of cell x
+abbrev pub Common : {t : Table} (copies : Copies t) (flow : ℕ → ℕ → ℕ → Type 0) (held : Bool → ℕ → ℕ → ℕ → Type 0) (preceded : ℕ → ℕ → Type 0)
+    → ℕ → ℕ → Type 0
 Common {t} copies flow held preceded x k =
-    (c s : ℕ) (w : Bool) → Place copies c s → Accesses copies flow c (statement t s) w x → preceded c s → held c s k
+    (c s : ℕ) (w : Bool) → Place copies c s → Accesses copies flow c (statement t s) w x → preceded c s → held w c s k
 
--- a GIVE whose "flow set is one lock that is held there"
+-- a GIVE whose "flow set is one lock surely held either way" (C-18)
 pub record Sound (flow held : ℕ → ℕ → ℕ → Type 0) (c s h : ℕ) : Type 0 where
   pub lock : ℕ
   pub one : Only (flow c h) lock
@@ -178,7 +179,7 @@ pub record Sound (flow held : ℕ → ℕ → ℕ → Type 0) (c s h : ℕ) : Ty
 pub record Families : Type 1 where
   pub flow : ℕ → ℕ → ℕ → Type 0
   pub gives : ℕ → ℕ → Type 0
-  pub held : ℕ → ℕ → ℕ → Type 0
+  pub held : Bool → ℕ → ℕ → ℕ → Type 0
   pub effect : ℕ → Bool → ℕ → Type 0
   pub future : ℕ → ℕ → Bool → ℕ → Type 0
   pub reaches : ℕ → Type 0
@@ -189,7 +190,7 @@ pub record Families : Type 1 where
 pub record Rules {t : Table} (copies : Copies t) (f : Families) : Type 0 where
   pub flow-rules : FlowRules copies (f .flow)
   pub gives-rules : GivesRules copies (f .flow) (f .gives)
-  pub held-rules : HeldRules copies (f .flow) (f .gives) (f .held)
+  pub held-rules : (mode : Bool) → HeldRules copies mode (f .flow) (f .gives) (f .held mode)
   pub effect-rules : EffectRules copies (f .flow) (f .effect)
   pub future-rules : FutureRules copies (f .flow) (f .effect) (f .future)
   pub reach-rules : ReachRules copies (f .reaches)
@@ -199,4 +200,4 @@ pub record Rules {t : Table} (copies : Copies t) (f : Families) : Type 0 where
 -- the report is clean: no cell is unguarded (each is not shared or has a common lock), and no GIVE is stray
 pub record Clean {t : Table} (copies : Copies t) (f : Families) : Type 0 where
   pub guarded : (x : ℕ) → x < t .cells → (f .shared x → ⊥) ⊎ ((k : ℕ) × Common copies (f .flow) (f .held) (f .preceded) x k)
-  pub not-stray : (c s h : ℕ) → Place copies c s → view (statement t s) .gives ≡ To h → Sound (f .flow) (f .held) c s h
+  pub not-stray : (c s h : ℕ) → Place copies c s → view (statement t s) .gives ≡ To h → Sound (f .flow) (f .held false) c s h

@@ -68,17 +68,17 @@ module _ (t : Table) (k : Layout) (acc : Accepted t) (fits : Fits t k) where
         future-least t k acc fits flow below effect effect-below f (l .rules) w c s x v,
       )
 
-    module _ (given : List ℕ) where
-      -- the greatest held sets
+    module _ (mode : Bool) (given : List ℕ) where
+      -- the greatest held sets of a mode
       pub record GreatestHeld (f : ℕ → ℕ → ℕ → Type 0) : Type 1 where
-        pub rules : HeldRules copies (FlowHas k flow) (GivesHas given) f
-        pub contains : (other : ℕ → ℕ → ℕ → Type 0) → HeldRules copies (FlowHas k flow) (GivesHas given) other
+        pub rules : HeldRules copies mode (FlowHas k flow) (GivesHas given) f
+        pub contains : (other : ℕ → ℕ → ℕ → Type 0) → HeldRules copies mode (FlowHas k flow) (GivesHas given) other
             → (c s x : ℕ) → Place copies c s → other c s x → f c s x
 
-      pub held-unique : (f : ℕ → ℕ → ℕ → Type 0) → GreatestHeld f → (c s x : ℕ) → Place copies c s → f c s x ↔ HeldHas k (heldSets t k flow given) c s x
+      pub held-unique : (f : ℕ → ℕ → ℕ → Type 0) → GreatestHeld f → (c s x : ℕ) → Place copies c s → f c s x ↔ HeldHas k (heldSets t k mode flow given) c s x
       held-unique f g c s x v = (
-        held-greatest t k acc fits flow below given f (g .rules) c s x v,
-        g .contains (HeldHas k (heldSets t k flow given)) (held-rules t k acc fits flow below given) c s x v,
+        held-greatest t k acc fits mode flow below given f (g .rules) c s x v,
+        g .contains (HeldHas k (heldSets t k mode flow given)) (held-rules t k acc fits mode flow below given) c s x v,
       )
 
   -- the least set of copies that hold a START, or reach one by CALLs

@@ -12,7 +12,7 @@ use Rattle.sets.specs.Set.{has}
 use Rattle.sets.specs.SetLaws.{has-empty}
 use Rattle.table.specs.Fields.{field}
 use Rattle.table.specs.Table.{argumentsIn, statementIn}
-use Rattle.table.specs.View.{noArguments, view, On, onOr, setOn, listOn, testOn, when, calls, starts, idle, through, pointing, naming, going}
+use Rattle.table.specs.View.{noArguments, view, On, onOr, setOn, listOn, testOn, when, calls, starts, takesIn, idle, through, pointing, naming, going}
 use Rattle.table.specs.declared.Arguments.{Arguments}
 use Rattle.table.specs.declared.Reference.{Reference}
 use Rattle.table.specs.declared.Reference.the-variants.{To, Nothing}
@@ -55,6 +55,15 @@ module _ (v : View) {q : ℕ} where
       go : (b : Bool) → cond b (v .names) Nothing ≡ To q → v .names ≡ To q
       go true e = e
       go false e = nothing-to e
+
+-- what is taken in one way is taken
+pub taken-takes : (mode : Bool) (v : View) {h : ℕ} → takesIn mode v ≡ To h → v .takes ≡ To h
+taken-takes true v = go (v .writing)
+  where
+    go : (b : Bool) {h : ℕ} → cond b (v .takes) Nothing ≡ To h → v .takes ≡ To h
+    go true e = e
+    go false e = nothing-to e
+taken-takes false v = λ e. e
 
 -- what holds of all that f says, and of d, holds of what is said of a reference
 pub on-or : {A : Type 0} (P : A → Type 0) (r : Reference) (f : ℕ → A) (d : A) → ((n : ℕ) → r ≡ To n → P (f n)) → P d → P (onOr r f d)
@@ -150,6 +159,26 @@ forms (Jump s) = to (s .statement) refl
 forms (JumpZero s) = either (s .statement) refl
 forms Return = back refl
 forms (TakeRead h) = taken (h .number) false refl
+
+-- a WRITE reads nothing and gives no lock up
+pub write-alone : (σ : Statement) {x : ℕ} → view σ .writes ≡ To x → (view σ .reads ≡ Nothing) × (view σ .gives ≡ Nothing)
+write-alone σ {x} = go (forms σ)
+  where
+    none : {v : View} → view σ ≡ v → v .writes ≡ Nothing → view σ .writes ≡ To x → (view σ .reads ≡ Nothing) × (view σ .gives ≡ Nothing)
+    none p n e = nothing-to (sym (ap (λ (v : View). v .writes) p ∙ n) ∙ e)
+
+    go : Form (view σ) → view σ .writes ≡ To x → (view σ .reads ≡ Nothing) × (view σ .gives ≡ Nothing)
+    go (on p) = none p refl
+    go (read h p) = none p refl
+    go (written h p) = λ e. (ap (λ (v : View). v .reads) p, ap (λ (v : View). v .gives) p)
+    go (taken h w p) = none p refl
+    go (given h p) = none p refl
+    go (pointed h g p) = none p refl
+    go (called q a p) = none p refl
+    go (started q a p) = none p refl
+    go (to z p) = none p refl
+    go (either z p) = none p refl
+    go (back p) = none p refl
 
 pub points-or-names : (σ : Statement) → (view σ .points ≡ Nothing) ⊎ (view σ .names ≡ Nothing)
 points-or-names σ = go (forms σ)
