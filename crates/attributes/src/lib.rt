@@ -3,7 +3,7 @@ ghost use mathlib.Core.Path.{_≡_};
 ghost use lib.ListN.{getD};
 ghost use Rattle.table.specs.Fields.{field};
 ghost use Rattle.table.specs.Table.{passed, statementIn};
-ghost use Rattle.table.specs.View.{view, setOn, calls, starts};
+ghost use Rattle.table.specs.View.{view, setOn, calls, starts, inMode, takesToRead};
 ghost use Rattle.table.specs.ViewLaws.{firstIf, secondIf, argumentsIf};
 use table::Arguments;
 use table::Reference;
@@ -49,9 +49,9 @@ fn arguments_if(numbers: &[i32], line: usize, test: bool) -> Arguments
     }
 }
 
-// What the statement in `line` is to the rules. Past the last line it is RETURN.
-pub fn view_at(numbers: &[i32], line: usize) -> View
-    ensures { λ r. ⌜ r ≡ view (statementIn (now (numbers .entry)) line (field (now (numbers .entry)) line 1)) ⌝ }
+// What the statement in `line` is to the rules, where locks taken for writing alone count, or all. Past the last line it is RETURN.
+pub fn view_at(numbers: &[i32], line: usize, writing: bool) -> View
+    ensures { λ r. ⌜ r ≡ inMode writing (view (statementIn (now (numbers .entry)) line (field (now (numbers .entry)) line 1))) ⌝ }
 {
     let op = field_of(numbers, line, 1);
     let keeps = ((0 < op) & (op < 12)) | (op == 13);
@@ -62,7 +62,7 @@ pub fn view_at(numbers: &[i32], line: usize) -> View
         target: first_if(numbers, line, (op == 10) | (op == 11)),
         reads: first_if(numbers, line, op == 1),
         writes: first_if(numbers, line, op == 2),
-        takes: first_if(numbers, line, (op == 5) | (op == 13)),
+        takes: first_if(numbers, line, (op == 5) | ((op == 13) & !writing)),
         writing: op == 5,
         gives: first_if(numbers, line, op == 6),
         points: first_if(numbers, line, op == 7),
@@ -103,6 +103,13 @@ pub fn writes_at(numbers: &[i32], line: usize) -> Reference
     ensures { λ r. ⌜ r ≡ view (statementIn (now (numbers .entry)) line (field (now (numbers .entry)) line 1)) .writes ⌝ }
 {
     first_if(numbers, line, field_of(numbers, line, 1) == 2)
+}
+
+// Whether the statement in `line` takes a lock for reading.
+pub fn takes_to_read_at(numbers: &[i32], line: usize) -> bool
+    ensures { λ r. ⌜ r ≡ takesToRead (view (statementIn (now (numbers .entry)) line (field (now (numbers .entry)) line 1))) ⌝ }
+{
+    field_of(numbers, line, 1) == 13
 }
 
 // The handle whose lock the statement in `line` gives up.

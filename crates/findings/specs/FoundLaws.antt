@@ -9,7 +9,7 @@ use lib.ListN.{length, getD, List·getD-append}
 use lib.Seq.{getD-append-add}
 use Rattle.sets.specs.Set.{has, firsts, union, inter}
 use Rattle.table.specs.Header.{cells, locks, routines, statements}
-use Rattle.table.specs.Table.{Table, tableOf}
+use Rattle.table.specs.Table.{Table, tableOf, statement, statementOf}
 use Rattle.table.specs.TabulateLaws.{tabulate-same, getD-tabulate}
 use Rattle.table.specs.Accepted.{Accepted}
 use Rattle.table.specs.LookupLaws.{statement-is, statements-length, routines-length, cells-is, locks-is}
@@ -24,11 +24,13 @@ use Rattle.report.specs.EffectLaws.{effects-sets}
 use Rattle.report.specs.FutureLaws.{futures-sets}
 use Rattle.report.specs.Held.{allLocks}
 use Rattle.report.specs.Preceded.{isPreceded}
-use Rattle.report.specs.Findings.{setsOf, sharedAt, sharedCells, ownAccess, touchesAt, countedAt, commonLocks, strayAt, statementAccess, accessCount, isStray, isUnguarded}
+use Rattle.report.specs.Findings.{setsOf, sharedAt, sharedCells, ownAccess, touchesAt, countedAt, ownHeld, ownHolds, commonLocks, strayBy, strayAt, statementAccess, accessCount, isStray, isUnguarded}
 use Rattle.report.specs.Counts.{Counts, noCounts, addAccess, walkFrom, walked, cellByCell}
 use Rattle.report.specs.CountsLaws.{walk-is-cell-by-cell}
 use Rattle.report.specs.Report.{bit}
 use Rattle.report.specs.OneCopy.{access-one-copy, stray-one-copy}
+use Rattle.report.specs.FindingsLaws.{stray-own}
+use Rattle.table.specs.declared.Statement.{Statement}
 use Rattle.report.specs.ReportLaws.{unguardedCell}
 use Rattle.findings.specs.Steps.{ownBy, accesses, heldAt, commonBy, walkBy, notedBy, sharedBy, strayIn, unguardedIn}
 use Rattle.findings.specs.FoldLaws.{fold-same, fold-union, fold-inter, fold-count, fold-walk}
@@ -114,11 +116,11 @@ module _ (f : List ℤ) where
         ∙ walk-is-cell-by-cell t (oneEach t) (setsIn t) 64
 
     abbrev left : ℕ → ℕ → ℕ
-    left x p = cond (countedAt t (oneEach t) (setsIn t) x p) (getD (setsIn t .held) p 0) (allLocks t)
+    left x p = cond (countedAt t (oneEach t) (setsIn t) x p) (ownHeld t (oneEach t) (setsIn t) p) (allLocks t)
 
     -- an access that no START can precede leaves all locks
     counted-at : (p : ℕ) → p < statements f
-        → getD counted p 0 ≡ cond (isPreceded (oneEach t) (setsIn t .preceded) p) (getD (setsIn t .held) p 0) (allLocks t)
+        → getD counted p 0 ≡ cond (isPreceded (oneEach t) (setsIn t .preceded) p) (ownHeld t (oneEach t) (setsIn t) p) (allLocks t)
     unfolding countedHolds
     counted-at p h = ap (λ (l : List ℕ). getD l p 0) counted-is ∙ getD-tabulate (length (t .statements)) _ p 0 (omega (arith, statements-length f))
 
@@ -130,7 +132,7 @@ module _ (f : List ℤ) where
     unfolding countedAt
     held-at x p h =
         touched-at x p h ∙ ap (λ (l : ℕ). cond (touchesAt t (oneEach t) (setsIn t) x p) l (allLocks t)) (counted-at p h)
-        ∙ both-tests (touchesAt t (oneEach t) (setsIn t) x p) (isPreceded (oneEach t) (setsIn t .preceded) p) (getD (setsIn t .held) p 0) (allLocks t)
+        ∙ both-tests (touchesAt t (oneEach t) (setsIn t) x p) (isPreceded (oneEach t) (setsIn t .preceded) p) (ownHeld t (oneEach t) (setsIn t) p) (allLocks t)
 
     common-at : (x : ℕ) → commonBy f flow counted x ≡ commonLocks t (oneEach t) (setsIn t) x
     unfolding commonBy commonLocks oneEach
@@ -144,7 +146,7 @@ module _ (f : List ℤ) where
     noted-is e = e ∙ ap₂ (λ (l : List ℕ) (c : Counts). l ++ (c .reads ++ c .writes)) (tabulate-same 64 _ _ (λ x l. common-at x)) walk-is
 
     -- what the walk over the statements noted is what is found
-    pub found : Accepted t → {held : List ℕ} → held ≡ setsIn t .held → (shared : ℕ) (noted : List ℕ) → shared ≡ sharedCells t (oneEach t) (setsIn t)
+    pub found : Accepted t → {held : List ℕ} → held ≡ ownHolds t (oneEach t) (setsIn t) → (shared : ℕ) (noted : List ℕ) → shared ≡ sharedCells t (oneEach t) (setsIn t)
         → noted ≡ notedBy f flow counted → Found f flow held shared noted
     found acc held-is shared noted shared-is e =
         let few : cells f ≤ 64 = cells-few acc in
@@ -165,9 +167,17 @@ module _ (f : List ℤ) where
   -- ---- the totals
 
   module _ {flow held : List ℕ} {shared : ℕ} {noted : List ℕ} (is : Found f flow held shared noted) where
+    held-own : (p : ℕ) → p < statements f → getD held p 0 ≡ ownHeld t (oneEach t) (setsIn t) p
+    unfolding ownHolds oneEach
+    held-own p h = ap (λ (l : List ℕ). getD l p 0) (is .held-is) ∙ getD-tabulate (length (t .statements)) _ p 0 (omega (arith, statements-length f))
+
     pub stray-is : (p : ℕ) → p < statements f → strayIn f flow held p ≡ isStray t (oneEach t) (setsIn t) p
-    unfolding strayIn strayAt oneEach
-    stray-is p h = rw (stray-one-copy t (setsIn t) p, statement-is f p h, is .flow-is, is .held-is)
+    unfolding strayIn strayAt ownHeld oneEach
+    stray-is p h =
+        ap₂ {C = Bool} (λ (l : List ℕ) (x : ℕ). strayBy (λ h. getD l h 0) x (statementOf f p)) (is .flow-is) (held-own p h)
+        ∙ ap {B = Bool} (λ (σ : Statement). strayBy (λ h. getD (setsIn t .flow) h 0) (ownHeld t (oneEach t) (setsIn t) p) σ) (sym (statement-is f p h))
+        ∙ stray-own (λ h. getD (setsIn t .flow) h 0) (getD (setsIn t .heldToWrite) p 0) (getD (setsIn t .held) p 0) (statement t p)
+        ∙ sym (stray-one-copy t (setsIn t) p)
 
     pub strays-counted : countFrom 0 (statements f) (strayIn f flow held) ≡ countFrom 0 (length (t .statements)) (isStray t (oneEach t) (setsIn t))
     strays-counted =

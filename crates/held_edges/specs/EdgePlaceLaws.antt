@@ -1,10 +1,11 @@
 -- The places that a statement's edges come from and lead to. Assumes nothing.
 use Prim.Native.Nat.{ℕ, _+_, _≤_, _<_}
 use mathlib.Core.Path.{_≡_, refl, sym, ap}
+use mathlib.Core.Bool.{Bool}
 use native.Mathlib.Omega.{arith}
 use Rattle.table.specs.Table.{Table, routine, statement, OwnHandle}
-use Rattle.table.specs.View.{view, calls}
-use Rattle.table.specs.ViewLaws.{calls-names}
+use Rattle.table.specs.View.{view, onOr, calls, takesIn}
+use Rattle.table.specs.ViewLaws.{calls-names, taken-takes}
 use Rattle.table.specs.Accepted.{Accepted, Names, Operands}
 use Rattle.table.specs.declared.Reference.{Reference}
 use Rattle.table.specs.declared.Reference.the-variants.{To, Nothing}
@@ -14,7 +15,6 @@ use Rattle.report.specs.Held.{entry}
 use Rattle.report.specs.NextLaws.{goes-placed}
 use Rattle.report.specs.PlaceLaws.{placed}
 use Rattle.report.specs.Rules.{Place, Goes}
-use Rattle.table.specs.View.{onOr}
 use Rattle.held_edges.specs.HeldEdges.{backPlace, otherPlace, everyPlace, placeCount, metPlace}
 
 module _ (t : Table) (k : Layout) (acc : Accepted t) (fits : Fits t k) where
@@ -47,12 +47,12 @@ module _ (t : Table) (k : Layout) (acc : Accepted t) (fits : Fits t k) where
     unfolding entry
     enters q n = ap (λ (r : ℕ). k .statementPlace (k .leads c s) (routine t r .first)) (sym (fits .leads-of c s q (v .there) (v .inside) n))
 
-    pub met-there : metPlace k (k .statementPlace c s) c s (statement t s) < placeCount k
+    pub met-there : (mode : Bool) → metPlace k mode (k .statementPlace c s) c s (statement t s) < placeCount k
     unfolding metPlace
-    met-there = go (view (statement t s) .takes) refl (calls (view (statement t s))) refl
+    met-there mode = go (takesIn mode (view (statement t s))) refl (calls (view (statement t s))) refl
       where
-        go : (r : Reference) → view (statement t s) .takes ≡ r → (u : Reference) → calls (view (statement t s)) ≡ u
+        go : (r : Reference) → takesIn mode (view (statement t s)) ≡ r → (u : Reference) → calls (view (statement t s)) ≡ u
             → onOr r (λ h. otherPlace k (k .handlePlace c h)) (onOr u (λ q. backPlace k (k .leads c s)) (k .statementPlace c s)) < placeCount k
-        go (To h) e u i = let l : k .handlePlace c h < k .handles = handle-there c h (v .there) (operands-of .takes h e .own) in omega arith
+        go (To h) e u i = let l : k .handlePlace c h < k .handles = handle-there c h (v .there) (operands-of .takes h (taken-takes mode (view (statement t s)) e) .own) in omega arith
         go Nothing e (To q) i = let l : k .leads c s < k .copies = leads-there q (calls-names (view (statement t s)) i) in omega arith
         go Nothing e Nothing i = let l : k .statementPlace c s < k .statements = place-there c s v in omega arith

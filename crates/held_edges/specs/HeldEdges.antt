@@ -1,6 +1,6 @@
--- Held sets seen from the other side: what is left out of them goes along edges, from the sets that stand here at the start. Assumes nothing.
+-- Held sets of a mode seen from the other side: what is left out of them goes along edges, from the sets that stand here at the start. Assumes nothing.
 use Prim.Native.Nat.{ℕ, _+_, _-_}
-use mathlib.Core.Bool.{cond}
+use mathlib.Core.Bool.{Bool, cond}
 use mathlib.Core.List.{List, [], _∷_, _++_, map}
 use lib.Dec.{ltb}
 use lib.ListN.{getD}
@@ -8,7 +8,7 @@ use Rattle.sets.specs.Set.{minus}
 use Rattle.sets.specs.Least.{Edge, plain, least}
 use Rattle.table.specs.Table.{Table, statement}
 use Rattle.table.specs.Tabulate.{tabulate}
-use Rattle.table.specs.View.{view, onOr, listOn, when, calls, starts}
+use Rattle.table.specs.View.{view, onOr, listOn, when, calls, starts, takesIn}
 use Rattle.table.specs.declared.Statement.{Statement}
 use Rattle.report.specs.Over.{joinedFrom}
 use Rattle.report.specs.Layout.{Layout}
@@ -48,27 +48,27 @@ startAt t k flow given p =
 -- ---- edges
 
 -- what is left out behind a statement that was left out before it: over a TAKE all but the lock that it adds, over a CALL what the RETURNs leave out
-unfoldable pub metPlace : Layout → ℕ → ℕ → ℕ → Statement → ℕ
-metPlace k p c s σ = onOr (view σ .takes) (λ h. otherPlace k (k .handlePlace c h)) (onOr (calls (view σ)) (λ q. backPlace k (k .leads c s)) p)
+unfoldable pub metPlace : Layout → Bool → ℕ → ℕ → ℕ → Statement → ℕ
+metPlace k mode p c s σ = onOr (takesIn mode (view σ)) (λ h. otherPlace k (k .handlePlace c h)) (onOr (calls (view σ)) (λ q. backPlace k (k .leads c s)) p)
 
 -- the edges that statement s of copy c makes, whose place is p: over a CALL, to the first statement of the routine, and to what comes next what it may
 -- give up and its RETURNs leave out; to what comes next what is left out before; the flow set of a GIVE; all locks to a STARTed routine; from a RETURN back
-unfoldable pub edgesAt : Table → Layout → ℕ → ℕ → ℕ → Statement → List Edge
-edgesAt t k p c s σ =
+unfoldable pub edgesAt : Table → Layout → Bool → ℕ → ℕ → ℕ → Statement → List Edge
+edgesAt t k mode p c s σ =
     listOn (calls (view σ))
     (λ q.
     plain p (entry t k (k .leads c s))
     ∷ map (λ (n : ℕ). record { from = backPlace k (k .leads c s); also = givenPlace k (k .leads c s); to = k .statementPlace c n }) (nexts s σ))
-    ++ (map (λ (n : ℕ). record { from = p; also = metPlace k p c s σ; to = k .statementPlace c n }) (nexts s σ)
+    ++ (map (λ (n : ℕ). record { from = p; also = metPlace k mode p c s σ; to = k .statementPlace c n }) (nexts s σ)
     ++ (listOn (view σ .gives) (λ h. map (λ (n : ℕ). plain (flowPlace k (k .handlePlace c h)) (k .statementPlace c n)) (nexts s σ))
     ++ (listOn (starts (view σ)) (λ q. plain (everyPlace k) (entry t k (k .leads c s)) ∷ []) ++ when (view σ .ends) (plain p (backPlace k c) ∷ []))))
 
 -- those of all statements, and all locks to the first statement of routine 0
-unfoldable pub heldEdges : Table → Layout → List Edge
-heldEdges t k =
+unfoldable pub heldEdges : Table → Layout → Bool → List Edge
+heldEdges t k mode =
     plain (everyPlace k) (entry t k (k .first))
-    ∷ joinedFrom 0 (k .statements) (λ p. edgesAt t k p (k .statementCopy p) (k .statementAt p) (statement t (k .statementAt p)))
+    ∷ joinedFrom 0 (k .statements) (λ p. edgesAt t k mode p (k .statementCopy p) (k .statementAt p) (statement t (k .statementAt p)))
 
 -- what is left out
-unfoldable pub heldOut : Table → Layout → List ℕ → List ℕ → List ℕ
-heldOut t k flow given = least (heldEdges t k) (tabulate (placeCount k) (startAt t k flow given))
+unfoldable pub heldOut : Table → Layout → Bool → List ℕ → List ℕ → List ℕ
+heldOut t k mode flow given = least (heldEdges t k mode) (tabulate (placeCount k) (startAt t k flow given))

@@ -38,11 +38,11 @@ use Rattle.held_edges.specs.EdgePlaceLaws.{place-there, entry-there, han
 
 -- ---- how many
 
-few-at : (t : Table) (k : Layout) (p c s : ℕ) (σ : Statement) → length (edgesAt t k p c s σ) ≤ 3
+few-at : (t : Table) (k : Layout) (mode : Bool) (p c s : ℕ) (σ : Statement) → length (edgesAt t k mode p c s σ) ≤ 3
 unfolding edgesAt nexts
-few-at t k p c s σ = go (forms σ)
+few-at t k mode p c s σ = go (forms σ)
   where
-    go : Form (view σ) → length (edgesAt t k p c s σ) ≤ 3
+    go : Form (view σ) → length (edgesAt t k mode p c s σ) ≤ 3
     go (on e) = rw e (omega arith)
     go (read h e) = rw e (omega arith)
     go (written h e) = rw e (omega arith)
@@ -112,12 +112,12 @@ module _ (t : Table) (k : Layout) (acc : Accepted t) (fits : Fits t k) where
         let l : c < k .copies = v .there in
         subst There (sym (List·Memᴰ·eq-of-singleton m)) (here, here, omega arith)
 
-    edge-there : (e : Edge) → List·Memᴰ e (edgesAt t k p c s σ) → There e
+    edge-there : (mode : Bool) (e : Edge) → List·Memᴰ e (edgesAt t k mode p c s σ) → There e
     unfolding edgesAt
-    edge-there e m =
+    edge-there mode e m =
         ⊎-elim (λ y. let i = list-from (calls (view σ)) _ e y in call-there (i .0) (i .1) e (i .2))
-        (λ y. ⊎-elim (λ z. nexts-there p (metPlace k p c s σ) here (met-there t k acc fits c s v) e z) (λ z. last (List·Memᴰ·append-cases giving z))
-        (List·Memᴰ·append-cases (map (λ (n : ℕ). record { from = p; also = metPlace k p c s σ; to = k .statementPlace c n }) (nexts s σ)) y))
+        (λ y. ⊎-elim (λ z. nexts-there p (metPlace k mode p c s σ) here (met-there t k acc fits c s v mode) e z) (λ z. last (List·Memᴰ·append-cases giving z))
+        (List·Memᴰ·append-cases (map (λ (n : ℕ). record { from = p; also = metPlace k mode p c s σ; to = k .statementPlace c n }) (nexts s σ)) y))
         (List·Memᴰ·append-cases (listOn (calls (view σ))
         (λ q.
         plain p (entry t k (k .leads c s))
@@ -138,32 +138,32 @@ module _ (t : Table) (k : Layout) (acc : Accepted t) (fits : Fits t k) where
             (λ z. end-there e (when-from (view σ .ends) _ e z .1))
             (List·Memᴰ·append-cases starting y)
 
-  all-there : (e : Edge) → List·Memᴰ e (heldEdges t k) → There e
+  all-there : (mode : Bool) (e : Edge) → List·Memᴰ e (heldEdges t k mode) → There e
   unfolding heldEdges
-  all-there e (List·Memᴰ·head j) =
+  all-there mode e (List·Memᴰ·head j) =
       let l : entry t k (k .first) < k .statements = entry-there t k acc fits (k .first) (fits .first-there) in
       subst There (sym j) (omega arith, omega arith, omega arith)
-  all-there e (List·Memᴰ·tail m) =
-      let r = of-some t k fits (edgesAt t k) e m in
+  all-there mode e (List·Memᴰ·tail m) =
+      let r = of-some t k fits (edgesAt t k mode) e m in
       let i : k .statementPlace (k .statementCopy (r .0)) (k .statementAt (r .0)) ≡ r .0 = fits .statement-there (r .0) (r .1) .back in
-      edge-there (k .statementCopy (r .0)) (k .statementAt (r .0)) (place-at t k fits (r .0) (r .1)) e
-      (subst (λ (q : ℕ). List·Memᴰ e (edgesAt t k q (k .statementCopy (r .0)) (k .statementAt (r .0)) (statement t (k .statementAt (r .0))))) (sym i) (r .2))
+      edge-there (k .statementCopy (r .0)) (k .statementAt (r .0)) (place-at t k fits (r .0) (r .1)) mode e
+      (subst (λ (q : ℕ). List·Memᴰ e (edgesAt t k mode q (k .statementCopy (r .0)) (k .statementAt (r .0)) (statement t (k .statementAt (r .0))))) (sym i) (r .2))
 
 -- with one copy of each routine there is room
-held-room : (t : Table) → Accepted t → Room (3 * length (t .statements) + 1) (heldEdges t (oneEach t))
+held-room : (t : Table) (mode : Bool) → Accepted t → Room (3 * length (t .statements) + 1) (heldEdges t (oneEach t) mode)
 unfolding heldEdges oneEach
-held-room t acc = record {
+held-room t mode acc = record {
   room =
-      let l : length (joinedFrom 0 (oneEach t .statements) (λ p. edgesAt t (oneEach t) p (oneEach t .statementCopy p) (oneEach t .statementAt p) (statement t (oneEach t .statementAt p)))) ≤ 3 * length (t .statements) =
-      joined-few 0 (oneEach t .statements) _ (λ i. few-at t (oneEach t) i (oneEach t .statementCopy i) (oneEach t .statementAt i) (statement t (oneEach t .statementAt i))) in
+      let l : length (joinedFrom 0 (oneEach t .statements) (λ p. edgesAt t (oneEach t) mode p (oneEach t .statementCopy p) (oneEach t .statementAt p) (statement t (oneEach t .statementAt p)))) ≤ 3 * length (t .statements) =
+      joined-few 0 (oneEach t .statements) _ (λ i. few-at t (oneEach t) mode i (oneEach t .statementCopy i) (oneEach t .statementAt i) (statement t (oneEach t .statementAt i))) in
       omega arith;
   small = λ e m.
-      let r = all-there t (oneEach t) acc (one-each-fits t acc) e m in
+      let r = all-there t (oneEach t) acc (one-each-fits t acc) mode e m in
       let n : placeCount (oneEach t) ≤ 65536 = omega (arith, acc .statements-most, acc .routines-most, acc .handles-most) in
       record { from = omega (arith, r .0); also = omega (arith, r .1); to = omega (arith, r .2) };
 }
 
-pub held-ready : (f : List ℤ) → Accepted (tableOf f) → {ends also ends′ also′ : List ℕ} {n : ℕ} → 3 * statements f + 1 ≤ length ends → 3 * statements f + 1 ≤ length also
-    → Appended (store ends also 0) (store ends′ also′ n) (heldEdges (tableOf f) (oneEach (tableOf f))) → Ready ends′ also′ n (heldEdges (tableOf f) (oneEach (tableOf f)))
-held-ready f acc {ends} {also} l m a =
-    ready (3 * length (tableOf f .statements) + 1) (omega (arith, statements-length f)) (omega (arith, statements-length f)) a (held-room (tableOf f) acc)
+pub held-ready : (f : List ℤ) (mode : Bool) → Accepted (tableOf f) → {ends also ends′ also′ : List ℕ} {n : ℕ} → 3 * statements f + 1 ≤ length ends → 3 * statements f + 1 ≤ length also
+    → Appended (store ends also 0) (store ends′ also′ n) (heldEdges (tableOf f) (oneEach (tableOf f)) mode) → Ready ends′ also′ n (heldEdges (tableOf f) (oneEach (tableOf f)) mode)
+held-ready f mode acc {ends} {also} l m a =
+    ready (3 * length (tableOf f .statements) + 1) (omega (arith, statements-length f)) (omega (arith, statements-length f)) a (held-room (tableOf f) mode acc)

@@ -17,7 +17,8 @@ use Rattle.table.specs.Table.{Table, tableOf, routine, statement, statementIn, 
 use Rattle.table.specs.Extents.{firstStatements}
 use Rattle.table.specs.ExtentLaws as L
 use Rattle.table.specs.LookupLaws.{handles-length, routines-length, statements-length, routine-says, in-routine, routine-in}
-use Rattle.table.specs.View.{view}
+use Rattle.table.specs.View.{view, inMode}
+use Rattle.table.specs.ViewLaws.{taken-takes}
 use Rattle.table.specs.Accepted.{Accepted}
 use Rattle.table.specs.declared.Reference.{Reference}
 use Rattle.table.specs.declared.Reference.the-variants.{To, Nothing}
@@ -50,28 +51,28 @@ module _ (f : List ℤ) (first : List ℕ) (acc : Accepted (tableOf f)) (first-i
       L.first-at f (omega (arith, acc .routines-most, routines-length f)) first q first-is (omega arith) ∙ sym (routine-says f q k .first)
 
   module _ (c s : ℕ) (l : c < length (t .routines)) (i : InRoutine t c s) where
-    pub fit : Fit (view (statement t s))
-    fit =
+    pub fit : (mode : Bool) → Fit (inMode mode (view (statement t s)))
+    fit mode =
         let o = acc .operands c s l i in
         record {
           names = λ q e. omega (arith, o .passes q e .there, acc .routines-most);
-          takes = λ h e. omega (arith, o .takes h e .own .there, acc .handles-most);
+          takes = λ h e. omega (arith, o .takes h (taken-takes mode (view (statement t s)) e) .own .there, acc .handles-most);
           gives = λ h e. omega (arith, o .gives h e .own .there, acc .handles-most);
         }
 
-    edges-of : viewEdges (basesOf f) first s c (view (statement t s)) ≡ edgesAt t (oneEach t) s c s (statement t s)
+    edges-of : (mode : Bool) → viewEdges (basesOf f) first s c (inMode mode (view (statement t s))) ≡ edgesAt t (oneEach t) mode s c s (statement t s)
     unfolding viewEdges edgesAt metPlace nexts entry named oneEach
-    edges-of = go (view (statement t s) .names) refl (view (statement t s) .starting) refl
+    edges-of mode = go (view (statement t s) .names) refl (view (statement t s) .starting) refl
       where
         go : (r : Reference) → view (statement t s) .names ≡ r → (b : Bool) → view (statement t s) .starting ≡ b
-            → viewEdges (basesOf f) first s c (view (statement t s)) ≡ edgesAt t (oneEach t) s c s (statement t s)
+            → viewEdges (basesOf f) first s c (inMode mode (view (statement t s))) ≡ edgesAt t (oneEach t) mode s c s (statement t s)
         go (To q) e true j = rw (e, j, handles-length f, routines-length f, statements-length f, first-of q (acc .operands c s l i .passes q e .there))
         go (To q) e false j = rw (e, j, handles-length f, routines-length f, statements-length f, first-of q (acc .operands c s l i .passes q e .there))
         go Nothing e true j = rw (e, j, handles-length f, routines-length f, statements-length f)
         go Nothing e false j = rw (e, j, handles-length f, routines-length f, statements-length f)
 
-    pub edges-are : viewEdges (basesOf f) first s c (view (statement t s)) ≡ partOf f s
-    edges-are = edges-of ∙ ap {B = List Edge} (λ (d : ℕ). edgesAt t (oneEach t) s d s (statement t s)) (sym (copy-is t acc c s l i))
+    pub edges-are : (mode : Bool) → viewEdges (basesOf f) first s c (inMode mode (view (statement t s))) ≡ partOf mode f s
+    edges-are mode = edges-of mode ∙ ap {B = List Edge} (λ (d : ℕ). edgesAt t (oneEach t) mode s d s (statement t s)) (sym (copy-is t acc c s l i))
 
   -- ---- the routines in order
 
@@ -133,22 +134,23 @@ module _ (f : List ℤ) (first : List ℕ) (acc : Accepted (tableOf f)) (first-i
     pub small-here : s < 512
     small-here = omega (arith, statement-there, acc .statements-most)
 
-    pub fits-here : {b : Bases} {v : View} → b ≡ basesOf f → v ≡ view (statementIn f (base + s) (field f (base + s) 1)) → (s < 512) × (c < 32) × Low b × Fit v
-    fits-here {b} {v} e i =
-        (small-here, omega (arith, there, acc .routines-most), subst Low (sym e) low-bases, subst Fit (sym (i ∙ view-here)) (fit c s there inside))
+    pub fits-here : (mode : Bool) {b : Bases} {v : View} → b ≡ basesOf f → v ≡ inMode mode (view (statementIn f (base + s) (field f (base + s) 1))) → (s < 512) × (c < 32) × Low b × Fit v
+    fits-here mode {b} {v} e i =
+        (small-here, omega (arith, there, acc .routines-most), subst Low (sym e) low-bases, subst Fit (sym (i ∙ ap (inMode mode) view-here)) (fit c s there inside mode))
 
-    pub part-here : {b : Bases} {v : View} → b ≡ basesOf f → v ≡ view (statementIn f (base + s) (field f (base + s) 1)) → viewEdges b first s c v ≡ partOf f s
-    part-here {b} {v} e i =
-        ap {B = List Edge} (λ (x : Bases). viewEdges x first s c v) e ∙ ap {B = List Edge} (viewEdges (basesOf f) first s c) (i ∙ view-here) ∙ edges-are c s there inside
+    pub part-here : (mode : Bool) {b : Bases} {v : View} → b ≡ basesOf f → v ≡ inMode mode (view (statementIn f (base + s) (field f (base + s) 1)))
+        → viewEdges b first s c v ≡ partOf mode f s
+    part-here mode {b} {v} e i =
+        ap {B = List Edge} (λ (x : Bases). viewEdges x first s c v) e ∙ ap {B = List Edge} (viewEdges (basesOf f) first s c) (i ∙ ap (inMode mode) view-here) ∙ edges-are c s there inside mode
 
   -- all edges, that to routine 0 first
   main-edge : {y : ℕ} → y ≡ getD first 0 0 → edgeFrom (origin (basesOf f .every) (basesOf f .every)) y ≡ plain (everyPlace (oneEach t)) (entry t (oneEach t) (oneEach t .first))
   unfolding oneEach entry
   main-edge e = rw (e, first-of 0 (omega (arith, acc .routines-some)), handles-length f, routines-length f, statements-length f)
 
-  pub all-edges : {b : Bases} {y : ℕ} → b ≡ basesOf f → y ≡ getD first 0 0
-      → (edgeFrom (origin (b .every) (b .every)) y ∷ []) ++ joinedFrom 0 (statements f) (partOf f) ≡ heldEdges t (oneEach t)
+  pub all-edges : (mode : Bool) {b : Bases} {y : ℕ} → b ≡ basesOf f → y ≡ getD first 0 0
+      → (edgeFrom (origin (b .every) (b .every)) y ∷ []) ++ joinedFrom 0 (statements f) (partOf mode f) ≡ heldEdges t (oneEach t) mode
   unfolding heldEdges oneEach
-  all-edges {b} {y} i e =
-      ap {B = List Edge} (λ (x : Bases). edgeFrom (origin (x .every) (x .every)) y ∷ joinedFrom 0 (statements f) (partOf f)) i
-      ∙ ap₂ {C = List Edge} (λ (x : Edge) (n : ℕ). x ∷ joinedFrom 0 n (partOf f)) (main-edge e) (sym (statements-length f))
+  all-edges mode {b} {y} i e =
+      ap {B = List Edge} (λ (x : Bases). edgeFrom (origin (x .every) (x .every)) y ∷ joinedFrom 0 (statements f) (partOf mode f)) i
+      ∙ ap₂ {C = List Edge} (λ (x : Edge) (n : ℕ). x ∷ joinedFrom 0 n (partOf mode f)) (main-edge e) (sym (statements-length f))

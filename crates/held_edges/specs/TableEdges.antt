@@ -1,5 +1,6 @@
 -- Where places begin and the edges of a statement, from a table's numbers: one copy of each routine. Assumes nothing.
 use Prim.Native.Nat.{ℕ, _+_}
+use mathlib.Core.Bool.{Bool}
 use mathlib.Core.List.{List}
 use lib.IntN.{ℤ}
 use Rattle.sets.specs.Least.{Edge}
@@ -21,5 +22,5 @@ basesOf f =
     }
 
 -- the edges of statement s of a table
-abbrev pub partOf : List ℤ → ℕ → List Edge
-partOf f s = edgesAt (tableOf f) (oneEach (tableOf f)) s (oneEach (tableOf f) .statementCopy s) s (statement (tableOf f) s)
+abbrev pub partOf : Bool → List ℤ → ℕ → List Edge
+partOf mode f s = edgesAt (tableOf f) (oneEach (tableOf f)) mode s (oneEach (tableOf f) .statementCopy s) s (statement (tableOf f) s)

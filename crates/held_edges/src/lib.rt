@@ -1,4 +1,5 @@
-// The edges of all statements of a table, along which what is left out of the held sets goes: those of each routine after those of the one before.
+// The edges of all statements of a table, along which what is left out of the held sets goes: those of each routine after those of the one before. The held
+// sets are those of locks held for writing, or those held in either way.
 ghost use mathlib.Core.Path.{_≡_};
 ghost use Prim.Native.Nat.{_+_, _*_, _≤_, _<_};
 ghost use lib.ListN.{length, getD};
@@ -39,11 +40,12 @@ fn append_routine(
     numbers: &[i32],
     first: &[usize],
     c: usize,
+    writing: bool,
 ) -> usize
     requires { ⌜ Accepted (tableOf (now numbers)) ⌝ }
     requires { ⌜ now first ≡ firstStatements (now numbers) ⌝ }
     requires { ⌜ c < routines (now numbers) ⌝ }
-    ensures { λ r. ⌜ Going (partOf (now (numbers .entry))) (store (now (edges .entry)) (now (also .entry)) n) (getD (now (first .entry)) c 0) (store (now (edges .exit)) (now (also .exit)) r) (getD (now (first .entry)) (c + 1) 0) ⌝ }
+    ensures { λ r. ⌜ Going (partOf writing (now (numbers .entry))) (store (now (edges .entry)) (now (also .entry)) n) (getD (now (first .entry)) c 0) (store (now (edges .exit)) (now (also .exit)) r) (getD (now (first .entry)) (c + 1) 0) ⌝ }
 {
     let bases = bases_of(numbers);
     let base = table::first_line(numbers);
@@ -51,7 +53,7 @@ fn append_routine(
     let mut s = lists::number_at(first, c);
     let mut m = n;
     while s < end {
-        let view = attributes::view_at(numbers, base + s);
+        let view = attributes::view_at(numbers, base + s, writing);
         m = lock_edges::append_statement(edges, also, m, bases, first, view, s, c);
         s += 1;
     }
@@ -65,27 +67,34 @@ fn append_routines(
     n: usize,
     numbers: &[i32],
     first: &[usize],
+    writing: bool,
 ) -> usize
     requires { ⌜ Accepted (tableOf (now numbers)) ⌝ }
     requires { ⌜ now first ≡ firstStatements (now numbers) ⌝ }
-    ensures { λ r. ⌜ Appended (store (now (edges .entry)) (now (also .entry)) n) (store (now (edges .exit)) (now (also .exit)) r) (joinedFrom 0 (statements (now (numbers .entry))) (partOf (now (numbers .entry)))) ⌝ }
+    ensures { λ r. ⌜ Appended (store (now (edges .entry)) (now (also .entry)) n) (store (now (edges .exit)) (now (also .exit)) r) (joinedFrom 0 (statements (now (numbers .entry))) (partOf writing (now (numbers .entry)))) ⌝ }
 {
     let count = table::field_of(numbers, 0, 4);
     let mut m = n;
     let mut c = 0;
     while c < count {
-        m = append_routine(edges, also, m, numbers, first, c);
+        m = append_routine(edges, also, m, numbers, first, c, writing);
         c += 1;
     }
     m
 }
 
-// Fills the lists with the edges of a table, from the front on, and returns how many there are. Three places a statement and one more are room enough.
-pub fn fill(numbers: &[i32], first: &[usize], edges: &mut [u32], also: &mut [u16]) -> usize
+// Fills the lists with the edges of a table, for locks held for writing or in either way, from the front on, and returns how many there are. Three places a statement and one more are room enough.
+pub fn fill(
+    numbers: &[i32],
+    first: &[usize],
+    writing: bool,
+    edges: &mut [u32],
+    also: &mut [u16],
+) -> usize
     requires { ⌜ Accepted (tableOf (now numbers)) ⌝ }
     requires { ⌜ now first ≡ firstStatements (now numbers) ⌝ }
     requires { ⌜ (3 * statements (now numbers) + 1 ≤ length (now edges)) × (3 * statements (now numbers) + 1 ≤ length (now also)) ⌝ }
-    ensures { λ r. ⌜ Ready (now (edges .exit)) (now (also .exit)) r (heldEdges (tableOf (now (numbers .entry))) (oneEach (tableOf (now (numbers .entry))))) ⌝ }
+    ensures { λ r. ⌜ Ready (now (edges .exit)) (now (also .exit)) r (heldEdges (tableOf (now (numbers .entry))) (oneEach (tableOf (now (numbers .entry)))) writing) ⌝ }
 {
     let bases = bases_of(numbers);
     let all = Origin {
@@ -93,5 +102,5 @@ pub fn fill(numbers: &[i32], first: &[usize], edges: &mut [u32], also: &mut [u16
         also: bases.every,
     };
     let n = lock_edges::append(edges, also, 0, all, lists::number_at(first, 0));
-    append_routines(edges, also, n, numbers, first)
+    append_routines(edges, also, n, numbers, first, writing)
 }

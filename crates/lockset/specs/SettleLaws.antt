@@ -1,5 +1,6 @@
 -- Sets filled in, and turned round. Assumes nothing.
 use mathlib.Core.Path.{_≡_, refl, sym, ap, ap₂, _∙_, subst}
+use mathlib.Core.Bool.{Bool}
 use mathlib.Core.List.{List, [], _∷_, _++_}
 use Prim.Native.Nat.{ℕ, _+_, _-_, _^_, _≤_, _<_}
 use native.Mathlib.Nat.{le-refl}
@@ -80,7 +81,7 @@ take-front (a ∷ x) y = ap (λ (l : List ℕ). a ∷ l) (take-front x y)
 
 -- ---- the whole
 
-module _ (f : List ℤ) (acc : Accepted (tableOf f)) (flow : List ℕ) (below : (i : ℕ) → getD flow i 0 < 2 ^ 64)
+module _ (f : List ℤ) (acc : Accepted (tableOf f)) (mode : Bool) (flow : List ℕ) (below : (i : ℕ) → getD flow i 0 < 2 ^ 64)
     (given : List ℕ) (given-below : (i : ℕ) → getD given i 0 < 2 ^ 64) where
   abbrev t : Table
   t = tableOf f
@@ -104,8 +105,8 @@ module _ (f : List ℤ) (acc : Accepted (tableOf f)) (flow : List ℕ) (below : 
 
   -- what the solver leaves
   pub out-is : {out₀ out₁ out₂ ends also : List ℕ} {n all : ℕ} {b : Bases} → out₀ ≡ replicate (basesOf f .every + 1) 0 → b ≡ basesOf f → all ≡ allLocks t
-      → out₁ ≡ tabulate (length out₀) (startIn flow given b all) → Ready ends also n (heldEdges t (oneEach t))
-      → out₂ ≡ least (edgesOf (take n ends) (take n also)) out₁ → out₂ ≡ heldOut t (oneEach t) flow given
+      → out₁ ≡ tabulate (length out₀) (startIn flow given b all) → Ready ends also n (heldEdges t (oneEach t) mode)
+      → out₂ ≡ least (edgesOf (take n ends) (take n also)) out₁ → out₂ ≡ heldOut t (oneEach t) mode flow given
   unfolding heldOut
   out-is {out₀} {out₁} {out₂} {ends} {also} {n} {all} {b} z e i o r l =
       l ∙ ap₂ (λ (es : List Edge) (s : List ℕ). least es s) (r .is)
@@ -113,29 +114,29 @@ module _ (f : List ℤ) (acc : Accepted (tableOf f)) (flow : List ℕ) (below : 
       (ap₂ (λ (c : Bases) (y : ℕ). startIn flow given c y) e i) ∙ start-is)
 
   -- and what is left when its first places are turned round
-  held-is : {out turned : List ℕ} {all m : ℕ} → out ≡ heldOut t (oneEach t) flow given → all ≡ allLocks t → m ≡ statements f → m ≤ length out
-      → turned ≡ tabulate (length (take m out)) (leaving all (take m out)) → turned ≡ heldSets t (oneEach t) flow given
+  held-is : {out turned : List ℕ} {all m : ℕ} → out ≡ heldOut t (oneEach t) mode flow given → all ≡ allLocks t → m ≡ statements f → m ≤ length out
+      → turned ≡ tabulate (length (take m out)) (leaving all (take m out)) → turned ≡ heldSets t (oneEach t) mode flow given
   unfolding leaving oneEach
   held-is {out} {turned} {all} {m} o i e l y =
       y
-      ∙ is-tabulate (length (t .statements)) (leaving (allLocks t) (heldOut t (oneEach t) flow given)) _ 0
+      ∙ is-tabulate (length (t .statements)) (leaving (allLocks t) (heldOut t (oneEach t) mode flow given)) _ 0
       (length-tabulate (length (take m out)) _ ∙ long)
       (λ p h.
       getD-tabulate (length (take m out)) _ p 0 (omega (arith, long))
       ∙ ap₂ minus i (getD-take m out p 0 (omega (arith, statements-length f)) ∙ ap (λ (r : List ℕ). getD r p 0) o))
-      ∙ sym (held-is-left t (oneEach t) acc (one-each-fits t acc) flow below given given-below)
+      ∙ sym (held-is-left t (oneEach t) acc (one-each-fits t acc) mode flow below given given-below)
     where
       long : length (take m out) ≡ length (t .statements)
       long = length-take-le m out l ∙ e ∙ sym (statements-length f)
 
-  pub out-long : {out : List ℕ} {m : ℕ} → out ≡ heldOut t (oneEach t) flow given → m ≡ statements f → m ≤ length out
+  pub out-long : {out : List ℕ} {m : ℕ} → out ≡ heldOut t (oneEach t) mode flow given → m ≡ statements f → m ≤ length out
   unfolding oneEach
   out-long o e =
-      let l = ap length o ∙ out-length t (oneEach t) acc (one-each-fits t acc) flow below given given-below in
+      let l = ap length o ∙ out-length t (oneEach t) acc (one-each-fits t acc) mode flow below given given-below in
       omega (arith, l, statements-length f)
 
-  pub held-front : {out turned : List ℕ} (rest : List ℕ) {all m : ℕ} → out ≡ heldOut t (oneEach t) flow given → all ≡ allLocks t → m ≡ statements f
-      → turned ≡ tabulate (length (take m out)) (leaving all (take m out)) → take (statements f) (turned ++ rest) ≡ heldSets t (oneEach t) flow given
+  pub held-front : {out turned : List ℕ} (rest : List ℕ) {all m : ℕ} → out ≡ heldOut t (oneEach t) mode flow given → all ≡ allLocks t → m ≡ statements f
+      → turned ≡ tabulate (length (take m out)) (leaving all (take m out)) → take (statements f) (turned ++ rest) ≡ heldSets t (oneEach t) mode flow given
   held-front {out} {turned} rest {all} {m} o i e y =
       let long : length turned ≡ m = ap length y ∙ length-tabulate (length (take m out)) _ ∙ length-take-le m out (out-long o e) in
       ap (λ (n : ℕ). take n (turned ++ rest)) (sym (long ∙ e)) ∙ take-front turned rest ∙ held-is o i e (out-long o e) y

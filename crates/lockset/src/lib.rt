@@ -1,4 +1,4 @@
-// The held sets of a table: all locks but what is left out of them, which the solver finds.
+// The held sets of a table, of locks held for writing or in either way: all locks but what is left out of them, which the solver finds.
 ghost use mathlib.Core.Path.{_≡_};
 ghost use Prim.Native.Nat.{_+_, _*_, _≤_};
 ghost use lib.ListN.{length, replicate, take};
@@ -80,13 +80,15 @@ pub fn places_of(numbers: &[i32]) -> usize
     table::field_of(numbers, 0, 5) + routines + routines + handles + handles + 1
 }
 
-// Leaves in the first places of `out`, a list of empty sets, the held sets of a table, from its flow sets and the locks that each routine may give up.
+// Leaves in the first places of `out`, a list of empty sets, the held sets of a table, of locks held for writing or in either way, from its flow sets and the
+// locks that each routine may give up.
 // `first` has the first statement of each routine; `edges` and `also` lend the room for edges.
 pub fn held_sets(
     numbers: &[i32],
     first: &[usize],
     flow: &[u64],
     given: &[u64],
+    writing: bool,
     edges: &mut [u32],
     also: &mut [u16],
     out: &mut [u64],
@@ -95,12 +97,12 @@ pub fn held_sets(
     requires { ⌜ now first ≡ firstStatements (now numbers) ⌝ }
     requires { ⌜ (3 * statements (now numbers) + 1 ≤ length (now edges)) × (3 * statements (now numbers) + 1 ≤ length (now also)) ⌝ }
     requires { ⌜ now out ≡ replicate (basesOf (now numbers) .every + 1) 0 ⌝ }
-    ensures { λ _. ⌜ take (statements (now (numbers .entry))) (now (out .exit)) ≡ heldSets (tableOf (now (numbers .entry))) (oneEach (tableOf (now (numbers .entry)))) (now (flow .entry)) (now (given .entry)) ⌝ }
+    ensures { λ _. ⌜ take (statements (now (numbers .entry))) (now (out .exit)) ≡ heldSets (tableOf (now (numbers .entry))) (oneEach (tableOf (now (numbers .entry)))) writing (now (flow .entry)) (now (given .entry)) ⌝ }
 {
     let bases = held_edges::bases_of(numbers);
     let all = sets::firsts(table::field_of(numbers, 0, 2));
     fill_start(flow, given, bases, all, out);
-    let n = held_edges::fill(numbers, first, edges, also);
+    let n = held_edges::fill(numbers, first, writing, edges, also);
     settle(out, edges, also, n);
     turn_round(&mut out[..bases.back], all);
 }

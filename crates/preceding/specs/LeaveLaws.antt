@@ -21,7 +21,7 @@ use Rattle.report.specs.Layout.{ownerOf, oneEach}
 use Rattle.report.specs.Held.{allLocks}
 use Rattle.report.specs.Preceded.{isMarked, reachSets, precededSets, entered, isPreceded}
 use Rattle.edges.specs.RoutineLaws.{Near, near-start, copy-of}
-use Rattle.preceding.specs.FrontLaws.{part-long, put-first}
+use Rattle.table.specs.FrontLaws.{part-long, put-first}
 
 -- what statement s of a table has, where `sets` says what a START can precede
 abbrev pub countedAt : Table → List ℕ → List ℕ → ℕ → ℕ

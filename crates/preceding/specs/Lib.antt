@@ -1,4 +1,3 @@
 pub mod MarkedLaws
 pub mod AnswerLaws
-pub mod FrontLaws
 pub mod LeaveLaws

@@ -5,6 +5,7 @@ use mathlib.Core.List.{List}
 use lib.ListN.{getD, length}
 use Rattle.sets.specs.Set.{has, union, inter, subset, isEmpty, isSingle}
 use Rattle.table.specs.Table.{Table, statement}
+use Rattle.table.specs.Tabulate.{tabulate}
 use Rattle.table.specs.View.{view, setOn, testOn, onOr, starts}
 use Rattle.table.specs.declared.Statement.{Statement}
 use Rattle.report.specs.Over.{unionFrom, interFrom, countFrom, unionAt}
@@ -84,13 +85,17 @@ unfoldable pub countedAt : Table → Layout → Sets → ℕ → ℕ → Bool
 countedAt t k a x p = touchesAt t k a x p && isPreceded k (a .preceded) p
 
 -- what an access at a place has to hold, as C-18 has it: "surely held for writing at each counted WRITE and surely held either way at each counted READ"
-unfoldable pub heldAt : Table → Layout → Sets → ℕ → ℕ
-heldAt t k a p = onOr (view (statement t (k .statementAt p)) .writes) (λ h. getD (a .heldToWrite) p 0) (getD (a .held) p 0)
+unfoldable pub ownHeld : Table → Layout → Sets → ℕ → ℕ
+ownHeld t k a p = onOr (view (statement t (k .statementAt p)) .writes) (λ h. getD (a .heldToWrite) p 0) (getD (a .held) p 0)
+
+-- so at each place
+unfoldable pub ownHolds : Table → Layout → Sets → List ℕ
+ownHolds t k a = tabulate (k .statements) (ownHeld t k a)
 
 -- "Common locks of a cell: the intersection of the held sets of all its access statements; all locks if there are none", those that are counted
 unfoldable pub commonLocks : Table → Layout → Sets → ℕ → ℕ
 commonLocks t k a x =
-    interFrom (allLocks t) 0 (k .statements) (λ p. cond (countedAt t k a x p) (heldAt t k a p) (allLocks t))
+    interFrom (allLocks t) 0 (k .statements) (λ p. cond (countedAt t k a x p) (ownHeld t k a p) (allLocks t))
 
 -- unguarded: shared, and no lock is common
 unfoldable pub isUnguarded : ℕ → ℕ → ℕ → Bool

@@ -10,11 +10,12 @@ use borrow.Author.Tests.{eqb-true, eq-eqb, not-false}
 use Rattle.sets.specs.Set.{has, subset, isEmpty, isSingle, count}
 use Rattle.sets.specs.SetLaws.{has-beyond, below-of-has, firsts-below, subset-has, has-subset, single-is-one, has-one, lowest-some, lowest-is}
 use Rattle.table.specs.Table.{Table, statement}
-use Rattle.table.specs.View.{view, onOr}
+use Rattle.table.specs.View.{view, onOr, testOn}
 use Rattle.table.specs.ViewLaws.{nothing-to, write-alone, test-is}
 use Rattle.table.specs.Accepted.{Accepted}
 use Rattle.table.specs.declared.Reference.{Reference}
 use Rattle.table.specs.declared.Reference.the-variants.{To, Nothing}
+use Rattle.table.specs.declared.Statement.{Statement}
 use Rattle.report.specs.Over.{unionAt}
 use Rattle.report.specs.OverLaws.{never, none-in, both-true, true-both, either, either-left, either-right, not-has, inter-at, inter-inside, inter-has, unionAt-has, unionAt-from, below-within, within-below}
 use Rattle.report.specs.Layout.{Layout}
@@ -25,7 +26,7 @@ use Rattle.report.specs.FlowLaws.{flow-sets}
 use Rattle.report.specs.EffectLaws.{accessed-accesses, accesses-accessed}
 use Rattle.report.specs.Held.{allLocks}
 use Rattle.report.specs.HeldLaws.{single-only, only-single}
-use Rattle.report.specs.Findings.{Sets, setsOf, sharedCells, ownAccess, touchesAt, countedAt, heldAt, commonLocks, isUnguarded, strayBy, strayAt, isStray}
+use Rattle.report.specs.Findings.{Sets, setsOf, sharedCells, ownAccess, touchesAt, countedAt, ownHeld, commonLocks, isUnguarded, strayBy, strayAt, isStray}
 use Rattle.report.specs.Preceded.{isPreceded}
 use Rattle.report.specs.PlaceLaws.{placed, place-at, at-placed, from-placed}
 use Rattle.report.specs.ReportRules.{heldList, families}
@@ -50,6 +51,17 @@ single-has s l e =
 pub empty-has {ℓ} : {C : Type ℓ} (s i : ℕ) → isEmpty s ≡ true → has s i ≡ true → C
 unfolding isEmpty
 empty-has s i e h = none-in i (ap (λ (x : ℕ). has x i) (sym (eqb-true s 0 e)) ∙ h)
+
+-- a GIVE is no WRITE: what is held in the way of a statement's access is, at a GIVE, what is held in either way
+pub stray-own : (flow : ℕ → ℕ) (toWrite either-way : ℕ) (σ : Statement) → strayBy flow (onOr (view σ .writes) (λ h. toWrite) either-way) σ ≡ strayBy flow either-way σ
+unfolding strayBy
+stray-own flow toWrite either-way σ = go (view σ .writes) refl
+  where
+    go : (r : Reference) → view σ .writes ≡ r
+        → testOn (view σ .gives) (λ h. not (isSingle (flow h) && subset (flow h) (onOr r (λ h. toWrite) either-way)))
+        ≡ testOn (view σ .gives) (λ h. not (isSingle (flow h) && subset (flow h) either-way))
+    go (To x) e = rw (write-alone σ e .1)
+    go Nothing e = refl
 
 module _ (t : Table) (k : Layout) (acc : Accepted t) (fits : Fits t k) where
   abbrev theSets : Sets
@@ -88,8 +100,8 @@ module _ (t : Table) (k : Layout) (acc : Accepted t) (fits : Fits t k) where
 
   -- what is held at a place, in the way of an access there
   held-by-way : (p : ℕ) (w : Bool) (x : ℕ) → Accesses (copiesOf fits) (families t k .flow) (k .statementCopy p) (statement t (k .statementAt p)) w x
-      → heldAt t k theSets p ≡ getD (heldList theSets w) p 0
-  unfolding heldAt
+      → ownHeld t k theSets p ≡ getD (heldList theSets w) p 0
+  unfolding ownHeld
   held-by-way p true x (h, e, a) = rw e
   held-by-way p false x (h, e, a) = go (view (statement t (k .statementAt p)) .writes) refl
     where
@@ -104,7 +116,7 @@ module _ (t : Table) (k : Layout) (acc : Accepted t) (fits : Fits t k) where
   common-has x l a f =
       inter-has (allLocks t) 0 (k .statements) _ l a (λ p w. go p (within-below w) (countedAt t k theSets x p) refl)
     where
-      go : (p : ℕ) → p < k .statements → (b : Bool) → countedAt t k theSets x p ≡ b → has (cond b (heldAt t k theSets p) (allLocks t)) l ≡ true
+      go : (p : ℕ) → p < k .statements → (b : Bool) → countedAt t k theSets x p ≡ b → has (cond b (ownHeld t k theSets p) (allLocks t)) l ≡ true
       go p m true e =
           let b = both-true (touchesAt t k theSets x p) (isPreceded k (theSets .preceded) p) e in
           let r = touch-accesses p x (b .0) in
@@ -121,7 +133,7 @@ module _ (t : Table) (k : Layout) (acc : Accepted t) (fits : Fits t k) where
     inter-inside (allLocks t) 0 (k .statements) _ l h,
     λ c s w v a g.
         ap (λ (y : ℕ). has y l) (sym (held-by-way (k .statementPlace c s) w x (here c s w v a)))
-        ∙ ap (λ (b : Bool). has (cond b (heldAt t k theSets (k .statementPlace c s)) (allLocks t)) l) (sym (true-both (accesses-touch c s w x v a) g))
+        ∙ ap (λ (b : Bool). has (cond b (ownHeld t k theSets (k .statementPlace c s)) (allLocks t)) l) (sym (true-both (accesses-touch c s w x v a) g))
         ∙ inter-at (allLocks t) 0 (k .statements) _ (k .statementPlace c s) l (below-within (placed t k fits c s v .there)) h,
   )
     where

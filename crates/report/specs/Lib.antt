@@ -27,6 +27,7 @@ pub mod FlowLaws
 pub mod FlowPassesLaws
 pub mod EffectLaws
 pub mod HeldLaws
+pub mod ModeLaws
 pub mod FutureLaws
 pub mod PrecededLaws
 pub mod Unique

@@ -18,7 +18,7 @@ use Rattle.report.specs.Effect.{overCopy, namingEdges, callEdges, effect
 use Rattle.report.specs.Future.{nextEffects, futureEdges, futureInitials, futures}
 use Rattle.report.specs.Preceded.{reachEdges, reachSets, bringsStart, precedingEdges, precededSets}
 use Rattle.report.specs.Held.{entry, atReturns, gained, lost, heldAfter, waysFrom, allWays, heldSets}
-use Rattle.report.specs.Findings.{Sets, setsOf, sharedAt, sharedCells, ownAccess, touchesAt, countedAt, heldAt, commonLocks, strayBy, strayAt, statementAccess, accessCount, isStray}
+use Rattle.report.specs.Findings.{Sets, setsOf, sharedAt, sharedCells, ownAccess, touchesAt, countedAt, ownHeld, commonLocks, strayBy, strayAt, statementAccess, accessCount, isStray}
 use Rattle.report.specs.Report.{cellLine, cellLines, strayLines, findingLines, linesFor, reportLines, reportText}
 
 -- the tables have the same parts, and their statements, one by one, what R says of two
@@ -103,13 +103,13 @@ module _ (t u : Table) (alike : Alike t u) where
     unfolding touchesAt
     touches-by-view a x p = rw (access-by-view a reading, access-by-view a writing)
 
-    held-at-by-view : (a : Sets) (p : ℕ) → heldAt t k a p ≡ heldAt u k a p
-    unfolding heldAt
-    held-at-by-view a p = simp views-same
+    own-held-by-view : (a : Sets) (p : ℕ) → ownHeld t k a p ≡ ownHeld u k a p
+    unfolding ownHeld
+    own-held-by-view a p = simp views-same
 
     findings-by-view : (a : Sets) → cellLines t k a ++ strayLines t k a ≡ cellLines u k a ++ strayLines u k a
     unfolding cellLines cellLine accessCount statementAccess commonLocks countedAt sharedCells strayLines isStray strayAt strayBy
-    findings-by-view a = simp (views-same, cells-same, locks-same, count-same, shared-by-view, access-by-view, touches-by-view, held-at-by-view)
+    findings-by-view a = simp (views-same, cells-same, locks-same, count-same, shared-by-view, access-by-view, touches-by-view, own-held-by-view)
 
     -- the lines
     pub lines-by-view : linesFor t k ≡ linesFor u k

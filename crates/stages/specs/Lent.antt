@@ -12,7 +12,7 @@ use Rattle.held_edges.specs.TableEdges.{basesOf}
 pub record Lent (f : List ℤ) (work edges : List ℕ) : Type 0 where
   pub zeros : work ≡ replicate (length work) 0
   pub work-long : statements f + 2 * (statements f + routines f) ≤ length work
-  pub places-long : basesOf f .every + 1 ≤ length work
+  pub places-long : statements f + (basesOf f .every + 1) ≤ length work
   pub edges-long : 4 * statements f ≤ length edges
 
 -- the edges may change

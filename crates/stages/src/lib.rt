@@ -2,43 +2,18 @@
 // are found.
 ghost use mathlib.Core.Path.{_≡_};
 ghost use Prim.Native.Nat.{_+_, _*_, _≤_};
-ghost use lib.ListN.{length, replicate, take, drop};
+ghost use lib.ListN.{length, take, drop};
 ghost use Rattle.table.specs.Header.{routines, statements};
 ghost use Rattle.table.specs.Extents.{firstStatements};
 ghost use Rattle.table.specs.Table.{tableOf};
 ghost use Rattle.table.specs.Accepted.{Accepted};
 ghost use Rattle.report.specs.Layout.{oneEach};
-ghost use Rattle.report.specs.Findings.{sharedCells};
+ghost use Rattle.report.specs.Findings.{sharedCells, ownHolds};
 ghost use Rattle.report.specs.Report.{reportText};
-ghost use Rattle.held_edges.specs.TableEdges.{basesOf};
 ghost use Rattle.findings.specs.Found.{setsIn, countedHolds};
 ghost use Rattle.report_printer.specs.Printed.{bytesIn, printedOver, countsNothing};
 ghost use Rattle.stages.specs.Lent.{Lent};
 use report_printer::Printed;
-
-// Leaves in the first places of `out` what is held at each statement.
-fn find_held(numbers: &[i32], first: &[usize], flow: &[u64], out: &mut [u64], edges: &mut [u32])
-    requires { ⌜ Accepted (tableOf (now numbers)) ⌝ }
-    requires { ⌜ now first ≡ firstStatements (now numbers) ⌝ }
-    requires { ⌜ now flow ≡ setsIn (tableOf (now numbers)) .flow ⌝ }
-    requires { ⌜ now out ≡ replicate (basesOf (now numbers) .every + 1) 0 ⌝ }
-    requires { ⌜ 4 * statements (now numbers) ≤ length (now edges) ⌝ }
-    ensures { λ _. ⌜ take (statements (now (numbers .entry))) (now (out .exit)) ≡ setsIn (tableOf (now (numbers .entry))) .held ⌝ }
-{
-    let routines = table::field_of(numbers, 0, 4);
-    let mut given = [0u64; 32];
-    dataflow::given_sets(numbers, first, flow, edges, &mut given[..routines]);
-    let mut also = [0u16; 1537];
-    lockset::held_sets(
-        numbers,
-        first,
-        flow,
-        &given[..routines],
-        edges,
-        &mut also[..],
-        out,
-    );
-}
 
 // The shared cells, from the effects; `later` lends the room for the futures.
 fn shared_from(
@@ -125,7 +100,7 @@ fn shared_of(
 fn print_found(numbers: &[i32], flow: &[u64], work: &[u64], shared: u64, out: &mut [u8]) -> Printed
     requires { ⌜ Accepted (tableOf (now numbers)) ⌝ }
     requires { ⌜ now flow ≡ setsIn (tableOf (now numbers)) .flow ⌝ }
-    requires { ⌜ take (statements (now numbers)) (now work) ≡ setsIn (tableOf (now numbers)) .held ⌝ }
+    requires { ⌜ take (statements (now numbers)) (now work) ≡ ownHolds (tableOf (now numbers)) (oneEach (tableOf (now numbers))) (setsIn (tableOf (now numbers))) ⌝ }
     requires { ⌜ take (statements (now numbers)) (drop (statements (now numbers)) (now work)) ≡ countedHolds (tableOf (now numbers)) ⌝ }
     requires { ⌜ statements (now numbers) + statements (now numbers) ≤ length (now work) ⌝ }
     requires { ⌜ shared ≡ sharedCells (tableOf (now numbers)) (oneEach (tableOf (now numbers))) (setsIn (tableOf (now numbers))) ⌝ }
@@ -154,7 +129,7 @@ fn with_shared(
     requires { ⌜ Accepted (tableOf (now numbers)) ⌝ }
     requires { ⌜ now first ≡ firstStatements (now numbers) ⌝ }
     requires { ⌜ now flow ≡ setsIn (tableOf (now numbers)) .flow ⌝ }
-    requires { ⌜ take (statements (now numbers)) (now work) ≡ setsIn (tableOf (now numbers)) .held ⌝ }
+    requires { ⌜ take (statements (now numbers)) (now work) ≡ ownHolds (tableOf (now numbers)) (oneEach (tableOf (now numbers))) (setsIn (tableOf (now numbers))) ⌝ }
     requires { ⌜ shared ≡ sharedCells (tableOf (now numbers)) (oneEach (tableOf (now numbers))) (setsIn (tableOf (now numbers))) ⌝ }
     requires { ⌜ statements (now numbers) + (statements (now numbers) + routines (now numbers) + 1) ≤ length (now work) ⌝ }
     requires { ⌜ 4 * statements (now numbers) ≤ length (now edges) ⌝ }
@@ -179,7 +154,7 @@ fn with_held(
     requires { ⌜ Accepted (tableOf (now numbers)) ⌝ }
     requires { ⌜ now first ≡ firstStatements (now numbers) ⌝ }
     requires { ⌜ now flow ≡ setsIn (tableOf (now numbers)) .flow ⌝ }
-    requires { ⌜ take (statements (now numbers)) (now work) ≡ setsIn (tableOf (now numbers)) .held ⌝ }
+    requires { ⌜ take (statements (now numbers)) (now work) ≡ ownHolds (tableOf (now numbers)) (oneEach (tableOf (now numbers))) (setsIn (tableOf (now numbers))) ⌝ }
     requires { ⌜ statements (now numbers) + 2 * (statements (now numbers) + routines (now numbers)) ≤ length (now work) ⌝ }
     requires { ⌜ 4 * statements (now numbers) ≤ length (now edges) ⌝ }
     ensures bytes { λ r. ⌜ r .bytes ≡ bytesIn (reportText (tableOf (now (numbers .entry)))) (length (now (out .entry))) ⌝ }
@@ -208,8 +183,7 @@ fn with_flow(
     ensures buffer { λ _. ⌜ now (out .exit) ≡ printedOver (reportText (tableOf (now (numbers .entry)))) (now (out .entry)) ⌝ }
 {
     let first = declarations::first_statements(numbers);
-    let places = lockset::places_of(numbers);
-    find_held(numbers, &first[..], flow, &mut work[..places], edges);
+    own_holds::own_holds(numbers, &first[..], flow, edges, work);
     with_held(numbers, &first[..], flow, work, edges, out)
 }
 

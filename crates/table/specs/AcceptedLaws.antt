@@ -193,3 +193,11 @@ module _ (f : List ℤ) (p : Passed f) where
 -- what "accepted" gives
 pub accepted : (text : List ℕ) → verdict text ≡ Declared.Verdict.Accepted → Accepted (tableOf (numbersOf text))
 accepted text e = passed-accepted (numbersOf text) (text-passed text e)
+
+-- how many handles and routines the numbers of such a table have
+module _ (f : List ℤ) (acc : Accepted (tableOf f)) where
+  pub handles-few : handles f ≤ 128
+  handles-few = let h : length (tableOf f .handles) ≤ 128 = acc .handles-most in omega (arith, handles-length f)
+
+  pub routines-few : routines f ≤ 32
+  routines-few = let h : length (tableOf f .routines) ≤ 32 = acc .routines-most in omega (arith, routines-length f)

@@ -1,6 +1,7 @@
 pub mod Tabulate
 pub mod TabulateLaws
 pub mod CutLaws
+pub mod FrontLaws
 pub mod Until
 pub mod UntilLaws
 pub mod Fields

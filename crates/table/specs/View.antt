@@ -2,7 +2,7 @@
 -- definitions are lines over an attribute. Assumes nothing.
 use Prim.Native.Nat.{ℕ}
 use mathlib.Core.Path.{_≡_}
-use mathlib.Core.Bool.{Bool, true, false, cond}
+use mathlib.Core.Bool.{Bool, true, false, cond, not}
 use mathlib.Core.List.{List, []}
 use Rattle.table.specs.declared.Arguments.{Arguments}
 use Rattle.table.specs.declared.Reference.{Reference}
@@ -153,6 +153,32 @@ starts v = cond (v .starting) (v .names) Nothing
 -- the handle whose lock it takes: for writing (true), or in either way (false)
 abbrev pub takesIn : Bool → View → Reference
 takesIn w v = cond w (cond (v .writing) (v .takes) Nothing) (v .takes)
+
+-- it takes a lock, and not for writing
+abbrev pub takesToRead : View → Bool
+takesToRead v = testOn (v .takes) (λ h. not (v .writing))
+
+-- the view with what it takes in other words, and as it is where only locks taken for writing count, or all
+abbrev pub taking : View → Reference → View
+taking v takes =
+    record {
+      onward = v .onward;
+      ends = v .ends;
+      target = v .target;
+      reads = v .reads;
+      writes = v .writes;
+      takes = takes;
+      writing = v .writing;
+      gives = v .gives;
+      points = v .points;
+      source = v .source;
+      names = v .names;
+      starting = v .starting;
+      arguments = v .arguments;
+    }
+
+abbrev pub inMode : Bool → View → View
+inMode w v = taking v (takesIn w v)
 
 -- the handle whose cell it reads (false) or writes (true)
 abbrev pub accesses : Bool → View → Reference

@@ -12,7 +12,7 @@ use Rattle.sets.specs.Set.{has}
 use Rattle.sets.specs.SetLaws.{has-empty}
 use Rattle.table.specs.Fields.{field}
 use Rattle.table.specs.Table.{argumentsIn, statementIn}
-use Rattle.table.specs.View.{noArguments, view, On, onOr, setOn, listOn, testOn, when, calls, starts, takesIn, idle, through, pointing, naming, going}
+use Rattle.table.specs.View.{noArguments, view, On, onOr, setOn, listOn, testOn, when, calls, starts, takesIn, takesToRead, taking, inMode, idle, through, pointing, naming, going}
 use Rattle.table.specs.declared.Arguments.{Arguments}
 use Rattle.table.specs.declared.Reference.{Reference}
 use Rattle.table.specs.declared.Reference.the-variants.{To, Nothing}
@@ -264,6 +264,31 @@ view-in f line (suc (suc (suc (suc (suc (suc (suc (suc (suc (suc (suc (suc (suc 
       ne-eqb op 11 (omega arith),
       ne-eqb op 13 (omega arith),
     )
+
+-- what is taken in a mode, by the number of the operation: TAKER takes for reading
+pub view-in-mode : (f : List ℤ) (line op : ℕ) (mode : Bool)
+    → inMode mode (view (statementIn f line op)) ≡ taking (viewIn f line op) (firstIf f line (eqb op 5 || (eqb op 13 && not mode)))
+view-in-mode f line op mode = ap (inMode mode) (view-in f line op) ∙ ap (taking (viewIn f line op)) (by mode (eqb op 5) (eqb op 13))
+  where
+    by : (m a b : Bool) → cond m (cond a (firstIf f line (a || b)) Nothing) (firstIf f line (a || b)) ≡ firstIf f line (a || (b && not m))
+    by true true b = refl
+    by true false true = refl
+    by true false false = refl
+    by false true b = refl
+    by false false true = refl
+    by false false false = refl
+
+-- TAKER by its number
+pub takes-to-read-in : (f : List ℤ) (line op : ℕ) → takesToRead (view (statementIn f line op)) ≡ eqb op 13
+takes-to-read-in f line op = ap takesToRead (view-in f line op) ∙ go (eqb op 5) refl
+  where
+    by : (b : Bool) → testOn (firstIf f line (false || b)) (λ h. not false) ≡ b
+    by true = refl
+    by false = refl
+
+    go : (a : Bool) → eqb op 5 ≡ a → testOn (firstIf f line (a || eqb op 13)) (λ h. not a) ≡ eqb op 13
+    go true e = let u : op ≡ 5 = eqb-true op 5 e in rw u
+    go false e = by (eqb op 13)
 
 -- CALL and START by their numbers
 pub calls-in : (f : List ℤ) (line op : ℕ) → calls (view (statementIn f line op)) ≡ firstIf f line (eqb op 8)

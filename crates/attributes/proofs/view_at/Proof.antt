@@ -1,6 +1,6 @@
 -- `attributes::view_at` meets its contract. Assumes nothing.
 use mathlib.Core.Path.{sym}
-use Rattle.table.specs.ViewLaws.{view-in}
+use Rattle.table.specs.ViewLaws.{view-in-mode}
 use borrow.Author.Needs.{needs}
 use Rattle.attributes.proofs.view_at.Statement.{statement}
 use Rattle.attributes.proofs.view_at.Tie as tie
@@ -36,7 +36,7 @@ arguments-if-requires : tie.Need-arguments-if-requires
 arguments-if-requires c κs = search needs
 
 returns : tie.Need-returns
-returns c = rw (c .before .before .before .before .before .before .before .before .first-if .ensures, c .before .before .before .before .before .before .before .first-if2 .ensures, c .before .before .before .before .before .before .first-if3 .ensures, c .before .before .before .before .before .first-if4 .ensures, c .before .before .before .before .first-if5 .ensures, c .before .before .before .first-if6 .ensures, c .before .before .second-if .ensures, c .before .first-if7 .ensures, c .arguments-if .ensures, c .before .before .before .before .before .before .before .before .before .field-of .ensures .0) (sym (view-in _ _ _))
+returns c = rw (c .before .before .before .before .before .before .before .before .first-if .ensures, c .before .before .before .before .before .before .before .first-if2 .ensures, c .before .before .before .before .before .before .first-if3 .ensures, c .before .before .before .before .before .first-if4 .ensures, c .before .before .before .before .first-if5 .ensures, c .before .before .before .first-if6 .ensures, c .before .before .second-if .ensures, c .before .first-if7 .ensures, c .arguments-if .ensures, c .before .before .before .before .before .before .before .before .before .field-of .ensures .0) (sym (view-in-mode _ _ _ (c .before .before .before .before .before .before .before .before .before .before .args .writing)))
 
 pub view-at-spec : {M : Type 1} → statement M
 view-at-spec =

@@ -13,10 +13,10 @@ use Rattle.held_edges.proofs.append_routine.Statement.{statement}
 use Rattle.held_edges.proofs.append_routine.Tie as tie
 
 abbrev Inv-loop : tie.InvT-loop
-Inv-loop edges₀ also₀ n numbers first c bases base end s₀ m₀ edges also s m = (getD first c 0 ≤ s) × (s ≤ end) × Going (partOf numbers) (store edges₀ also₀ m₀) (getD first c 0) (store edges also m) s
+Inv-loop edges₀ also₀ n numbers first c writing bases base end s₀ m₀ edges also s m = (getD first c 0 ≤ s) × (s ≤ end) × Going (partOf writing numbers) (store edges₀ also₀ m₀) (getD first c 0) (store edges also m) s
 
 abbrev μ-loop : tie.MeasureT-loop
-μ-loop edges₀ also₀ n numbers first c bases base end s₀ m₀ edges also s m = end - s
+μ-loop edges₀ also₀ n numbers first c writing bases base end s₀ m₀ edges also s m = end - s
 
 bases-of-requires : tie.Need-bases-of-requires Inv-loop μ-loop
 bases-of-requires c κs = search needs
@@ -43,7 +43,7 @@ view-at-requires : tie.Need-view-at-requires Inv-loop μ-loop
 view-at-requires c κs = search needs
 
 append-statement-requires : tie.Need-append-statement-requires Inv-loop μ-loop
-append-statement-requires c κs = fits-here (c .before .before .before .before .before .before .before .before .before .before .before .before .args .numbers .now) (c .before .before .before .before .before .before .before .before .before .before .before .before .args .first .now) (c .before .before .before .before .before .before .before .before .before .before .before .before .pre .0) (c .before .before .before .before .before .before .before .before .before .before .before .before .pre .1 .0) (c .before .before .before .before .before .before .before .before .before .before .before .before .args .c) (c .before .before .before .before .loop .s) (c .before .before .before .before .before .before .before .first-line .result) (c .before .before .before .before .before .before .before .before .before .before .before .before .pre .1 .1) (c .before .before .before .before .loop .inv .0) (omega (arith, c .before .before .before .loop-test .taken, c .before .before .before .before .before .before .number-at .ensures)) (c .before .before .before .before .before .before .before .first-line .ensures .0) (c .before .before .before .before .before .before .before .before .bases-of .ensures) (c .before .before .view-at .ensures)
+append-statement-requires c κs = fits-here (c .before .before .before .before .before .before .before .before .before .before .before .before .args .numbers .now) (c .before .before .before .before .before .before .before .before .before .before .before .before .args .first .now) (c .before .before .before .before .before .before .before .before .before .before .before .before .pre .0) (c .before .before .before .before .before .before .before .before .before .before .before .before .pre .1 .0) (c .before .before .before .before .before .before .before .before .before .before .before .before .args .c) (c .before .before .before .before .loop .s) (c .before .before .before .before .before .before .before .first-line .result) (c .before .before .before .before .before .before .before .before .before .before .before .before .pre .1 .1) (c .before .before .before .before .loop .inv .0) (omega (arith, c .before .before .before .loop-test .taken, c .before .before .before .before .before .before .number-at .ensures)) (c .before .before .before .before .before .before .before .first-line .ensures .0) (c .before .before .before .before .before .before .before .before .before .before .before .before .args .writing) (c .before .before .before .before .before .before .before .before .bases-of .ensures) (c .before .before .view-at .ensures)
 
 add-s : tie.Need-add-s Inv-loop μ-loop
 add-s c = omega (arith, c .before .before .before .before .before .before .before .before .loop-test .taken, small-here (c .before .before .before .before .before .before .before .before .before .before .before .before .before .before .before .before .before .args .numbers .now) (c .before .before .before .before .before .before .before .before .before .before .before .before .before .before .before .before .before .args .first .now) (c .before .before .before .before .before .before .before .before .before .before .before .before .before .before .before .before .before .pre .0) (c .before .before .before .before .before .before .before .before .before .before .before .before .before .before .before .before .before .pre .1 .0) (c .before .before .before .before .before .before .before .before .before .before .before .before .before .before .before .before .before .args .c) (c .before .before .before .before .before .before .before .before .before .loop .s) (c .before .before .before .before .before .before .before .before .before .before .before .before .first-line .result) (c .before .before .before .before .before .before .before .before .before .before .before .before .before .before .before .before .before .pre .1 .1) (c .before .before .before .before .before .before .before .before .before .loop .inv .0) (omega (arith, c .before .before .before .before .before .before .before .before .loop-test .taken, c .before .before .before .before .before .before .before .before .before .before .before .number-at .ensures)) (c .before .before .before .before .before .before .before .before .before .before .before .before .first-line .ensures .0))
@@ -52,7 +52,7 @@ loop-less : tie.Need-loop-less Inv-loop μ-loop
 loop-less c = search needs
 
 loop-again : tie.Need-loop-again Inv-loop μ-loop
-loop-again c = (omega (arith, c .before .before .before .before .before .before .before .before .before .loop .inv .0), omega (arith, c .before .before .before .before .before .before .before .before .loop-test .taken), going-next (c .before .before .before .before .before .before .before .before .before .loop .inv .2) (appended-same _ _ (part-here (c .before .before .before .before .before .before .before .before .before .before .before .before .before .before .before .before .before .args .numbers .now) (c .before .before .before .before .before .before .before .before .before .before .before .before .before .before .before .before .before .args .first .now) (c .before .before .before .before .before .before .before .before .before .before .before .before .before .before .before .before .before .pre .0) (c .before .before .before .before .before .before .before .before .before .before .before .before .before .before .before .before .before .pre .1 .0) (c .before .before .before .before .before .before .before .before .before .before .before .before .before .before .before .before .before .args .c) (c .before .before .before .before .before .before .before .before .before .loop .s) (c .before .before .before .before .before .before .before .before .before .before .before .before .first-line .result) (c .before .before .before .before .before .before .before .before .before .before .before .before .before .before .before .before .before .pre .1 .1) (c .before .before .before .before .before .before .before .before .before .loop .inv .0) (omega (arith, c .before .before .before .before .before .before .before .before .loop-test .taken, c .before .before .before .before .before .before .before .before .before .before .before .number-at .ensures)) (c .before .before .before .before .before .before .before .before .before .before .before .before .first-line .ensures .0) (c .before .before .before .before .before .before .before .before .before .before .before .before .before .bases-of .ensures) (c .before .before .before .before .before .before .before .view-at .ensures)) (c .before .before .before .before .append-statement .ensures)))
+loop-again c = (omega (arith, c .before .before .before .before .before .before .before .before .before .loop .inv .0), omega (arith, c .before .before .before .before .before .before .before .before .loop-test .taken), going-next (c .before .before .before .before .before .before .before .before .before .loop .inv .2) (appended-same _ _ (part-here (c .before .before .before .before .before .before .before .before .before .before .before .before .before .before .before .before .before .args .numbers .now) (c .before .before .before .before .before .before .before .before .before .before .before .before .before .before .before .before .before .args .first .now) (c .before .before .before .before .before .before .before .before .before .before .before .before .before .before .before .before .before .pre .0) (c .before .before .before .before .before .before .before .before .before .before .before .before .before .before .before .before .before .pre .1 .0) (c .before .before .before .before .before .before .before .before .before .before .before .before .before .before .before .before .before .args .c) (c .before .before .before .before .before .before .before .before .before .loop .s) (c .before .before .before .before .before .before .before .before .before .before .before .before .first-line .result) (c .before .before .before .before .before .before .before .before .before .before .before .before .before .before .before .before .before .pre .1 .1) (c .before .before .before .before .before .before .before .before .before .loop .inv .0) (omega (arith, c .before .before .before .before .before .before .before .before .loop-test .taken, c .before .before .before .before .before .before .before .before .before .before .before .number-at .ensures)) (c .before .before .before .before .before .before .before .before .before .before .before .before .first-line .ensures .0) (c .before .before .before .before .before .before .before .before .before .before .before .before .before .before .before .before .before .args .writing) (c .before .before .before .before .before .before .before .before .before .before .before .before .before .bases-of .ensures) (c .before .before .before .before .before .before .before .view-at .ensures)) (c .before .before .before .before .append-statement .ensures)))
 
 same-length : tie.Need-same-length Inv-loop μ-loop
 same-length c = c .before .loop .inv .2 .same .ends

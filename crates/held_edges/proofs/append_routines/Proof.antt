@@ -12,10 +12,10 @@ use Rattle.held_edges.proofs.append_routines.Statement.{statement}
 use Rattle.held_edges.proofs.append_routines.Tie as tie
 
 abbrev Inv-loop : tie.InvT-loop
-Inv-loop edges₀ also₀ n numbers first count m₀ c₀ edges also m c = (c ≤ count) × Going (partOf numbers) (store edges₀ also₀ m₀) 0 (store edges also m) (getD first c 0)
+Inv-loop edges₀ also₀ n numbers first writing count m₀ c₀ edges also m c = (c ≤ count) × Going (partOf writing numbers) (store edges₀ also₀ m₀) 0 (store edges also m) (getD first c 0)
 
 abbrev μ-loop : tie.MeasureT-loop
-μ-loop edges₀ also₀ n numbers first count m₀ c₀ edges also m c = count - c
+μ-loop edges₀ also₀ n numbers first writing count m₀ c₀ edges also m c = count - c
 
 field-of-requires : tie.Need-field-of-requires Inv-loop μ-loop
 field-of-requires c κs = search needs

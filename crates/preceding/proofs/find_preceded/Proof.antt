@@ -9,7 +9,7 @@ use Rattle.table.specs.CutLaws.{cut-long}
 use Rattle.table.specs.LookupLaws.{routines-length}
 use Rattle.report.specs.Layout.{oneEach}
 use Rattle.report.specs.Preceded.{precededSets}
-use Rattle.preceding.specs.FrontLaws.{front-fits, front-is, front-long}
+use Rattle.table.specs.FrontLaws.{front-fits, front-is, front-long}
 use borrow.Author.Needs.{needs}
 use Rattle.preceding.proofs.find_preceded.Statement.{statement}
 use Rattle.preceding.proofs.find_preceded.Tie as tie

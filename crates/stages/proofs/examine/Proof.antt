@@ -5,8 +5,9 @@ use native.Mathlib.Omega.{arith}
 use Rattle.table.specs.Table.{tableOf}
 use Rattle.table.specs.CutLaws.{cut-long}
 use Rattle.stages.specs.Lent.{lent-edges}
-use Rattle.stages.specs.SetsLaws.{handles-few, flow-known}
-use Rattle.preceding.specs.FrontLaws.{front-fits, front-is, front-long}
+use Rattle.stages.specs.SetsLaws.{flow-known}
+use Rattle.table.specs.AcceptedLaws.{handles-few}
+use Rattle.table.specs.FrontLaws.{front-fits, front-is, front-long}
 use denote.Ref.{now}
 use borrow.Author.Needs.{needs}
 use Rattle.stages.proofs.examine.Statement.{statement}

@@ -4,8 +4,9 @@ use Prim.Native.Nat.{ℕ, _≤_}
 use native.Mathlib.Omega.{arith}
 use Rattle.table.specs.Table.{tableOf}
 use Rattle.table.specs.CutLaws.{cut-long}
-use Rattle.stages.specs.SetsLaws.{routines-few, reads-known, writes-known}
-use Rattle.preceding.specs.FrontLaws.{front-fits, front-is, front-long}
+use Rattle.stages.specs.SetsLaws.{reads-known, writes-known}
+use Rattle.table.specs.AcceptedLaws.{routines-few}
+use Rattle.table.specs.FrontLaws.{front-fits, front-is, front-long}
 use denote.Ref.{now}
 use borrow.Author.Needs.{needs}
 use Rattle.stages.proofs.find_shared.Statement.{statement}

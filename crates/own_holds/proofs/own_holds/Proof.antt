@@ -1,16 +1,16 @@
--- `stages::find_held` meets its contract. Assumes nothing.
+-- `own_holds::own_holds` meets its contract. Assumes nothing.
 use mathlib.Core.Path.{sym, _∙_}
 use Prim.Native.Nat.{ℕ, _≤_}
 use native.Mathlib.Omega.{arith}
 use lib.ListN.{length-replicate}
 use denote.Ref.{now}
-use Rattle.table.specs.Table.{tableOf}
 use Rattle.table.specs.CutLaws.{cut-long}
-use Rattle.stages.specs.SetsLaws.{routines-few, given-known, held-known, also-fits, edges-fit}
-use Rattle.preceding.specs.FrontLaws.{front-fits, front-is, front-long}
+use Rattle.table.specs.AcceptedLaws.{routines-few}
+use Rattle.table.specs.FrontLaws.{front-fits, front-is, front-long}
+use Rattle.own_holds.specs.OwnLaws.{also-fits, edges-fit, own-known}
 use borrow.Author.Needs.{needs}
-use Rattle.stages.proofs.find_held.Statement.{statement}
-use Rattle.stages.proofs.find_held.Tie as tie
+use Rattle.own_holds.proofs.own_holds.Statement.{statement}
+use Rattle.own_holds.proofs.own_holds.Tie as tie
 
 field-of-requires : tie.Need-field-of-requires
 field-of-requires c κs = search needs
@@ -28,7 +28,7 @@ slice-aggregate-given-sets c = let f = now (c .before .before .before .before .b
 given-sets-requires : tie.Need-given-sets-requires
 given-sets-requires c κs = let f = now (c .before .before .before .before .before .before .before .args .numbers) in
     let r : c .before .before .field-of .result ≤ 32 = omega (arith, c .before .before .field-of .ensures .0, routines-few f (c .before .before .before .before .before .before .before .pre .0)) in
-    (c .before .before .before .before .before .before .before .pre .0, (c .before .before .before .before .before .before .before .pre .1 .0, (c .before .before .before .before .before .before .before .pre .1 .1 .1 .1, (sym (cut-long {A = ℕ} _ 32 0 r) ∙ c .before .before .field-of .ensures .0))))
+    (c .before .before .before .before .before .before .before .pre .0, (c .before .before .before .before .before .before .before .pre .1 .0, (c .before .before .before .before .before .before .before .pre .1 .1 .1 .0, (sym (cut-long {A = ℕ} _ 32 0 r) ∙ c .before .before .field-of .ensures .0))))
 
 array-share-prefix-given : tie.Need-array-share-prefix-given
 array-share-prefix-given c = let f = now (c .before .before .before .before .before .before .before .before .before .before .before .args .numbers) in
@@ -36,18 +36,19 @@ array-share-prefix-given c = let f = now (c .before .before .before .before .bef
     let long = c .before .before .before .given-sets .kept .1 .1 .1 .1 .0 ∙ sym (cut-long {A = ℕ} _ 32 0 r) in
     front-fits 32 (c .before .before .before .given-sets .last .1 .1 .1 .1 .0) long
 
-slice-aggregate-held-sets : tie.Need-slice-aggregate-held-sets
-slice-aggregate-held-sets c = let f = now (c .before .before .before .before .before .before .before .before .before .before .before .before .args .numbers) in
+slice-aggregate-both-holds : tie.Need-slice-aggregate-both-holds
+slice-aggregate-both-holds c = let f = now (c .before .before .before .before .before .before .before .before .before .before .before .before .args .numbers) in
     let r : c .before .before .before .before .before .before .before .field-of .result ≤ 32 = omega (arith, c .before .before .before .before .before .before .before .field-of .ensures .0, routines-few f (c .before .before .before .before .before .before .before .before .before .before .before .before .pre .0)) in
     let long = c .before .before .before .before .given-sets .kept .1 .1 .1 .1 .0 ∙ sym (cut-long {A = ℕ} _ 32 0 r) in
     front-long 32 (c .before .before .before .before .given-sets .last .1 .1 .1 .1 .0) long
 
-slice-aggregate-held-sets-2 : tie.Need-slice-aggregate-held-sets-2
-slice-aggregate-held-sets-2 c = search needs
+slice-aggregate-both-holds-2 : tie.Need-slice-aggregate-both-holds-2
+slice-aggregate-both-holds-2 c = search needs
 
-held-sets-requires : tie.Need-held-sets-requires
-held-sets-requires c κs = let f = now (c .before .before .before .before .before .before .before .before .before .before .before .before .before .before .before .args .numbers) in
-    (c .before .before .before .before .before .before .before .before .before .before .before .before .before .before .before .pre .0, (c .before .before .before .before .before .before .before .before .before .before .before .before .before .before .before .pre .1 .0, ((edges-fit f (c .before .before .before .before .before .before .before .before .before .before .before .before .before .before .before .pre .0) _ (omega (arith, c .before .before .before .before .before .before .before .before .before .before .before .before .before .before .before .pre .1 .1 .1 .1, c .before .before .before .before .before .before .before .given-sets .kept .1 .1 .1 .0)), omega (arith, also-fits f (c .before .before .before .before .before .before .before .before .before .before .before .before .before .before .before .pre .0), length-replicate {A = ℕ} 1537 0)), c .before .before .before .before .before .before .before .before .before .before .before .before .before .before .before .pre .1 .1 .1 .0)))
+both-holds-requires : tie.Need-both-holds-requires
+both-holds-requires c κs = let f = now (c .before .before .before .before .before .before .before .before .before .before .before .before .before .before .before .args .numbers) in
+    let acc = c .before .before .before .before .before .before .before .before .before .before .before .before .before .before .before .pre .0 in
+    (acc, (c .before .before .before .before .before .before .before .before .before .before .before .before .before .before .before .pre .1 .0, ((edges-fit f acc _ (omega (arith, c .before .before .before .before .before .before .before .before .before .before .before .before .before .before .before .pre .1 .1 .1 .0, c .before .before .before .before .before .before .before .given-sets .kept .1 .1 .1 .0)), omega (arith, also-fits f acc, length-replicate {A = ℕ} 1537 0)), (c .before .before .before .before .before .before .before .before .before .before .before .before .before .before .before .pre .1 .1 .1 .1 .0, c .before .before .before .before .before .before .before .before .before .before .before .before .before .before .before .pre .1 .1 .1 .1 .1))))
 
 same-length : tie.Need-same-length
 same-length c = search needs
@@ -59,12 +60,10 @@ returns : tie.Need-returns
 returns c = let f = now (c .before .before .before .before .before .before .before .before .before .before .before .before .before .before .before .before .before .before .before .before .before .args .numbers) in
     let r : c .before .before .before .before .before .before .before .before .before .before .before .before .before .before .before .before .field-of .result ≤ 32 = omega (arith, c .before .before .before .before .before .before .before .before .before .before .before .before .before .before .before .before .field-of .ensures .0, routines-few f (c .before .before .before .before .before .before .before .before .before .before .before .before .before .before .before .before .before .before .before .before .before .pre .0)) in
     let long = c .before .before .before .before .before .before .before .before .before .before .before .before .before .given-sets .kept .1 .1 .1 .1 .0 ∙ sym (cut-long {A = ℕ} _ 32 0 r) in
-    let t = tableOf f in
-    let flow = c .before .before .before .before .before .before .before .before .before .before .before .before .before .before .before .before .before .before .before .before .before .pre .1 .1 .0 in
-    held-known t _ flow _ _ (front-is 32 (c .before .before .before .before .before .before .before .before .before .before .before .before .before .given-sets .last .1 .1 .1 .1 .0) long ∙ given-known t _ flow _ (c .before .before .before .before .before .before .before .before .before .before .before .before .before .given-sets .ensures)) (c .before .before .before .before .before .held-sets .ensures)
+    own-known f _ _ _ (c .before .before .before .before .before .before .before .before .before .before .before .before .before .before .before .before .before .before .before .before .before .pre .1 .1 .0) (front-is 32 (c .before .before .before .before .before .before .before .before .before .before .before .before .before .given-sets .last .1 .1 .1 .1 .0) long ∙ c .before .before .before .before .before .before .before .before .before .before .before .before .before .given-sets .ensures) (c .before .before .before .before .before .both-holds .ensures)
 
-pub find-held-spec : {M : Type 1} → statement M
-find-held-spec =
+pub own-holds-spec : {M : Type 1} → statement M
+own-holds-spec =
     tie.close
     (tie.spec
     field-of-requires
@@ -72,9 +71,9 @@ find-held-spec =
     slice-aggregate-given-sets
     given-sets-requires
     array-share-prefix-given
-    slice-aggregate-held-sets
-    slice-aggregate-held-sets-2
-    held-sets-requires
+    slice-aggregate-both-holds
+    slice-aggregate-both-holds-2
+    both-holds-requires
     same-length
     same-length-2
     returns)
