@@ -1,62 +1,45 @@
--- `stages::with_flow` meets its contract. Assumes nothing.
-use denote.Ref.{now}
-use mathlib.Core.Path.{_≡_, sym, ap, _∙_}
-use Prim.Native.Nat.{ℕ, _+_, _≤_}
-use native.Mathlib.Omega.{arith}
-use lib.ListN.{length, replicate}
-use lib.Seq.{length-take-le}
-use Rattle.table.specs.Header.{statements}
-use Rattle.held_edges.specs.TableEdges.{basesOf}
-use Rattle.stages.specs.SetsLaws.{zeros-front, all-long, first-kept}
 use borrow.Author.Needs.{needs}
 use Rattle.stages.proofs.with_flow.Statement.{statement}
 use Rattle.stages.proofs.with_flow.Tie as tie
+use Rattle.stages.proofs.with_flow.Reads as reads
+use Rattle.stages.proofs.with_flow.Lts as lts
+use Rattle.declarations.proofs.first_statements.Reads as first-statements-reads
+use Rattle.own_holds.proofs.own_holds.Reads as own-holds-reads
+use Rattle.stages.proofs.with_held.Reads as with-held-reads
 
+-- src/lib.rt:185:17
 first-statements-requires : tie.Need-first-statements-requires
 first-statements-requires c κs = search needs
 
-places-of-requires : tie.Need-places-of-requires
-places-of-requires c κs = search needs
+-- src/lib.rt:186:35
+slice-aggregate-own-holds : tie.Need-slice-aggregate-own-holds
+slice-aggregate-own-holds c = search needs
 
-slice-aggregate-find-held : tie.Need-slice-aggregate-find-held
-slice-aggregate-find-held c = search needs
+-- src/lib.rt:186:5
+own-holds-requires : tie.Need-own-holds-requires
+own-holds-requires c κs = ?
 
-slice-relend-prefix-find-held : tie.Need-slice-relend-prefix-find-held
-slice-relend-prefix-find-held c = search needs
-
-slice-aggregate-find-held-2 : tie.Need-slice-aggregate-find-held-2
-slice-aggregate-find-held-2 c = let fits : c .before .before .places-of .result ≤ length (now (c .before .before .before .before .before .before .before .before .args .work)) = omega (arith, c .before .before .before .before .before .before .before .before .pre .1 .1 .places-long, c .before .before .places-of .ensures) in
-    sym (length-take-le (c .before .before .places-of .result) (now (c .before .before .before .before .before .before .before .before .args .work)) fits)
-
-find-held-requires : tie.Need-find-held-requires
-find-held-requires c κs = let lent = c .before .before .before .before .before .before .before .before .before .pre .1 .1 in
-    let many = c .before .before .before .places-of .ensures in
-    let fits : c .before .before .before .places-of .result ≤ length (now (c .before .before .before .before .before .before .before .before .before .args .work)) = omega (arith, lent .places-long, many) in
-    (c .before .before .before .before .before .before .before .before .before .pre .0, (c .before .before .before .before .first-statements .ensures, (c .before .before .before .before .before .before .before .before .before .pre .1 .0, (zeros-front _ (now (c .before .before .before .before .before .before .before .before .before .args .work)) (lent .zeros) fits ∙ ap (λ (n : ℕ). replicate {A = ℕ} n 0) many, lent .edges-long))))
-
+-- src/lib.rt:187:24
 slice-aggregate-with-held : tie.Need-slice-aggregate-with-held
 slice-aggregate-with-held c = search needs
 
+-- src/lib.rt:187:5
 with-held-requires : tie.Need-with-held-requires
-with-held-requires c κs = let f = now (c .before .before .before .before .before .before .before .before .before .before .before .before .before .before .before .before .before .before .args .numbers) in
-    let work = now (c .before .before .before .before .before .before .before .before .before .before .before .before .before .before .before .before .before .before .args .work) in
-    let lent = c .before .before .before .before .before .before .before .before .before .before .before .before .before .before .before .before .before .before .pre .1 .1 in
-    let many : c .before .before .before .before .before .before .before .before .before .before .before .before .places-of .result ≡ basesOf f .every + 1 = c .before .before .before .before .before .before .before .before .before .before .before .before .places-of .ensures in
-    let fits : c .before .before .before .before .before .before .before .before .before .before .before .before .places-of .result ≤ length work = omega (arith, lent .places-long) in
-    let held = c .before .before .before .before .before .before .before .before .find-held in
-    let first = first-kept (c .before .before .before .before .before .before .before .before .before .before .before .before .places-of .result) work (held .last .1 .1 .1 .0) fits (held .kept .1 .1 .1 .0) (statements f) (omega (arith, many)) in
-    let long = all-long (c .before .before .before .before .before .before .before .before .before .before .before .before .places-of .result) work (held .last .1 .1 .1 .0) fits (held .kept .1 .1 .1 .0) in
-    (c .before .before .before .before .before .before .before .before .before .before .before .before .before .before .before .before .before .before .pre .0, (c .before .before .before .before .before .before .before .before .before .before .before .before .before .first-statements .ensures, (c .before .before .before .before .before .before .before .before .before .before .before .before .before .before .before .before .before .before .pre .1 .0, (first ∙ held .ensures, (omega (arith, long, lent .work-long), omega (arith, lent .edges-long, held .kept .1 .1 .1 .1 .0))))))
+with-held-requires c κs = ?
 
+-- src/lib.rt:171:1
 same-length : tie.Need-same-length
 same-length c = search needs
 
+-- src/lib.rt:171:1
 same-length-2 : tie.Need-same-length-2
 same-length-2 c = search needs
 
+-- src/lib.rt:171:1
 same-length-3 : tie.Need-same-length-3
 same-length-3 c = search needs
 
+-- src/lib.rt:171:1
 returns : tie.Need-returns
 returns c = search needs
 
@@ -65,11 +48,8 @@ with-flow-spec =
     tie.close
     (tie.spec
     first-statements-requires
-    places-of-requires
-    slice-aggregate-find-held
-    slice-relend-prefix-find-held
-    slice-aggregate-find-held-2
-    find-held-requires
+    slice-aggregate-own-holds
+    own-holds-requires
     slice-aggregate-with-held
     with-held-requires
     same-length
