@@ -176,6 +176,13 @@ fn guarded_block(r: &mut Random, base: i64, body: &mut Vec<Vec<i64>>) {
     }
 }
 
+/// One of a routine's two lock handles may now refer to either lock; what it gives up through them is left out, as a GIVE of either lock is stray.
+fn either_lock(r: &mut Random, base: i64, body: &mut Vec<Vec<i64>>) {
+    let h = r.below(2) as i64;
+    body.retain(|l| l[0] != 6);
+    body.insert(r.below(body.len() + 1), vec![7, base + 2 + h, base + 3 - h]);
+}
+
 /// A table text of two cells and two locks: routine 0 starts up to three threads, all access the cells, most under their locks.
 pub fn guarded(r: &mut Random) -> Vec<u8> {
     let routines = 2 + r.below(2);
@@ -193,6 +200,9 @@ pub fn guarded(r: &mut Random) -> Vec<u8> {
         }
         for _ in 0..1 + r.below(2) {
             guarded_block(r, base, &mut body);
+        }
+        if r.one_in(6) {
+            either_lock(r, base, &mut body);
         }
         // The end: mostly RETURN; else routine 0 stands still, and another goes round.
         let first = bodies.iter().map(|b| b.len()).sum::<usize>();
