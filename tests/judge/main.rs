@@ -262,7 +262,7 @@ fn explore_all(seed: u64, tables: usize) {
 /// Small tables that start a thread, as FOLDER/N.table, and a line for each in FOLDER/said: N; race, none, large or threads (not seen whole); states; clean or found by the library.
 fn models(seed: u64, tables: usize, folder: &str) {
     let mut r = Random(seed * 2 + 1181783497276652981);
-    let (mut done, mut alone, mut said) = (0, 0, String::new());
+    let (mut done, mut alone, mut takers, mut said) = (0, 0, 0, String::new());
     while done < tables {
         let text = if r.one_in(2) { generate::guarded(&mut r) } else { generate::table(&mut r, false) };
         let Ok(t) = read(&text) else { continue };
@@ -275,10 +275,11 @@ fn models(seed: u64, tables: usize, folder: &str) {
         let word = if seen.race { "race" } else if seen.whole { "none" } else if seen.threads > MOST_THREADS { "threads" } else { "large" };
         said += &format!("{done} {word} {} {}\n", seen.states, if may { "clean" } else { "found" });
         std::fs::write(format!("{folder}/{done}.table"), text).expect(folder);
+        takers += t.has_taker() as usize;
         done += 1;
     }
     std::fs::write(format!("{folder}/said"), said).expect(folder);
-    println!("{tables} tables, seed {seed}; {alone} more with one thread and no finding in any state left out");
+    println!("{tables} tables, seed {seed}, {takers} with a TAKER; {alone} more with one thread and no finding in any state left out");
 }
 
 fn lengths(paths: &[String]) {
