@@ -34,6 +34,8 @@ def flow_of(table):
 
 
 class Holds:
+    """By statement: the locks surely held before it for reading, for writing, and either way."""
+
     def __init__(self, table):
         self.table, self.flow = table, flow_of(table)
         self.all = set(range(table.locks))
