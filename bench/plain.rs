@@ -1,6 +1,6 @@
 //! A plain check and engine in Rust, written for speed: what the proved code is measured against.
 //!
-//! A reading of document 01 without proofs and without unsafe code; `bench/check/agree` holds it to the judge's reading (tests/judge).
+//! A reading of the documents without proofs and without unsafe code; `bench/check/agree` holds it to the judge's reading (tests/judge).
 //! This file is the reader; `plain/check.rs` has the report, `plain/engine.rs` the engine.
 //! - A number below 1000 is four bytes, multiplied out at once and then compared with that number's own four characters; other numbers are eight bytes,
 //!   digits tested and added up side by side. A line's tail of zeros is compared whole.
@@ -32,6 +32,7 @@ const START: u8 = 9;
 const JUMP: u8 = 10;
 const JUMPZ: u8 = 11;
 const RETURN: u8 = 12;
+const TAKER: u8 = 13;
 
 /// A statement, in 16 bytes, so that the engine finds it by a shift: `x` is its handle, number, routine or target, `with` the arguments of CALL and START, or POINT's second handle.
 #[derive(Clone, Copy, Default)]
@@ -43,7 +44,7 @@ pub struct Statement {
 }
 
 /// A handle: its routine and kind in one number, where a local starts, the handles that a POINT puts into it (counted from the routine's first), and how many
-/// statements of each operation use it.
+/// statements of each operation use it, TAKER and TAKE together.
 #[derive(Clone, Copy, Default)]
 struct Handle {
     key: u8,
@@ -353,9 +354,9 @@ impl Table {
     /// Puts down statement `s` of routine `r`, if the line from its second field on keeps its rule.
     #[inline(always)]
     fn statement(&mut self, r: usize, s: usize, line: &Line) -> Option<()> {
-        let op = small(line, 1).filter(|&op| op <= RETURN as usize)? as u8;
+        let op = small(line, 1).filter(|&op| op <= TAKER as usize)? as u8;
         let one = line[18..] == ZEROS[18..];
-        if matches!(op, READ | WRITE | TAKE | GIVE) {
+        if matches!(op, READ | WRITE | TAKE | GIVE | TAKER) {
             let x = small(line, 2)?;
             let h = self.handles.get_mut(x)?;
             h.uses[op as usize & 7] += 1;

@@ -44,7 +44,8 @@ static inline struct station_answer station_report(const uint8_t *text, size_t t
 
 /* Steps a table by a schedule, each byte a thread number. Accepted: answers has one byte for each step, 0 where it ran
  * and 14 to 18 where it was refused, and cells the final values, places behind unchanged. Refused: 1 to 12, then 13
- * where answers is shorter than the schedule or cells shorter than the table's cells; both buffers unchanged. */
+ * where answers is shorter than the schedule or cells shorter than the table's cells; both buffers unchanged.
+ * 16: the thread waits, its TAKE for a lock that anybody holds, its TAKER for one that is held for writing or by itself. */
 static inline struct station_answer station_run(const uint8_t *text, size_t text_length, const uint8_t *schedule,
                                                 size_t schedule_length, uint8_t *answers, size_t answers_length,
                                                 int32_t *cells, size_t cells_length) {

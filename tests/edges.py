@@ -92,7 +92,7 @@ edge("07-count-above", line(1, 1, 0, 0, 1, 1) + line(3, 2) + line(4, 12), (7, 1)
 edge("08-sum", line(1, 1, 0, 0, 2, 3) + line(3, 1) + line(3, 1) + line(4, 12) * 3, (8, 0))
 # 9: statements
 edge("09-operation-0", table(routines=[[(0,), END]]), (9, 2))
-edge("09-operation-13", table(routines=[[(13,), END]]), (9, 2))
+edge("09-operation-14", table(routines=[[(14,), END]]), (9, 2))
 edge("09-other-routines-handle", table(handles=[(1, 1, 1, 0)], routines=[[(8, 1), (1, 0), END], [END]]), (9, 5))
 edge("09-lock-read", table(locks=1, handles=[(0, 2, 1, 0)], routines=[[(1, 0), END]]), (9, 3))
 edge("09-point-kinds", table(locks=1, handles=[(0, 1, 1, 0), (0, 2, 1, 0)], routines=[[(7, 0, 1), END]]), (9, 4))
@@ -104,9 +104,22 @@ edge("09-argument-kind", table(locks=1, handles=[(0, 1, 1, 0), (1, 2, 0, 0)], ro
 edge("09-routine-past-last", table(routines=[[(8, 1), END]]), (9, 2))
 edge("09-unused-field", table(routines=[[(12, 1)]]), (9, 2))
 edge("09-two-failing", table(routines=[[(3, 1), (14,), (15,), END]]), (9, 3))
-edge("09-before-10", table(routines=[[(3, 1)], [(13,), END]]), (9, 4))
+edge("09-before-10", table(routines=[[(3, 1)], [(14,), END]]), (9, 4))
+# C-18: "Check 9 accepts operation 13": one operand, a lock handle of the own routine
+lock = [(0, 2, 1, 0)]
+ok("09-taker", table(locks=1, handles=lock, routines=[[(13, 0), END]]))
+ok("09-taker-last-lock", table(locks=16, handles=[(0, 1, 1, 0), (0, 2, 1, 15)], routines=[[(13, 1), END]]))
+edge("09-operation-14-of-lock", table(locks=1, handles=lock, routines=[[(14, 0), END]]), (9, 3))
+edge("09-taker-no-handle", table(routines=[[(13,), END]]), (9, 2))
+edge("09-taker-cell", table(locks=1, handles=[(0, 1, 1, 0)], routines=[[(13, 0), END]]), (9, 3))
+edge("09-taker-past-last-handle", table(locks=1, handles=lock, routines=[[(13, 1), END]]), (9, 3))
+edge("09-taker-negative", table(locks=1, handles=lock, routines=[[(13, -1), END]]), (9, 3))
+edge("09-taker-other-routines-handle", table(locks=1, handles=[(1, 2, 1, 0)], routines=[[(8, 1), (13, 0), END], [END]]), (9, 5))
+edge("09-taker-second-operand", table(locks=1, handles=lock, routines=[[(13, 0, 1), END]]), (9, 3))
+edge("09-taker-last-field", table(locks=1, handles=lock, routines=[[(13, 0, 0, 0, 0, 0, 7), END]]), (9, 3))
 # 10: the last statement
 edge("10-runs-on", table(routines=[[(8, 1), (3, 1)], [(3, 2)]]), (10, 4))
+edge("10-taker-last", table(locks=1, handles=lock, routines=[[(13, 0)]]), (10, 3))
 ok("10-jump", table(routines=[[(3, 1), (10, 0)]]))
 # 11: a routine that nothing names
 edge("11-unnamed", table(routines=[[END], [END]]), (11, 2))

@@ -40,8 +40,8 @@ def accepted(r):
         return None if None in given else (r.randint(8, 9), callee) + tuple(given)
 
     def statement(q):
-        operation = r.randint(1, 12)
-        if operation in (1, 2, 5, 6):
+        operation = r.randint(1, 13)
+        if operation in (1, 2, 5, 6, 13):
             h = handle(q, 1 if operation < 3 else 2)
             return (operation, h) if h is not None else (12,)
         if operation in (3, 4):
@@ -70,7 +70,7 @@ def damaged(r, text):
     lines = [text[i:i + 49] for i in range(0, len(text), 49)]
     i, kind = r.randrange(len(lines)), r.randrange(10)
     if kind < 6:
-        f, value = r.randrange(8), r.choice([0, 1, 2, 3, 4, 8, 9, 12, 13, 64, 65, 128, 511, -1, 999999, r.randint(0, 40)])
+        f, value = r.randrange(8), r.choice([0, 1, 2, 3, 4, 8, 9, 12, 13, 14, 64, 65, 128, 511, -1, 999999, r.randint(0, 40)])
         lines[i] = lines[i][:6 * f] + b"%6d" % value + lines[i][6 * f + 6:]
     elif kind == 6:
         b = r.randrange(49)

@@ -1,13 +1,13 @@
-"""The form of a table text, for words.py and named.py. Nothing is decided here: `check` says what is accepted."""
+"""The form of a table text, for words.py, holds.py and named.py. Nothing is decided here: `check` says what is accepted."""
 
-OPERATIONS = ["", "READ", "WRITE", "SET", "ADD", "TAKE", "GIVE", "POINT", "CALL", "START", "JUMP", "JUMPZ", "RETURN"]
-READ, WRITE, SET, ADD, TAKE, GIVE, POINT, CALL, START, JUMP, JUMPZ, RETURN = range(1, 13)
+OPERATIONS = ["", "READ", "WRITE", "SET", "ADD", "TAKE", "GIVE", "POINT", "CALL", "START", "JUMP", "JUMPZ", "RETURN", "TAKER"]
+READ, WRITE, SET, ADD, TAKE, GIVE, POINT, CALL, START, JUMP, JUMPZ, RETURN, TAKER = range(1, 14)
 CELL, LOCK = 1, 2
 KINDS = {CELL: "cell", LOCK: "lock"}
 PARAMETER, LOCAL = 0, 1
 LINE = 49
 # The statements' handle operands: (operand, kind), kind 0 where both kinds will do.
-HANDLES = {READ: [(0, CELL)], WRITE: [(0, CELL)], TAKE: [(0, LOCK)], GIVE: [(0, LOCK)], POINT: [(0, 0), (1, 0)]}
+HANDLES = {READ: [(0, CELL)], WRITE: [(0, CELL)], TAKE: [(0, LOCK)], TAKER: [(0, LOCK)], GIVE: [(0, LOCK)], POINT: [(0, 0), (1, 0)]}
 
 
 def numbers_of(line):
@@ -57,6 +57,9 @@ class Table:
 
     def parameters_of(self, r):
         return [h for h in self.handles_of(r) if h.origin == PARAMETER]
+
+    def has_taker(self):
+        return any(s.operation == TAKER for s in self.statements)
 
     def moved(self):
         """The handles that a POINT moves."""

@@ -2,7 +2,8 @@
 """words.py CHECK FILE...: what CHECK says of each text, in sentences; exit status as CHECK's, the highest. Run by `check --words`.
 
 Which cell, statement, lock, rule and line, and how many, comes from the lines that CHECK prints. The text is looked at only to say what
-stands in the lines that these name, and for a refusal which field of the line breaks the rule. Lines are counted as an editor does, from 1."""
+stands in the lines that these name, for a refusal which field of the line breaks the rule, and of a table with a TAKER what is held at the accesses of an
+unguarded cell. Lines are counted as an editor does, from 1."""
 import os
 import re
 import subprocess
@@ -12,6 +13,7 @@ sys.dont_write_bytecode = True
 sys.path.insert(0, os.path.dirname(os.path.abspath(__file__)))
 import form  # noqa: E402
 from form import CALL, CELL, JUMP, JUMPZ, KINDS, LOCAL, OPERATIONS, PARAMETER, POINT, READ, RETURN, START, WRITE  # noqa: E402
+from holds import Holds, nexts  # noqa: E402
 
 RULES = {
     1: "the length is 0, no multiple of 49, or above 32,977",
@@ -311,13 +313,6 @@ def statement_words(table, s):
     return "line %d: %s through %s (statement %d, routine %d)" % (table.editor(s.number), s.name, handle_words(table, s.operands[0]), s.number, s.routine)
 
 
-def nexts(s):
-    """The statements that may come next, whatever the values."""
-    if s.operation == RETURN:
-        return []
-    return s.operands[:1] * (s.operation in (JUMP, JUMPZ)) + [s.number + 1] * (s.operation != JUMP)
-
-
 def preceded(table):
     """The statements that a START can precede: those of a routine that is STARTed, or CALLed where a START can precede the CALL, and those that may
     follow, in their routine, a START or a CALL that reaches one by CALLs."""
@@ -335,7 +330,31 @@ def preceded(table):
     return found
 
 
-def accesses(table, cell, reads, writes):
+def lock_words(locks):
+    return "lock%s %s" % ("" if len(locks) == 1 else "s", ranges(sorted(locks)))
+
+
+def held_words(holds, s):
+    """What is surely held at a statement, and how."""
+    n, said, left = s.number, [], set(holds.either[s.number])
+    for locks, how in ((holds.writing[n], "for writing"), (holds.reading[n], "for reading"), (holds.either[n], "either way")):
+        if locks & left:
+            said.append("%s held %s" % (lock_words(locks & left), how))
+        left -= locks
+    return ": " + (", ".join(said) or "no lock held")
+
+
+def lacking(table, holds, cell, counted):
+    """Of an unguarded cell: the locks that are held at all its counted accesses, each with the WRITEs at which it is not held for writing."""
+    found, out = holds.accesses(cell, counted), []
+    for lock in sorted(holds.always(found)):
+        bare = [table.editor(s.number) for s in found if s.operation == WRITE and lock not in holds.writing[s.number]]
+        out.append("    Lock %d is held at each of them, but not for writing at line%s %s: a lock held for reading does not guard a WRITE." % (
+            lock, "" if len(bare) == 1 else "s", ranges(bare)))
+    return out
+
+
+def accesses(table, cell, reads, writes, holds):
     """The accesses of a cell, with those that C-13 leaves out named. A local's flow set has the cell at which it starts, so statements through such a local are accesses; where they are
     as many as the report counts they are all. The others go through a parameter, or a local that POINT moves; where as many as these are
     missing, these are the others."""
@@ -350,18 +369,25 @@ def accesses(table, cell, reads, writes):
         elif count > len(sure):
             more.append("    %s more, through a parameter or a handle that POINT moves, among lines %s" % (
                 many(count - len(sure), word), ranges([table.editor(s.number) for s in others])))
-    left_out = {False: ": not counted, no START can precede it", True: ""}
-    return ["    " + statement_words(table, s) + left_out[s.number in counted] for s in sorted(lines, key=lambda s: s.number)] + more
+
+    def behind(s):
+        if s.number not in counted:
+            return ": not counted, no START can precede it"
+        return held_words(holds, s) if holds else ""
+    lines = ["    " + statement_words(table, s) + behind(s) for s in sorted(lines, key=lambda s: s.number)]
+    return lines + more + (lacking(table, holds, cell, counted) if holds else [])
 
 
-def cell_words(fields, table):
+def cell_words(fields, table, holds):
     cell, reads, writes, shared, common, unguarded = fields[1:7]
     counts = "%s, %s" % (many(reads, "read"), many(writes, "write"))
     if unguarded:
-        return ["Cell %d is UNGUARDED: threads share it, and no lock is held at all of its counted accesses (%s in all):" % (cell, counts)] + accesses(table, cell, reads, writes)
+        how = " and for writing at the WRITEs among them" if table.has_taker() else ""
+        return ["Cell %d is UNGUARDED: threads share it, and no lock is held at all of its counted accesses%s (%s in all):" % (cell, how, counts)] + accesses(table, cell, reads, writes, holds)
     if shared:
         locks = ["lock %d" % k for k in range(16) if common >> k & 1]
-        return ["Cell %d is shared and guarded: %s %s held at each of its counted accesses (%s in all)." % (cell, listed(locks), "is" if len(locks) == 1 else "are", counts)]
+        how = ", for writing at each WRITE" if table.has_taker() else ""
+        return ["Cell %d is shared and guarded: %s %s held at each of its counted accesses%s (%s in all)." % (cell, listed(locks), "is" if len(locks) == 1 else "are", how, counts)]
     return ["Cell %d is not shared (%s)." % (cell, counts)]
 
 
@@ -372,7 +398,8 @@ def give_words(fields, table):
         why = "it is not sure that the thread holds lock %d there" % h.start
     else:
         why = "it is not sure which lock the handle refers to, or that the thread holds it there"
-    return ["STRAY GIVE on %s: %s." % (statement_words(table, s), why)]
+    how = ", for reading or for writing" if table.has_taker() else ""
+    return ["STRAY GIVE on %s: %s%s." % (statement_words(table, s), why, how)]
 
 
 def total_words(fields):
@@ -382,16 +409,26 @@ def total_words(fields):
     return ["%s and %s: the table must not be loaded." % (many(cells, "unguarded cell"), many(gives, "stray GIVE"))]
 
 
+def holds_of(table, lines):
+    """What is held in a table with a TAKER; nothing where the report's common locks do not follow from it, which tests/command rules out."""
+    if not table.has_taker():
+        return None
+    holds, counted = Holds(table), preceded(table)
+    agrees = all(sum(1 << k for k in holds.common(holds.accesses(fields[1], counted))) == fields[5] for fields in lines if fields[0] == 51)
+    return holds if agrees else None
+
+
 def words_of(report, text):
     """The sentences for the lines that `check` printed of the text."""
     lines = [form.numbers_of(line) for line in report.splitlines()]
     if lines[0][0] == 50:
         return refusal(lines[0], text)
     table, out = form.Table(text), []
+    holds = holds_of(table, lines)
     untouched = [fields[1] for fields in lines if fields[0] == 51 and fields[2] == fields[3] == 0]
     for fields in lines:
         if fields[0] == 51 and fields[1] not in untouched:
-            out += cell_words(fields, table)
+            out += cell_words(fields, table, holds)
         elif fields[0] == 52:
             out += give_words(fields, table)
         elif fields[0] == 59:

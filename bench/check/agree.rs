@@ -62,7 +62,7 @@ fn stir(r: &mut Random, text: &mut [u8]) {
     }
 }
 
-/// A table whose routines take and give locks round CALLs of each other, from several places: what is held hangs on every way in and out.
+/// A table whose routines take, for writing and for reading, and give locks round CALLs of each other, from several places: what is held hangs on every way in and out.
 fn locked(r: &mut Random) -> Vec<u8> {
     let (routines, locks) = (2 + r.below(6), 1 + r.below(4));
     let counts: Vec<usize> = (0..routines).map(|_| 4 + r.below(12)).collect();
@@ -81,7 +81,7 @@ fn locked(r: &mut Random) -> Vec<u8> {
                 _ if k + 1 == count => if r.one_in(5) { vec![4, 10, first + r.below(count)] } else { vec![4, 12] },
                 // The next routine is named at least once.
                 _ if k == 1 && q + 1 < routines => vec![4, if r.one_in(4) { 9 } else { 8 }, q + 1],
-                0..=3 => vec![4, 5, lock(r)],
+                0..=3 => vec![4, if r.one_in(2) { 5 } else { 13 }, lock(r)],
                 4 | 5 => vec![4, 6, lock(r)],
                 6..=8 if q + 1 < routines => vec![4, if r.one_in(4) { 9 } else { 8 }, q + 1 + r.below(routines - q - 1)],
                 9 => vec![4, 11, first + r.below(count)],
@@ -127,6 +127,7 @@ fn shuffle(r: &mut Random, text: &mut Vec<u8>) {
             Write(h) => vec![4, 2, handles[h]],
             Take(h) => vec![4, 5, handles[h]],
             Give(h) => vec![4, 6, handles[h]],
+            Taker(h) => vec![4, 13, handles[h]],
             Point(h, g) => vec![4, 7, handles[h], handles[g]],
             Call(q, a) => named(8, q, a),
             Start(q, a) => named(9, q, a),

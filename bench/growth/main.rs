@@ -52,6 +52,14 @@ fn in_order(n: usize) -> Vec<u8> {
     text(1, 1, &[(vec![], vec![vec![9, 1], vec![12]]), (vec![[1, 1, 0], [2, 1, 0]], body)])
 }
 
+/// The same with each second block TAKER, READ, GIVE: a table with both kinds of hold.
+fn both_holds(n: usize) -> Vec<u8> {
+    let blocks = [vec![5, 1], vec![1, 0], vec![4, 1], vec![2, 0], vec![6, 1], vec![13, 1], vec![1, 0], vec![6, 1]];
+    let mut body: Vec<Line> = (0..n - 3).map(|i| blocks[i % 8].clone()).collect();
+    body.push(vec![12]);
+    text(1, 1, &[(vec![], vec![vec![9, 1], vec![12]]), (vec![[1, 1, 0], [2, 1, 0]], body)])
+}
+
 /// Two routines of `n` statements together: blocks of four, each of which jumps to the block above it, from the last block to the
 /// first, and the only access at the end of that way. What is known of a statement has to go against the order, block by block.
 fn against_order(n: usize) -> Vec<u8> {
@@ -134,6 +142,7 @@ fn times() {
     }
     for n in [16, 32, 64, 128, 192, 256, 320, 384, 448, 512] {
         println!("in-order {n} {:.2}", time(&in_order(n)));
+        println!("both-holds {n} {:.2}", time(&both_holds(n)));
         println!("against-order {n} {:.2}", time(&against_order(n)));
     }
     for each in 1..=8 {

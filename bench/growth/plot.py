@@ -5,7 +5,7 @@ import sys
 from math import ceil, floor, log10
 
 WIDTH, HEIGHT = 400, 250
-COLOURS = ["#1f5fa8", "#c0392b"]
+COLOURS = ["#1f5fa8", "#c0392b", "#2e7d32"]
 
 
 def read(path):
@@ -122,7 +122,8 @@ def main():
         Panel(90, 50, "Class exercise, by threads", "threads started, ten statements each (log scale of time)",
               [("the proved check", f["threads"]), ("Spin, search of all states (compiling not counted)", f.get("spin", []))], sizes, True, why, notes),
         Panel(600, 50, "The check, by statements", "statements, two routines",
-              [("blocks of TAKE, READ, ADD, WRITE, GIVE", f["in-order"]), ("jumps against the order, one access at the end", f["against-order"])],
+              [("blocks of TAKE, READ, ADD, WRITE, GIVE", f["in-order"]), ("jumps against the order, one access at the end", f["against-order"]),
+               ("each second block TAKER, READ, GIVE", f["both-holds"])],
               [0, 128, 256, 384, 512], False),
         Panel(90, 490, "The check, by handles", "handles, in 16 routines of 32 statements", [("the proved check", f["handles"])], [0, 32, 64, 96, 128], False),
         Panel(600, 490, "The check, by routines", "routines, 512 statements in all", [("the proved check", f["routines"])], [0, 8, 16, 24, 32], False),

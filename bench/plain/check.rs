@@ -3,6 +3,7 @@
 //! - Flow goes through the routines callers first, effects and given-up locks callees first: once each, and by handles, not by statements.
 //! - A run of statements without jump, target or CALL is one place. Held sets go upwards through the runs that are reached, with the callee's at its first CALL, by
 //!   a set of runs still to look at, of which the lowest is next; a run that nothing leads to is looked at when its routine has no other.
+//! - Both held sets of C-18 are one number, held in either way below and for writing above, and so one solve: the rules take each bit by itself.
 //! - Futures are asked for at STARTs alone, so only routines with a START, or a CALL that leads to one, are walked: callers first, statements downwards. Where
 //!   a jump goes back, one walk along the ways finds the runs that lead to each other, which have one set; it takes as long as there are runs, however they jump.
 //! - What a START can precede (C-13) is known by routine where that is all of it, else by run: one walk along the ways from each START and each CALL that
@@ -82,24 +83,31 @@ fn effects(t: &Table, flow: &[u64; 128]) -> ([Effect; 32], [u16; 32]) {
 /// is `held & keep | gain`; these and `last` are filled in when it is first looked at. Of the runs that CALL one routine each has the next one's head.
 #[derive(Clone, Copy)]
 struct Run {
-    held: u16,
+    held: u32,
+    keep: u32,
+    gain: u32,
     last: u16,
-    keep: u16,
-    gain: u16,
     next_caller: u16,
     routine: u8,
 }
+
+/// Locks held in either way and for writing.
+const fn both(locks: u16) -> u32 {
+    locks as u32 * 0x1_0001
+}
+
+const EITHER: u32 = 0xffff;
 
 const NONE: u16 = u16::MAX;
 
 struct Held<'a> {
     t: &'a Table,
-    locks: &'a [[u16; 2]; 128],
+    locks: &'a [[u32; 2]; 128],
     given: &'a [u16; 32],
     /// By head.
     runs: Vec<Run>,
     /// What is held before each routine's RETURNs.
-    returns: [u16; 32],
+    returns: [u32; 32],
     /// By routine: the head of a run that CALLs it.
     callers: [u16; 32],
     /// Runs to look at, those never looked at, and the routines that have some.
@@ -108,20 +116,20 @@ struct Held<'a> {
     stirred: u32,
 }
 
-/// What a TAKE and a GIVE through each handle add and remove.
-fn lock_sets(flow: &[u64; 128], handles: usize) -> [[u16; 2]; 128] {
+/// What a TAKE and a GIVE through each handle add and remove; a TAKER adds what lies in `EITHER`.
+fn lock_sets(flow: &[u64; 128], handles: usize) -> [[u32; 2]; 128] {
     let mut sets = [[0; 2]; 128];
     for (set, &locks) in sets.iter_mut().zip(&flow[..handles]) {
         let one = locks & locks.wrapping_sub(1) == 0;
-        *set = [if one { locks as u16 } else { 0 }, locks as u16];
+        *set = [if one { both(locks as u16) } else { 0 }, both(locks as u16)];
     }
     sets
 }
 
 impl<'a> Held<'a> {
-    fn new(t: &'a Table, locks: &'a [[u16; 2]; 128], given: &'a [u16; 32]) -> Held<'a> {
-        let all = t.all_locks();
-        let runs = vec![Run { held: all, last: 0, keep: all, gain: 0, next_caller: NONE, routine: 0 }; t.body.len()];
+    fn new(t: &'a Table, locks: &'a [[u32; 2]; 128], given: &'a [u16; 32]) -> Held<'a> {
+        let all = both(t.all_locks());
+        let runs = vec![Run { held: all, keep: all, gain: 0, last: 0, next_caller: NONE, routine: 0 }; t.body.len()];
         Held { t, locks, given, runs, returns: [all; 32], callers: [NONE; 32], todo: Places::default(), fresh: t.heads, stirred: 0 }
     }
 
@@ -133,6 +141,8 @@ impl<'a> Held<'a> {
         for s in &self.t.body[head..end] {
             if s.op == TAKE {
                 run.gain |= self.locks[s.x as usize][0];
+            } else if s.op == TAKER {
+                run.gain |= self.locks[s.x as usize][0] & EITHER;
             } else if s.op == GIVE {
                 run.keep &= !self.locks[s.x as usize][1];
                 run.gain &= !self.locks[s.x as usize][1];
@@ -147,7 +157,7 @@ impl<'a> Held<'a> {
     }
 
     /// A way leads to run `head` with this set: whether less is held there now, and the run is to be looked at.
-    fn lower(&mut self, head: usize, set: u16) -> bool {
+    fn lower(&mut self, head: usize, set: u32) -> bool {
         let run = &mut self.runs[head];
         let lower = run.held & !set != 0;
         if lower {
@@ -210,15 +220,15 @@ impl<'a> Held<'a> {
     }
 
     /// What is held behind a CALL of `q` before which `set` is.
-    fn call(&mut self, q: usize, set: u16) -> u16 {
+    fn call(&mut self, q: usize, set: u32) -> u32 {
         if self.lower(self.t.routines[q].first as usize, set) || self.stirred >> q & 1 == 1 {
             self.settle(q);
         }
-        self.returns[q] | set & !self.given[q]
+        self.returns[q] | set & !both(self.given[q])
     }
 
     /// `set` is held before a RETURN of `r`: where that changes something, the runs that CALL `r` are to be looked at.
-    fn close(&mut self, r: usize, set: u16) {
+    fn close(&mut self, r: usize, set: u32) {
         if self.returns[r] & !set == 0 {
             return;
         }
@@ -504,7 +514,7 @@ impl Findings {
 }
 
 /// Counts and common locks by handle, then by cell.
-fn findings(t: &Table, flow: &[u64; 128], locks: &[[u16; 2]; 128], runs: &[Run], preceded: &Preceded) -> Findings {
+fn findings(t: &Table, flow: &[u64; 128], locks: &[[u32; 2]; 128], runs: &[Run], preceded: &Preceded) -> Findings {
     let all = t.all_locks();
     let mut found = Findings { reads: [[0; 8]; 8], writes: [[0; 8]; 8], common: [[all; 8]; 8], strays: 0, stray: Places::default() };
     let (mut common, mut head) = ([all; 128], 0);
@@ -515,11 +525,13 @@ fn findings(t: &Table, flow: &[u64; 128], locks: &[[u16; 2]; 128], runs: &[Run],
         for s in head..end {
             let (op, x) = (t.body[s].op, t.body[s].x as usize);
             match op {
-                READ | WRITE => common[x] &= held | left_out,
+                READ => common[x] &= held as u16 | left_out,
+                WRITE => common[x] &= (held >> 16) as u16 | left_out,
                 START => left_out = 0,
                 TAKE => held |= locks[x][0],
+                TAKER => held |= locks[x][0] & EITHER,
                 GIVE => {
-                    if locks[x][0] & held == 0 {
+                    if locks[x][0] & held & EITHER == 0 {
                         found.stray.add(s);
                         found.strays += 1;
                     }

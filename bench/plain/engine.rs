@@ -17,7 +17,8 @@ pub fn run(text: &[u8], schedule: &[u8], answers: &mut [u8], cells: &mut [i32]) 
     }
     let mut frames = vec![[[0u16; 10]; 32]; 16];
     let (mut depth, mut accumulator, mut started) = ([0usize; 16], [0i32; 16], 1);
-    let mut owner = [u8::MAX; 16];
+    // By lock: its readers as bits, and above them its writer.
+    let mut holds = [0u32; 16];
     cells[..count].fill(0);
     let open = |frame: &mut [u16; 10], q: usize, arguments: [u16; 4]| {
         frame[0] = q as u16;
@@ -60,8 +61,18 @@ pub fn run(text: &[u8], schedule: &[u8], answers: &mut [u8], cells: &mut [i32]) 
             match l.op {
                 TAKE => {
                     let k = frame[slot(l.x as usize)] as usize;
-                    if owner[k] == u8::MAX {
-                        owner[k] = n as u8;
+                    if holds[k] == 0 {
+                        holds[k] = 0x1_0000 << n;
+                        0
+                    } else {
+                        frame[1] -= 1;
+                        16
+                    }
+                }
+                TAKER => {
+                    let k = frame[slot(l.x as usize)] as usize;
+                    if holds[k] & (0xffff_0000 | 1 << n) == 0 {
+                        holds[k] |= 1 << n;
                         0
                     } else {
                         frame[1] -= 1;
@@ -70,8 +81,8 @@ pub fn run(text: &[u8], schedule: &[u8], answers: &mut [u8], cells: &mut [i32]) 
                 }
                 GIVE => {
                     let k = frame[slot(l.x as usize)] as usize;
-                    if owner[k] == n as u8 {
-                        owner[k] = u8::MAX;
+                    if holds[k] >> n & 0x1_0001 != 0 {
+                        holds[k] &= !(0x1_0001 << n);
                         0
                     } else {
                         frame[1] -= 1;

@@ -33,7 +33,7 @@ static void add(uint8_t *line, int j, long change) {
 
 static long number(void) {
     static const long edges[] = {-1, 16, 17, 31, 32, 33, 63, 64, 65, 127, 128, 129, 511, 512, 513, 999999, -99999};
-    return below(4) ? (long)below(below(3) ? 13 : 40) : edges[below(sizeof edges / sizeof *edges)];
+    return below(4) ? (long)below(below(3) ? 15 : 40) : edges[below(sizeof edges / sizeof *edges)];
 }
 
 /* A new line at place i; lines behind it move. */
@@ -57,12 +57,12 @@ static size_t routine_line(const uint8_t *text, size_t lines, long s) {
 }
 
 static void random_statement(uint8_t *line) {
-    unsigned op = 1 + below(12);
+    unsigned op = 1 + below(13);
     put(line, 0, 4);
     put(line, 1, op);
     for (int j = 2; j < 8; j++)
         put(line, j, 0);
-    if (op < 12)
+    if (op != 12)
         put(line, 2, below(3) ? (long)below(12) : (long)below(64));
     if (op == 7 || ((op == 8 || op == 9) && below(2)))
         put(line, 3, below(12));

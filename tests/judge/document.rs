@@ -1,5 +1,7 @@
 //! Documents 01 and 02 in plain Rust, written from the documents alone: the reader, the report and the engine.
 
+use std::collections::BTreeSet;
+
 pub const LONGEST: usize = 32977;
 
 #[derive(Clone, Copy, Debug, PartialEq)]
@@ -9,6 +11,7 @@ pub enum Op {
     Set(i32),
     Add(i32),
     Take(usize),
+    Taker(usize),
     Give(usize),
     Point(usize, usize),
     Call(usize, [usize; 4]),
@@ -230,6 +233,7 @@ fn statement(t: &Table, s: usize, l: &[i32; 8]) -> Option<Op> {
         10 => target().and_then(|x| zeros(3).map(|_| Op::Jump(x))),
         11 => target().and_then(|x| zeros(3).map(|_| Op::JumpZero(x))),
         12 => zeros(2).map(|_| Op::Return),
+        13 => of_kind(l[2], true).and_then(|h| zeros(3).map(|_| Op::Taker(h))),
         _ => None,
     }
 }
@@ -244,6 +248,10 @@ impl Table {
             Op::Call(q, _) | Op::Start(q, _) => Some(q),
             _ => None,
         }
+    }
+
+    pub fn has_taker(&self) -> bool {
+        self.statements.iter().any(|op| matches!(op, Op::Taker(_)))
     }
 
     fn nexts(&self, s: usize) -> Vec<usize> {
@@ -267,6 +275,8 @@ pub struct Findings {
     pub common: Vec<Set>,
     /// The common locks before C-13: no access is left out.
     pub common_of_all: Vec<Set>,
+    /// Not the document's: the common locks if a hold of either kind did at a WRITE too.
+    pub common_either: Vec<Set>,
     pub stray: Vec<usize>,
     /// Some READ or WRITE has more than one cell in its handle's set.
     pub several: bool,
@@ -397,6 +407,38 @@ fn start_can_precede(t: &Table) -> Vec<bool> {
     })
 }
 
+/// Held sets: from all locks down, every way in intersected. C-18: "TAKE adds to both sets; TAKER adds only to the second set", the one of holds of either
+/// kind; with `writing` the first, that of the holds for writing.
+fn held(t: &Table, flow: &[Set], gives: &[Set], writing: bool) -> Vec<Set> {
+    let n = t.statements.len();
+    let all: Set = (1 << t.locks) - 1;
+    until_still(vec![all; n], |held| {
+        let mut new = vec![all; n];
+        new[t.routines[0].first] = 0;
+        for s in 0..n {
+            let after = match t.statements[s] {
+                Op::Take(h) if flow[h].count_ones() == 1 => held[s] | flow[h],
+                Op::Taker(h) if !writing && flow[h].count_ones() == 1 => held[s] | flow[h],
+                Op::Give(h) => held[s] & !flow[h],
+                Op::Call(q, _) => {
+                    let at_returns = t.body(q).filter(|&x| t.statements[x] == Op::Return).fold(all, |a, x| a & held[x]);
+                    at_returns | held[s] & !gives[q]
+                }
+                _ => held[s],
+            };
+            for x in t.nexts(s) {
+                new[x] &= after;
+            }
+            match t.statements[s] {
+                Op::Call(q, _) => new[t.routines[q].first] &= held[s],
+                Op::Start(q, _) => new[t.routines[q].first] = 0,
+                _ => {}
+            }
+        }
+        *held = new;
+    })
+}
+
 pub fn findings(t: &Table) -> Findings {
     let n = t.statements.len();
     let all: Set = (1 << t.locks) - 1;
@@ -449,34 +491,12 @@ pub fn findings(t: &Table) -> Findings {
             }
         }
     });
-    // Held sets: from all locks down, every way in intersected.
-    let held = until_still(vec![all; n], |held| {
-        let mut new = vec![all; n];
-        new[t.routines[0].first] = 0;
-        for s in 0..n {
-            let after = match t.statements[s] {
-                Op::Take(h) if flow[h].count_ones() == 1 => held[s] | flow[h],
-                Op::Give(h) => held[s] & !flow[h],
-                Op::Call(q, _) => {
-                    let at_returns = t.body(q).filter(|&x| t.statements[x] == Op::Return).fold(all, |a, x| a & held[x]);
-                    at_returns | held[s] & !gives[q]
-                }
-                _ => held[s],
-            };
-            for x in t.nexts(s) {
-                new[x] &= after;
-            }
-            match t.statements[s] {
-                Op::Call(q, _) => new[t.routines[q].first] &= held[s],
-                Op::Start(q, _) => new[t.routines[q].first] = 0,
-                _ => {}
-            }
-        }
-        *held = new;
-    });
+    let (either, writing) = (held(t, &flow, &gives, false), held(t, &flow, &gives, true));
+    assert!((0..n).all(|s| writing[s] & !either[s] == 0), "C-18: a lock held for writing is held");
+    let at_access = |s: usize| if matches!(t.statements[s], Op::Write(_)) { writing[s] } else { either[s] };
     let several = t.statements.iter().any(|op| matches!(*op, Op::Read(h) | Op::Write(h) if flow[h].count_ones() > 1));
     let counted = start_can_precede(t);
-    let mut found = Findings { reads: vec![], writes: vec![], shared: vec![], common: vec![], common_of_all: vec![], stray: vec![], several, passes, helpers_first };
+    let mut found = Findings { reads: vec![], writes: vec![], shared: vec![], common: vec![], common_of_all: vec![], common_either: vec![], stray: vec![], several, passes, helpers_first };
     for x in 0..t.cells {
         let has = |set: Set| set >> x & 1 == 1;
         let accesses = |write: bool| {
@@ -489,9 +509,11 @@ pub fn findings(t: &Table) -> Findings {
                 .collect::<Vec<_>>()
         };
         let (reads, writes) = (accesses(false), accesses(true));
-        // C-13: "Leave an access out of the common locks if no START can precede it."
-        found.common.push(reads.iter().chain(&writes).filter(|&&s| counted[s]).fold(all, |a, &s| a & held[s]));
-        found.common_of_all.push(reads.iter().chain(&writes).fold(all, |a, &s| a & held[s]));
+        // C-13: "Leave an access out of the common locks if no START can precede it." C-18: "surely held for writing at each counted WRITE and surely held
+        // either way at each counted READ".
+        found.common.push(reads.iter().chain(&writes).filter(|&&s| counted[s]).fold(all, |a, &s| a & at_access(s)));
+        found.common_either.push(reads.iter().chain(&writes).filter(|&&s| counted[s]).fold(all, |a, &s| a & either[s]));
+        found.common_of_all.push(reads.iter().chain(&writes).fold(all, |a, &s| a & at_access(s)));
         found.reads.push(reads.len());
         found.writes.push(writes.len());
         found.shared.push((0..n).any(|s| match t.statements[s] {
@@ -506,7 +528,7 @@ pub fn findings(t: &Table) -> Findings {
     assert_eq!((&reads, &writes), (&found.reads, &found.writes), "C-20: the walk and the counts cell by cell");
     for s in 0..n {
         if let Op::Give(h) = t.statements[s] {
-            if flow[h].count_ones() != 1 || flow[h] & held[s] == 0 {
+            if flow[h].count_ones() != 1 || flow[h] & either[s] == 0 {
                 found.stray.push(s);
             }
         }
@@ -548,17 +570,30 @@ pub struct Thread {
     pub frames: Vec<Frame>,
 }
 
+/// The threads that hold a lock for writing, and those that hold it for reading; ended ones too.
+#[derive(Clone, Debug, Default, PartialEq, Eq, Hash)]
+pub struct Lock {
+    pub writing: BTreeSet<usize>,
+    pub reading: BTreeSet<usize>,
+}
+
+impl Lock {
+    pub fn held_by(&self, n: usize) -> bool {
+        self.writing.contains(&n) || self.reading.contains(&n)
+    }
+}
+
 #[derive(Clone, Debug, PartialEq, Eq, Hash)]
 pub struct State {
     pub threads: Vec<Thread>,
     pub cells: Vec<i32>,
-    pub locks: Vec<Option<usize>>,
+    pub locks: Vec<Lock>,
 }
 
 impl State {
     pub fn start(t: &Table) -> State {
         let first = State::frame(t, 0, &[]);
-        State { threads: vec![Thread { accumulator: 0, frames: vec![first] }], cells: vec![0; t.cells], locks: vec![None; t.locks] }
+        State { threads: vec![Thread { accumulator: 0, frames: vec![first] }], cells: vec![0; t.cells], locks: vec![Lock::default(); t.locks] }
     }
 
     fn frame(t: &Table, r: usize, arguments: &[usize]) -> Frame {
@@ -595,19 +630,33 @@ impl State {
                 let sum = self.threads[n].accumulator as i64 + v as i64;
                 self.threads[n].accumulator = sum.min(2_147_483_647).max(-2_147_483_648) as i32;
             }
+            // C-18: "TAKE waits while anybody holds it."
             Op::Take(h) => {
                 let k = refers(h);
-                if self.locks[k].is_some() {
+                let lock = &mut self.locks[k];
+                if !lock.writing.is_empty() || !lock.reading.is_empty() {
                     return 16;
                 }
-                self.locks[k] = Some(n);
+                lock.writing.insert(n);
             }
+            // C-18: "It waits (16) while a thread holds the lock for writing or this thread holds it at all."
+            Op::Taker(h) => {
+                let k = refers(h);
+                let lock = &mut self.locks[k];
+                if !lock.writing.is_empty() || lock.held_by(n) {
+                    return 16;
+                }
+                lock.reading.insert(n);
+            }
+            // C-18: "GIVE ends either hold".
             Op::Give(h) => {
                 let k = refers(h);
-                if self.locks[k] != Some(n) {
+                let lock = &mut self.locks[k];
+                if !lock.held_by(n) {
                     return 17;
                 }
-                self.locks[k] = None;
+                lock.writing.remove(&n);
+                lock.reading.remove(&n);
             }
             Op::Point(h, g) => {
                 let value = refers(g);
@@ -647,6 +696,16 @@ impl State {
         0
     }
 
+    /// Each lock is free, or one thread holds it for writing, or some hold it for reading.
+    pub fn one_writer_or_readers(&self) -> bool {
+        self.locks.iter().all(|lock| lock.writing.is_empty() || lock.writing.len() == 1 && lock.reading.is_empty())
+    }
+
+    /// The most threads that hold one lock for reading.
+    pub fn readers(&self) -> usize {
+        self.locks.iter().map(|lock| lock.reading.len()).max().unwrap_or(0)
+    }
+
     /// The access that thread `n` stands before: the cell, and whether it writes.
     pub fn access(&self, t: &Table, n: usize) -> Option<(usize, bool)> {
         let frame = self.threads[n].frames.last()?;
@@ -662,7 +721,7 @@ impl State {
         let accesses: Vec<_> = (0..self.threads.len()).filter_map(|n| self.access(t, n)).collect();
         let race = accesses.iter().enumerate().any(|(i, a)| accesses[i + 1..].iter().any(|b| a.0 == b.0 && (a.1 || b.1)));
         let stray = (0..self.threads.len()).any(|n| match self.threads[n].frames.last().map(|f| t.statements[f.next]) {
-            Some(Op::Give(h)) => self.locks[self.refers(t, n, h)] != Some(n),
+            Some(Op::Give(h)) => !self.locks[self.refers(t, n, h)].held_by(n),
             _ => false,
         });
         race || stray

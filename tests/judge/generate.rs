@@ -64,7 +64,7 @@ fn turned(own: &[Own], bodies: &[Vec<Vec<i64>>]) -> (Vec<Own>, Vec<Vec<Vec<i64>>
     let statements = moved(&|q| bodies[q].len());
     let change = |l: &Vec<i64>| -> Vec<i64> {
         match l[0] {
-            1 | 2 | 5 | 6 | 7 => l[..1].iter().copied().chain(l[1..].iter().map(|&h| handles[h as usize])).collect(),
+            1 | 2 | 5 | 6 | 7 | 13 => l[..1].iter().copied().chain(l[1..].iter().map(|&h| handles[h as usize])).collect(),
             8 | 9 => [l[0], (count as i64 - l[1]) % count as i64].into_iter().chain(l[2..].iter().map(|&h| handles[h as usize])).collect(),
             10 | 11 => vec![l[0], statements[l[1] as usize]],
             _ => l.clone(),
@@ -154,16 +154,19 @@ fn parts(r: &mut Random, largest: bool) -> (usize, usize, Vec<Own>, Vec<Vec<Vec<
     (cells, locks, own, bodies)
 }
 
-/// A block: READ or WRITE of a cell, mostly between TAKE and GIVE of its lock; handles 0 and 1 of the routine are cells, 2 and 3 their locks.
+/// A block: READ or WRITE of a cell, mostly between TAKE or TAKER and GIVE of its lock, and mostly READ behind TAKER; handles 0 and 1 of the routine are
+/// cells, 2 and 3 their locks.
 fn guarded_block(r: &mut Random, base: i64, body: &mut Vec<Vec<i64>>) {
     let cell = r.below(2) as i64;
     let lock = base + 2 + if r.one_in(8) { 1 - cell } else { cell };
     let guarded = !r.one_in(6);
+    let reading = guarded && r.one_in(2);
     if guarded {
-        body.push(vec![5, lock]);
+        body.push(vec![if reading { 13 } else { 5 }, lock]);
     }
     for _ in 0..1 + r.below(2) {
-        body.push(vec![1 + r.below(2) as i64, base + cell]);
+        let write = if reading { r.one_in(8) } else { r.one_in(2) };
+        body.push(vec![1 + write as i64, base + cell]);
         if r.one_in(2) {
             body.push(vec![4, 1]);
         }
@@ -171,6 +174,13 @@ fn guarded_block(r: &mut Random, base: i64, body: &mut Vec<Vec<i64>>) {
     if guarded && !r.one_in(12) {
         body.push(vec![6, lock]);
     }
+}
+
+/// One of a routine's two lock handles may now refer to either lock; what it gives up through them is left out, as a GIVE of either lock is stray.
+fn either_lock(r: &mut Random, base: i64, body: &mut Vec<Vec<i64>>) {
+    let h = r.below(2) as i64;
+    body.retain(|l| l[0] != 6);
+    body.insert(r.below(body.len() + 1), vec![7, base + 2 + h, base + 3 - h]);
 }
 
 /// A table text of two cells and two locks: routine 0 starts up to three threads, all access the cells, most under their locks.
@@ -190,6 +200,9 @@ pub fn guarded(r: &mut Random) -> Vec<u8> {
         }
         for _ in 0..1 + r.below(2) {
             guarded_block(r, base, &mut body);
+        }
+        if r.one_in(6) {
+            either_lock(r, base, &mut body);
         }
         // The end: mostly RETURN; else routine 0 stands still, and another goes round.
         let first = bodies.iter().map(|b| b.len()).sum::<usize>();
@@ -277,7 +290,7 @@ fn statement(r: &mut Random, q: usize, routines: usize, own: &[Own], bases: &[us
     let set = vec![3, r.below(3) as i64 - 1];
     let cell = pick(r, &own[q], bases[q], 1);
     let lock = pick(r, &own[q], bases[q], 2);
-    match r.below(14) {
+    match r.below(15) {
         0 | 1 => cell.map_or(set, |h| vec![1, h]),
         2 | 3 => cell.map_or(set, |h| vec![2, h]),
         4 => vec![4, r.below(2_000_000) as i64 % 1_099_999 - 99_999],
@@ -296,6 +309,7 @@ fn statement(r: &mut Random, q: usize, routines: usize, own: &[Own], bases: &[us
         }
         12 => vec![10 + r.below(2) as i64, (first + r.below(count)) as i64],
         13 => vec![11, (first + r.below(count)) as i64],
+        14 => lock.map_or(set, |h| vec![13, h]),
         _ => set,
     }
 }
@@ -346,7 +360,15 @@ pub fn damage(r: &mut Random, text: &mut Vec<u8>) {
         return;
     }
     let lines = text.len() / 49;
-    match r.below(9) {
+    match r.below(10) {
+        9 => {
+            // another operation, the numbers on both sides of the known ones too
+            let statements: Vec<usize> = (0..lines).filter(|&i| &text[49 * i..49 * i + 6] == b"     4").collect();
+            if !statements.is_empty() {
+                let i = statements[r.below(statements.len())];
+                text[49 * i + 6..49 * i + 12].copy_from_slice(format!("{:>6}", r.below(15)).as_bytes());
+            }
+        }
         8 => {
             // another routine named by some CALL or START
             let naming: Vec<usize> = (0..lines).filter(|&i| matches!(&text[49 * i..49 * i + 12], b"     4     8" | b"     4     9")).collect();
@@ -357,7 +379,7 @@ pub fn damage(r: &mut Random, text: &mut Vec<u8>) {
         }
         0..=4 => {
             let (i, j) = (r.below(lines), r.below(8));
-            let values = [0i64, 1, 2, 3, 4, -1, 7, 12, 13, 64, 65, 512, 999_999, -99_999, r.below(40) as i64];
+            let values = [0i64, 1, 2, 3, 4, -1, 7, 12, 13, 14, 64, 65, 512, 999_999, -99_999, r.below(40) as i64];
             let field = format!("{:>6}", values[r.below(values.len())]);
             text[49 * i + 6 * j..49 * i + 6 * j + 6].copy_from_slice(field.as_bytes());
         }

@@ -3,9 +3,9 @@
 //! Why the model is the machine of documents 01 and 02:
 //! - Each thread number is a process of its own, so Spin's scheduling gives every order of steps.
 //! - A step is one d_step, so no other thread comes between; its guard is the thread's next statement, and for TAKE also
-//!   that the lock is free. So a refused step (14, 15, 16) is one that is not taken, and the state stays.
-//! - The state is the machine's and nothing more: each frame's handle values and next statement, accumulators, cells, owners
-//!   of locks. What a closed frame held is set to 0. So both searches must count the same states, but for the one
+//!   that the lock is free, for TAKER that it has no writer and this thread is no reader of it. So a refused step (14, 15, 16) is one that is not taken, and the state stays.
+//! - The state is the machine's and nothing more: each frame's handle values and next statement, accumulators, cells, of each
+//!   lock its writer and its readers as the bits of one number. What a closed frame held is set to 0. So both searches must count the same states, but for the one
 //!   before thread 0 begins.
 //! - A READ or WRITE can always step. So if two threads stand before conflicting accesses, the step of one of them is searched
 //!   from that very state, and its assertion looks at the other threads before it moves. GIVE the same: asserted, not waited for.
@@ -66,8 +66,9 @@ fn step(t: &Table, s: usize) -> (String, String) {
         Op::Write(h) => always(format!("look({}, true); cell[{}] = acc[_pid]; {on}", value(t, h), value(t, h))),
         Op::Set(v) => always(format!("acc[_pid] = ({v}); {on}")),
         Op::Add(v) => always(format!("{}; {on}", added(v))),
-        Op::Take(h) => (format!(" && FREE({})", value(t, h)), format!("owner[{}] = _pid + 1; {on}", value(t, h))),
-        Op::Give(h) => always(format!("assert(owner[{}] == _pid + 1); owner[{}] = 0; {on}", value(t, h), value(t, h))),
+        Op::Take(h) => (format!(" && FREE({})", value(t, h)), format!("writer[{}] = _pid + 1; {on}", value(t, h))),
+        Op::Taker(h) => (format!(" && READABLE({})", value(t, h)), format!("readers[{}] = readers[{}] | (1 << _pid); {on}", value(t, h), value(t, h))),
+        Op::Give(h) => always(format!("give({}); {on}", value(t, h))),
         Op::Point(h, g) => always(format!("{} = {}; {on}", value(t, h), value(t, g))),
         Op::Call(q, a) => {
             let new = opened(t, q, &a, "FRAME(_pid)", "FRAME(_pid) - HANDLES");
@@ -99,13 +100,17 @@ fn look(t: &Table) -> String {
 }
 
 pub fn model(t: &Table, threads: usize) -> String {
+    assert!(threads <= 8, "the readers of a lock are bits of a byte");
     let depth = (0..t.routines.len()).map(|q| depth(t, q)).max().unwrap_or(0) + 1;
     let handles = t.routines.iter().map(|r| r.handles.len()).max().unwrap_or(0).max(1);
     let mut out = format!("#define THREADS {threads}\n#define DEPTH {depth}\n#define HANDLES {handles}\n");
     out += "#define FRAME(n) (((n) * DEPTH + level[n]) * HANDLES)\n";
-    out += "#ifdef NO_WAIT\n#define FREE(l) true\n#else\n#define FREE(l) (owner[l] == 0)\n#endif\n";
-    write!(out, "int cell[{}];\nbyte owner[{}];\nint acc[THREADS];\nshort at[THREADS];\nbyte level[THREADS];\n", t.cells, t.locks.max(1)).unwrap();
+    out += "#define READS(l) ((readers[l] >> _pid) & 1)\n";
+    out += "#ifdef NO_WAIT\n#define FREE(l) true\n#define READABLE(l) true\n#else\n";
+    out += "#define FREE(l) (writer[l] == 0 && readers[l] == 0)\n#define READABLE(l) (writer[l] == 0 && !READS(l))\n#endif\n";
+    write!(out, "int cell[{}];\nbyte writer[{1}];\nbyte readers[{1}];\nint acc[THREADS];\nshort at[THREADS];\nbyte level[THREADS];\n", t.cells, t.locks.max(1)).unwrap();
     out += "short back[THREADS * DEPTH];\nbyte value[THREADS * DEPTH * HANDLES];\nbyte started;\nbyte m;\n";
+    out += "inline give(l) {\n    assert(writer[l] == _pid + 1 || READS(l));\n    if\n    :: writer[l] == _pid + 1 -> writer[l] = 0\n    :: else -> readers[l] = readers[l] & ~(1 << _pid)\n    fi\n}\n";
     out += &look(t);
     out += "active [THREADS] proctype thread() {\nend:\n    do\n";
     writeln!(out, "    :: d_step {{ _pid == 0 && started == 0 -> {}at[0] = 1; started = 1 }}", opened(t, 0, &[0; 4], "FRAME(0)", "")).unwrap();

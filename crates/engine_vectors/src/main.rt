@@ -1,5 +1,5 @@
-// The runs of data/, each with its answers beside it: RR-NN is run NN of request RR, and 01 is document 01. The engine's number, its cells, and at how
-// many places of the answers it leaves what is stored; then the edges: an empty schedule, a sum at the top of the range, and buffers one too short and
+// The runs of data/, each with its answers beside it: RR-NN is run NN of request RR, and 01 is document 01. The engine's number and line, its cells, and at
+// how many places of the answers it leaves what is stored, where a refused run has no answers and so the buffer as it was; then the edges: an empty schedule, a sum at the top of the range, and buffers one too short and
 // longer than needed.
 use engine::Outcome;
 use libc::STDOUT_FILENO;
@@ -25,20 +25,24 @@ fn say_answers(answers: &[u8]) {
     say(&out[start..]);
 }
 
-// A run of the engine: its number and line, all the answers and all the cells.
-fn show(text: &[u8], schedule: &[u8], answers: &mut [u8], cells: &mut [i32]) {
-    let outcome = engine::run(text, schedule, answers, cells);
+// The number and the line of a call.
+fn say_outcome(outcome: Outcome) {
     io::print_decimal(STDOUT_FILENO, outcome.number as u64);
     say(b" line ");
     io::print_decimal(STDOUT_FILENO, outcome.line as u64);
+}
+
+// A run of the engine: its number and line, all the answers and all the cells.
+fn show(text: &[u8], schedule: &[u8], answers: &mut [u8], cells: &mut [i32]) {
+    say_outcome(engine::run(text, schedule, answers, cells));
     say_answers(answers);
     say_cells(cells);
     say(b"\n");
 }
 
-// The number of a call and the cells that it left.
+// The number and the line of a call and the cells that it left.
 fn say_left(outcome: Outcome, cells: &[i32]) {
-    io::print_decimal(STDOUT_FILENO, outcome.number as u64);
+    say_outcome(outcome);
     say_cells(cells);
 }
 
@@ -57,7 +61,7 @@ fn count_same(answers: &[u8], stored: &[u8]) -> usize {
     i
 }
 
-// A run of the engine: its number, all the cells, and at how many places the answers, with what is behind them, are as stored.
+// A run of the engine: its number and line, all the cells, and at how many places the answers, with what is behind them, are as stored.
 fn show_beside(text: &[u8], schedule: &[u8], stored: &[u8], answers: &mut [u8], cells: &mut [i32]) {
     say_left(engine::run(text, schedule, answers, cells), cells);
     say(b"; ");
@@ -167,5 +171,6 @@ fn show_edges() {
 fn main() {
     show_runs(b'0', b'1', 41);
     show_runs(b'1', b'7', 21);
+    show_runs(b'1', b'8', 84);
     show_edges();
 }
