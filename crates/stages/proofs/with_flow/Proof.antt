@@ -1,45 +1,36 @@
+-- `stages::with_flow` meets its contract. Assumes nothing.
+use native.Mathlib.Omega.{arith}
 use borrow.Author.Needs.{needs}
 use Rattle.stages.proofs.with_flow.Statement.{statement}
 use Rattle.stages.proofs.with_flow.Tie as tie
-use Rattle.stages.proofs.with_flow.Reads as reads
-use Rattle.stages.proofs.with_flow.Lts as lts
-use Rattle.declarations.proofs.first_statements.Reads as first-statements-reads
-use Rattle.own_holds.proofs.own_holds.Reads as own-holds-reads
-use Rattle.stages.proofs.with_held.Reads as with-held-reads
 
--- src/lib.rt:185:17
 first-statements-requires : tie.Need-first-statements-requires
 first-statements-requires c κs = search needs
 
--- src/lib.rt:186:35
 slice-aggregate-own-holds : tie.Need-slice-aggregate-own-holds
 slice-aggregate-own-holds c = search needs
 
--- src/lib.rt:186:5
 own-holds-requires : tie.Need-own-holds-requires
-own-holds-requires c κs = ?
+own-holds-requires c κs = let lent = c .before .before .before .before .before .before .before .before .pre .1 .1 in
+    (c .before .before .before .before .before .before .before .before .pre .0, (c .before .before .before .first-statements .ensures, (c .before .before .before .before .before .before .before .before .pre .1 .0, (lent .edges-long, (lent .zeros, lent .places-long)))))
 
--- src/lib.rt:187:24
 slice-aggregate-with-held : tie.Need-slice-aggregate-with-held
 slice-aggregate-with-held c = search needs
 
--- src/lib.rt:187:5
 with-held-requires : tie.Need-with-held-requires
-with-held-requires c κs = ?
+with-held-requires c κs = let lent = c .before .before .before .before .before .before .before .before .before .before .before .before .before .before .before .before .before .pre .1 .1 in
+    let held = c .before .before .before .before .before .before .before .before .own-holds in
+    (c .before .before .before .before .before .before .before .before .before .before .before .before .before .before .before .before .before .pre .0, (c .before .before .before .before .before .before .before .before .before .before .before .before .first-statements .ensures, (c .before .before .before .before .before .before .before .before .before .before .before .before .before .before .before .before .before .pre .1 .0, (held .ensures, (omega (arith, lent .work-long, held .kept .1 .1 .1 .1 .0), omega (arith, lent .edges-long, held .kept .1 .1 .1 .0))))))
 
--- src/lib.rt:171:1
 same-length : tie.Need-same-length
 same-length c = search needs
 
--- src/lib.rt:171:1
 same-length-2 : tie.Need-same-length-2
 same-length-2 c = search needs
 
--- src/lib.rt:171:1
 same-length-3 : tie.Need-same-length-3
 same-length-3 c = search needs
 
--- src/lib.rt:171:1
 returns : tie.Need-returns
 returns c = search needs
 
