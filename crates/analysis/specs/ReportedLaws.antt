@@ -26,7 +26,7 @@ use Rattle.analysis.specs.declared.Answer.{Answer}
 use Rattle.analysis.specs.declared.Examined.{Examined}
 use Rattle.stages.specs.Lent.{Lent}
 use Rattle.findings.specs.FoundLaws.{statements-few}
-use Rattle.stages.specs.SetsLaws.{handles-few, routines-few}
+use Rattle.table.specs.AcceptedLaws.{handles-few, routines-few}
 
 -- ---- what was printed: a report is never empty, so no byte means no room
 

@@ -2,12 +2,13 @@
 -- it, its report or a step, and the numbers that the definitions give. Assumes nothing.
 use Prim.Native.Nat.{ℕ}
 use mathlib.Core.Path.{_≡_, refl}
-use mathlib.Core.List.{List, [], _∷_, _++_}
+use mathlib.Core.List.{List, [], _∷_, _++_, map}
 use lib.IntN.{ℤ, pos, negsuc}
 use lib.Count.{trailingZeros}
 use Rattle.table.specs.Table.{Table, tableOf}
-use Rattle.machine.specs.State.{State, Frame, thread}
+use Rattle.machine.specs.State.{State, Frame, thread, entered, opened, start}
 use Rattle.machine.specs.Step.{step, after, saturate}
+use Rattle.machine.specs.Engine.{engineStep, answers}
 use Rattle.table.specs.declared.Verdict.{Verdict}
 use Rattle.table.specs.declared.Verdict.the-variants.{Accepted, Refused}
 use Rattle.report.specs.Report.{reportLines, textOf}
@@ -25,10 +26,11 @@ use Rattle.sets.specs.Set.{with, lowest}
 use Rattle.report.specs.Cases.{Case, row, asComputed}
 use Rattle.report.specs.Notebook.{notebook}
 
--- what is asked of a table: its report, or what a step of a thread makes of a state
+-- what is asked of a table: its report, what a step of a thread makes of a state, or the engine's answers to a schedule
 pub data Question : Type 0 where
   report : Question
   stepped : State → ℕ → Question
+  ran : List ℕ → Question
 
 pub record Entry : Type 0 where
   pub lines : List (List ℤ)
@@ -39,10 +41,11 @@ abbrev pub nextOf : List Frame → List ℤ
 nextOf [] = []
 nextOf (f ∷ fs) = pos (f .next) ∷ []
 
--- the report's lines, or the thread's accumulator and next statement after the step
+-- the report's lines, or the thread's accumulator and next statement after the step, or the answers
 unfoldable pub answer : Table → Question → List (List ℤ)
 answer t report = reportLines t
 answer t (stepped state n) = let new = thread (after state (step t state n)) n in (new .accumulator ∷ nextOf (new .frames)) ∷ []
+answer t (ran schedule) = map pos (answers t (start t) schedule) ∷ []
 
 -- an entry's input is a table text: its lines as bytes
 abbrev pub textIn : Entry → List ℕ
@@ -53,10 +56,10 @@ abbrev pub said : Verdict → List (List ℤ) → List (List ℤ)
 said Accepted ls = ls
 said (Refused number line) ls = (pos 50 ∷ pos number ∷ pos line ∷ pos 0 ∷ pos 0 ∷ pos 0 ∷ pos 0 ∷ pos 0 ∷ []) ∷ []
 
-unfoldable pub answers : List Entry → List (List (List ℤ))
-unfolding answer asComputed step saturate with lowest digitsFrom decimalOf signedOf spacedOf fieldOf decimalText signedText fieldText fieldsOf allInField lineText pieces unused headerOk lengthOk leading leadingOk things handleFieldsOk sameAbove handleOrderOk parameterOk handleOk routineOk sumOk ownHandle ownOfKind ownStatement argumentOk argumentsOk namingOk pointOk operationOk statementOk badStatement endOk namedBy gather namesOf namesIn isNamed walk reached isAcyclic namingVerdict statementVerdict declarationVerdict numbersVerdict textOk verdict readingOf textOf
-answers [] = []
-answers (e ∷ es) = said (verdict (textIn e)) (answer (tableOf (numbersOf (textIn e))) (e .question)) ∷ answers es
+unfoldable pub computed : List Entry → List (List (List ℤ))
+unfolding answer asComputed step saturate answers engineStep start opened entered with lowest digitsFrom decimalOf signedOf spacedOf fieldOf decimalText signedText fieldText fieldsOf allInField lineText pieces unused headerOk lengthOk leading leadingOk things handleFieldsOk sameAbove handleOrderOk parameterOk handleOk routineOk sumOk ownHandle ownOfKind ownStatement argumentOk argumentsOk namingOk pointOk operationOk statementOk badStatement endOk namedBy gather namesOf namesIn isNamed walk reached isAcyclic namingVerdict statementVerdict declarationVerdict numbersVerdict textOk verdict readingOf textOf
+computed [] = []
+computed (e ∷ es) = said (verdict (textIn e)) (answer (tableOf (numbersOf (textIn e))) (e .question)) ∷ computed es
 
 abbrev pub results : List Entry → List (List (List ℤ))
 results [] = []
@@ -91,9 +94,63 @@ jumps a next = record {
   result = (a ∷ pos next ∷ []) ∷ [];
 }
 
-abbrev pub entries : List Entry
-entries = reported notebook ++ (sums ++ (jumps (pos 0) 2 ∷ jumps (negsuc 0) 1 ∷ []))
+-- ---- C-18, each sentence about the machine
 
-pub notebook-holds : answers entries ≡ results entries
-unfolding answers trailingZeros
+-- thread 0 alone, with the operations a, b and c on its one lock: 5 is TAKE, 6 GIVE, 13 TAKER
+abbrev pub alone-on-lock : ℕ → ℕ → ℕ → List (List ℤ)
+alone-on-lock a b c =
+    row 1 1 1 1 1 4 0 0 ∷ row 2 0 2 1 0 0 0 0 ∷ row 3 4 0 0 0 0 0 0 ∷ row 4 a 0 0 0 0 0 0 ∷ row 4 b 0 0 0 0 0 0 ∷ row 4 c 0 0 0 0 0 0 ∷ row 4 12 0 0 0 0 0 0 ∷ []
+
+abbrev pub alone : ℕ → ℕ → ℕ → List ℤ → Entry
+alone a b c answered = record { lines = alone-on-lock a b c; question = ran (0 ∷ 0 ∷ 0 ∷ []); result = answered ∷ [] }
+
+-- thread 0 STARTs routine 1 twice, TAKEs the lock and gives it up; the two take it for reading, and then GIVE it up (6), or end with it (12)
+abbrev pub displays : ℕ → ℕ → List ℕ → List ℤ → Entry
+displays then operand schedule answered = record {
+  lines =
+      row 1 1 1 2 2 8 0 0
+      ∷ row 2 0 2 1 0 0 0 0
+      ∷ row 2 1 2 1 0 0 0 0
+      ∷ row 3 5 0 0 0 0 0 0
+      ∷ row 3 3 0 0 0 0 0 0
+      ∷ row 4 9 1 0 0 0 0 0
+      ∷ row 4 9 1 0 0 0 0 0
+      ∷ row 4 5 0 0 0 0 0 0
+      ∷ row 4 6 0 0 0 0 0 0
+      ∷ row 4 12 0 0 0 0 0 0
+      ∷ row 4 13 1 0 0 0 0 0
+      ∷ row 4 then operand 0 0 0 0 0
+      ∷ row 4 12 0 0 0 0 0 0
+      ∷ [];
+  question = ran schedule;
+  result = answered ∷ [];
+}
+
+abbrev pub for-reading : List Entry
+for-reading =
+    -- "Display threads only read and should not wait for one another"
+    displays 6 1 (0 ∷ 0 ∷ 1 ∷ 2 ∷ []) (pos 0 ∷ pos 0 ∷ pos 0 ∷ pos 0 ∷ [])
+    -- "TAKE waits while anybody holds it": for both readers, and a GIVE ends the one hold alone
+    ∷ displays 6 1 (0 ∷ 0 ∷ 1 ∷ 2 ∷ 0 ∷ 1 ∷ 0 ∷ 2 ∷ 0 ∷ []) (pos 0 ∷ pos 0 ∷ pos 0 ∷ pos 0 ∷ pos 16 ∷ pos 0 ∷ pos 16 ∷ pos 0 ∷ pos 0 ∷ [])
+    -- TAKER "waits (16) while a thread holds the lock for writing"
+    ∷ displays 6 1 (0 ∷ 0 ∷ 0 ∷ 1 ∷ 0 ∷ 1 ∷ []) (pos 0 ∷ pos 0 ∷ pos 0 ∷ pos 16 ∷ pos 0 ∷ pos 0 ∷ [])
+    -- "An ended thread keeps its locks", one held for reading too: TAKE waits, TAKER does not
+    ∷ displays 12 0 (0 ∷ 0 ∷ 1 ∷ 1 ∷ 0 ∷ 2 ∷ []) (pos 0 ∷ pos 0 ∷ pos 0 ∷ pos 0 ∷ pos 16 ∷ pos 0 ∷ [])
+    -- "or this thread holds it at all": for reading, for writing
+    ∷ alone 13 13 12 (pos 0 ∷ pos 16 ∷ pos 16 ∷ [])
+    ∷ alone 5 13 12 (pos 0 ∷ pos 16 ∷ pos 16 ∷ [])
+    -- and TAKE waits for this thread's own reading
+    ∷ alone 13 5 12 (pos 0 ∷ pos 16 ∷ pos 16 ∷ [])
+    -- "GIVE ends either hold": the second one finds none
+    ∷ alone 13 6 6 (pos 0 ∷ pos 0 ∷ pos 17 ∷ [])
+    ∷ alone 5 6 6 (pos 0 ∷ pos 0 ∷ pos 17 ∷ [])
+    -- "Check 9 accepts operation 13", and not 14
+    ∷ alone 13 14 12 (row 50 9 4 0 0 0 0 0)
+    ∷ []
+
+abbrev pub entries : List Entry
+entries = reported notebook ++ (sums ++ (jumps (pos 0) 2 ∷ jumps (negsuc 0) 1 ∷ for-reading))
+
+pub notebook-holds : computed entries ≡ results entries
+unfolding computed trailingZeros
 notebook-holds = refl

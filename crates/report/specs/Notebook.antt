@@ -167,9 +167,100 @@ held-over-call = record {
   report = row 51 0 0 1 0 1 0 0 ∷ row 59 0 0 0 0 0 0 0 ∷ [];
 }
 
+-- ---- document 02, C-18: locks held for reading
+
+-- main WRITEs a cell between its `main` and GIVE, a started routine READs it between its `other` and GIVE: 5 is TAKE, 13 is TAKER. "A lock is now common to a
+-- cell if it is surely held for writing at each counted WRITE and surely held either way at each counted READ"
+abbrev pub under : ℕ → ℕ → ℕ → ℕ → Case
+under main other common unguarded = record {
+  lines =
+      row 1 1 1 4 2 9 0 0
+      ∷ row 2 0 1 1 0 0 0 0
+      ∷ row 2 0 2 1 0 0 0 0
+      ∷ row 2 1 1 1 0 0 0 0
+      ∷ row 2 1 2 1 0 0 0 0
+      ∷ row 3 5 0 0 0 0 0 0
+      ∷ row 3 4 0 0 0 0 0 0
+      ∷ row 4 9 1 0 0 0 0 0
+      ∷ row 4 main 1 0 0 0 0 0
+      ∷ row 4 2 0 0 0 0 0 0
+      ∷ row 4 6 1 0 0 0 0 0
+      ∷ row 4 12 0 0 0 0 0 0
+      ∷ row 4 other 3 0 0 0 0 0
+      ∷ row 4 1 2 0 0 0 0 0
+      ∷ row 4 6 3 0 0 0 0 0
+      ∷ row 4 12 0 0 0 0 0 0
+      ∷ [];
+  report = row 51 0 1 1 1 common unguarded 0 ∷ row 59 unguarded 0 0 0 0 0 0 ∷ [];
+}
+
+-- "TAKE adds to both sets; TAKER adds only to the second set": TAKE of lock 0, TAKER of lock 1, and an access
+abbrev pub both-kinds : ℕ → ℕ → ℕ → ℕ → Case
+both-kinds access reads writes common = record {
+  lines =
+      row 1 1 2 3 2 6 0 0
+      ∷ row 2 0 1 1 0 0 0 0
+      ∷ row 2 0 2 1 0 0 0 0
+      ∷ row 2 0 2 1 1 0 0 0
+      ∷ row 3 5 0 0 0 0 0 0
+      ∷ row 3 1 0 0 0 0 0 0
+      ∷ row 4 9 1 0 0 0 0 0
+      ∷ row 4 5 1 0 0 0 0 0
+      ∷ row 4 13 2 0 0 0 0 0
+      ∷ row 4 access 0 0 0 0 0 0
+      ∷ row 4 12 0 0 0 0 0 0
+      ∷ row 4 12 0 0 0 0 0 0
+      ∷ [];
+  report = row 51 0 reads writes 0 common 0 0 ∷ row 59 0 0 0 0 0 0 0 ∷ [];
+}
+
+-- "under TAKE's one-lock condition": a TAKER whose handle may be lock 0 or 1 adds none
+abbrev pub taker-of-two : Case
+taker-of-two = record {
+  lines =
+      row 1 1 2 3 2 6 0 0
+      ∷ row 2 0 1 1 0 0 0 0
+      ∷ row 2 0 2 1 0 0 0 0
+      ∷ row 2 0 2 1 1 0 0 0
+      ∷ row 3 5 0 0 0 0 0 0
+      ∷ row 3 1 0 0 0 0 0 0
+      ∷ row 4 9 1 0 0 0 0 0
+      ∷ row 4 7 1 2 0 0 0 0
+      ∷ row 4 13 1 0 0 0 0 0
+      ∷ row 4 1 0 0 0 0 0 0
+      ∷ row 4 12 0 0 0 0 0 0
+      ∷ row 4 12 0 0 0 0 0 0
+      ∷ [];
+  report = row 51 0 1 0 0 0 0 0 ∷ row 59 0 0 0 0 0 0 0 ∷ [];
+}
+
+-- "GIVE ends either hold; it is stray unless its flow set is one lock surely held either way": behind a TAKER the first GIVE is not stray, the second is
+abbrev pub gives-reading : Case
+gives-reading = record {
+  lines =
+      row 1 1 1 2 2 7 0 0
+      ∷ row 2 0 1 1 0 0 0 0
+      ∷ row 2 0 2 1 0 0 0 0
+      ∷ row 3 6 0 0 0 0 0 0
+      ∷ row 3 1 0 0 0 0 0 0
+      ∷ row 4 9 1 0 0 0 0 0
+      ∷ row 4 13 1 0 0 0 0 0
+      ∷ row 4 1 0 0 0 0 0 0
+      ∷ row 4 6 1 0 0 0 0 0
+      ∷ row 4 6 1 0 0 0 0 0
+      ∷ row 4 12 0 0 0 0 0 0
+      ∷ row 4 12 0 0 0 0 0 0
+      ∷ [];
+  report = row 51 0 1 0 0 1 0 0 ∷ row 52 4 0 0 0 0 0 0 ∷ row 59 0 1 0 0 0 0 0 ∷ [];
+}
+
+abbrev pub for-reading : List Case
+for-reading =
+    under 5 13 1 0 ∷ under 13 13 0 1 ∷ under 13 5 0 1 ∷ both-kinds 2 0 1 1 ∷ both-kinds 1 1 0 3 ∷ taker-of-two ∷ gives-reading ∷ []
+
 abbrev pub notebook : List Case
 notebook =
-    the-table ∷ main-reads ∷ writes-before ∷ with-itself ∷ both-guarded ∷ take-of-two ∷ give-of-two ∷ held-over-call ∷ []
+    the-table ∷ main-reads ∷ writes-before ∷ with-itself ∷ both-guarded ∷ take-of-two ∷ give-of-two ∷ held-over-call ∷ for-reading
 
 pub notebook-holds : asComputed notebook ≡ asGiven notebook
 unfolding asComputed

@@ -18,7 +18,8 @@ use Rattle.machine.specs.FrameLaws.{frames-suffice}
 use Rattle.machine.specs.Step.{run}
 use Rattle.machine.specs.Engine.{engineRun}
 use Rattle.machine.specs.EngineLaws.{unlimited, engine-runs-as-machine}
-use Rattle.machine.specs.Words.{Safe}
+use Rattle.machine.specs.Words.{HoldsIn, Holds, Safe}
+use Rattle.machine.specs.LockLaws.{one-writer-or-readers}
 use Rattle.analysis.specs.Reported.{tableIn, loadable}
 use Rattle.loader.specs.LoadLaws.{loadable-safe}
 
@@ -31,6 +32,11 @@ engine-is-machine text ns = engine-runs-as-machine (tableIn text) (start (tableI
 pub accepted-frames-suffice : (text : List ℕ) → verdict text ≡ Accepted → (ns : List ℕ) (n : ℕ)
     → length (thread (run (tableIn text) (start (tableIn text)) ns) n .frames) ≤ 32
 accepted-frames-suffice text e ns n = frames-suffice (accepted text e) ns n
+
+-- C-18, of every text, whatever its report says: after every list of thread numbers a lock has one writer or readers alone
+pub one-writer-or-readers-run : (text : List ℕ) (ns : List ℕ) (k m n : ℕ) → HoldsIn true (run (tableIn text) (start (tableIn text)) ns) m k
+    → Holds (run (tableIn text) (start (tableIn text)) ns) n k → m ≡ n
+one-writer-or-readers-run text ns k m n writes holds = one-writer-or-readers (run (tableIn text) (start (tableIn text)) ns) k m n writes holds
 
 -- a text that may be loaded is safe after every list of thread numbers, on the machine with no limit
 pub loaded-machine-safe : (text : List ℕ) → loadable text ≡ true → (ns : List ℕ) → Safe (tableIn text) (run (tableIn text) (start (tableIn text)) ns)
