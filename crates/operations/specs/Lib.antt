@@ -1,2 +1,4 @@
 pub mod Step
+pub mod Turns
 pub mod Operation
+pub mod TurnLaws

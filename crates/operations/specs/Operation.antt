@@ -8,11 +8,13 @@ use lib.ListN.{getD, set}
 use Rattle.table.specs.Table.{Table}
 use Rattle.table.specs.declared.Arguments.{Arguments}
 use Rattle.machine.specs.Engine.{frameSlots}
-use Rattle.run_state.specs.Lists.{countsIn, startedIn, ownersIn, countPlace, startedPlace, putOwner}
+use Rattle.run_state.specs.Lists.{countsIn, startedIn, locksIn, countPlace, startedPlace, putLock}
 use Rattle.run_state.specs.Shown.{Entered}
 use Rattle.operations.specs.declared.Place.{Place}
 use Rattle.operations.specs.declared.Move.{Move}
 use Rattle.operations.specs.declared.Move.the-variants.{To, Stopped}
+use Rattle.operations.specs.declared.turns.LockTurn.{LockTurn}
+use Rattle.operations.specs.declared.turns.LockTurn.the-variants.{Passes, Stops}
 
 -- a place within the limits of a run
 pub record Placed (at : Place) : Type 0 where
@@ -34,12 +36,19 @@ Older at older = (count : ℕ) → Newest at count → count ≡ older + 1
 abbrev pub on : Place → Move
 on at = To (at .next + 1)
 
--- TAKE and GIVE of lock k: refused with `number` unless its owner is `needed`, and then nothing changes; else its owner becomes `owner`, and the
--- thread goes on
-abbrev pub Locked : ℕ → ℕ → ℕ → ℕ → Place → ℕ → Move → List ℕ → List ℕ → Type 0
-Locked number needed owner k at locks r words words′ =
-    record { blocked : getD (ownersIn locks words) k 0 ≡ needed → ⊥; answer-is : r ≡ Stopped number; words-are : words′ ≡ words }
-    ⊎ record { free : getD (ownersIn locks words) k 0 ≡ needed; answer-is : r ≡ on at; words-are : words′ ≡ putOwner locks words k owner }
+-- a lock's word that can be stored
+abbrev pub Storable : LockTurn → Type 0
+Storable (Passes word) = word < 4294967296
+Storable (Stops number) = Unit {0}
+
+-- a turn at lock k: the lock has the new word, and the thread goes on; or the step is refused, and nothing changes
+abbrev pub Handed : LockTurn → ℕ → Place → ℕ → Move → List ℕ → List ℕ → Type 0
+Handed (Passes word) k at locks r words words′ = (r ≡ on at) × (words′ ≡ putLock locks words k word)
+Handed (Stops number) k at locks r words words′ = (r ≡ Stopped number) × (words′ ≡ words)
+
+-- TAKE, TAKER or GIVE of lock k, by what it does to the lock's word
+abbrev pub Turned : (ℕ → ℕ → LockTurn) → ℕ → Place → ℕ → Move → List ℕ → List ℕ → Type 0
+Turned turn k at locks r words words′ = Handed (turn (at .thread) (getD (locksIn locks words) k 0)) k at locks r words words′
 
 -- CALL: the frame goes on, and a new one stands in the next slot
 pub record Called (t : Table) (first from end : ℕ) (arguments : Arguments) (at : Place) (r : Move) (words words′ values values′ : List ℕ) : Type 0 where

@@ -1,25 +1,28 @@
 -- `operations::hand_over` meets its contract. Assumes nothing.
-use mathlib.Core.Path.{refl, sym, _∙_}
-use mathlib.Core.Logic.{inl, inr}
+use mathlib.Core.Path.{refl}
 use borrow.Author.Needs.{needs}
 use Rattle.operations.proofs.hand_over.Statement.{statement}
 use Rattle.operations.proofs.hand_over.Tie as tie
 
-add-after : tie.Need-add-after
-add-after c = search needs
+enum-known-turn : tie.Need-enum-known-turn
+enum-known-turn c = search needs
 
-owner-at-requires : tie.Need-owner-at-requires
-owner-at-requires c κs = search needs
+put-lock-requires : tie.Need-put-lock-requires
+put-lock-requires c κs = let p = c .before .before .before .before .pre in (p .1, rw (c .before .before .turn .given .1) at (p .2))
+
+going-on-requires : tie.Need-going-on-requires
+going-on-requires c κs = search needs
+
+enum-known-turn-2 : tie.Need-enum-known-turn-2
+enum-known-turn-2 c = search needs
 
 returns : tie.Need-returns
-returns c = inl (record { blocked = λ q. c .if1 .taken (c .before .owner-at .ensures ∙ q); answer-is = refl; words-are = refl })
-
-put-owner-requires : tie.Need-put-owner-requires
-put-owner-requires c κs = search needs
+returns c = rw (c .before .before .before .before .turn .given .1) (c .going-on .ensures, c .before .put-lock .ensures)
 
 returns-2 : tie.Need-returns-2
-returns-2 c = inr (record { free = sym (c .before .before .before .owner-at .ensures) ∙ c .before .before .if1 .left; answer-is = refl; words-are = c .put-owner .ensures })
+returns-2 c = rw (c .before .turn2 .given .1) (refl, refl)
 
 pub hand-over-spec : {M : Type 1} → statement M
 hand-over-spec =
-    tie.close (tie.spec add-after owner-at-requires returns put-owner-requires returns-2)
+    tie.close
+    (tie.spec enum-known-turn put-lock-requires going-on-requires enum-known-turn-2 returns returns-2)
