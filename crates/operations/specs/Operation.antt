@@ -14,7 +14,7 @@ use Rattle.operations.specs.declared.Place.{Place}
 use Rattle.operations.specs.declared.Move.{Move}
 use Rattle.operations.specs.declared.Move.the-variants.{To, Stopped}
 use Rattle.operations.specs.declared.turns.LockTurn.{LockTurn}
-use Rattle.operations.specs.declared.turns.LockTurn.the-variants.{Passes, Stops}
+use Rattle.operations.specs.declared.turns.LockTurn.the-variants.{Pass, Stop}
 
 -- a place within the limits of a run
 pub record Placed (at : Place) : Type 0 where
@@ -38,13 +38,13 @@ on at = To (at .next + 1)
 
 -- a lock's word that can be stored
 abbrev pub Storable : LockTurn → Type 0
-Storable (Passes word) = word < 4294967296
-Storable (Stops number) = Unit {0}
+Storable (Pass word) = word < 4294967296
+Storable (Stop number) = Unit {0}
 
 -- a turn at lock k: the lock has the new word, and the thread goes on; or the step is refused, and nothing changes
 abbrev pub Handed : LockTurn → ℕ → Place → ℕ → Move → List ℕ → List ℕ → Type 0
-Handed (Passes word) k at locks r words words′ = (r ≡ on at) × (words′ ≡ putLock locks words k word)
-Handed (Stops number) k at locks r words words′ = (r ≡ Stopped number) × (words′ ≡ words)
+Handed (Pass word) k at locks r words words′ = (r ≡ on at) × (words′ ≡ putLock locks words k word)
+Handed (Stop number) k at locks r words words′ = (r ≡ Stopped number) × (words′ ≡ words)
 
 -- TAKE, TAKER or GIVE of lock k, by what it does to the lock's word
 abbrev pub Turned : (ℕ → ℕ → LockTurn) → ℕ → Place → ℕ → Move → List ℕ → List ℕ → Type 0

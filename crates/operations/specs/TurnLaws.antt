@@ -12,11 +12,11 @@ use Rattle.sets.specs.Set.{has, one, with, minus, union}
 use Rattle.sets.specs.SetLaws.{has-one, has-with, has-beyond, has-positive, one-is, union-below, minus-below}
 use Rattle.machine.specs.State.{Holder, writer, readers, free, among, without}
 use Rattle.machine.specs.Step.{Turn, passes, stops, taking, reading, giving}
-use Rattle.machine.specs.LockLaws.{OnPass, Stops as StopsBy, taking-stops, reading-stops, giving-stops}
+use Rattle.machine.specs.LockLaws.{OnPass, Stops, taking-stops, reading-stops, giving-stops}
 use Rattle.run_state.specs.Shown.{readersWord, wordOf, AllLow, Low}
 use Rattle.run_state.specs.LockWordLaws.{readers-has, readers-below, without-low, without-word}
 use Rattle.operations.specs.declared.turns.LockTurn.{LockTurn}
-use Rattle.operations.specs.declared.turns.LockTurn.the-variants.{Passes, Stops}
+use Rattle.operations.specs.declared.turns.LockTurn.the-variants.{Pass, Stop}
 use Rattle.operations.specs.Turns.{takingWord, readingWord, givingWord}
 use Rattle.operations.specs.Operation.{Storable}
 
@@ -28,7 +28,7 @@ element-below i l = rw (one-is i (omega arith)) (pow-lt l)
 pub taking-storable : (n word : ℕ) → n < 16 → Storable (takingWord n word)
 taking-storable n word low = go (eqb word 0)
   where
-    go : (b : Bool) → Storable (cond b (Passes (one (16 + n))) (Stops 16))
+    go : (b : Bool) → Storable (cond b (Pass (one (16 + n))) (Stop 16))
     go true = omega (arith, element-below (16 + n) (omega (arith, low)))
     go false = tt
 
@@ -36,7 +36,7 @@ pub reading-storable : (n word : ℕ) → n < 16 → word < 4294967296 → Stora
 unfolding with
 reading-storable n word low l = go (ltb word 65536) (has word n)
   where
-    go : (b c : Bool) → Storable (cond b (cond c (Stops 16) (Passes (union word (one n)))) (Stops 16))
+    go : (b c : Bool) → Storable (cond b (cond c (Stop 16) (Pass (union word (one n)))) (Stop 16))
     go true true = tt
     go true false = omega (arith, union-below 32 l (element-below n (omega (arith, low))))
     go false c = tt
@@ -44,7 +44,7 @@ reading-storable n word low l = go (ltb word 65536) (has word n)
 pub giving-storable : (n word : ℕ) → word < 4294967296 → Storable (givingWord n word)
 giving-storable n word l = go (has word (16 + n)) (has word n)
   where
-    go : (b c : Bool) → Storable (cond b (Passes 0) (cond c (Passes (minus word (one n))) (Stops 17)))
+    go : (b c : Bool) → Storable (cond b (Pass 0) (cond c (Pass (minus word (one n))) (Stop 17)))
     go true c = omega arith
     go false true = omega (arith, minus-below 32 (one n) l)
     go false false = tt
@@ -53,14 +53,14 @@ giving-storable n word l = go (has word (16 + n)) (has word n)
 
 -- a turn of the machine, with the word of who holds the lock then
 abbrev pub turnWord : Turn → LockTurn
-turnWord (passes new) = Passes (wordOf new)
-turnWord (stops number) = Stops number
+turnWord (passes new) = Pass (wordOf new)
+turnWord (stops number) = Stop number
 
 -- what an operation of the machine, refused with `number` alone, does to who holds a lock is what it does to the lock's word
 pub record InWords (number : ℕ) (turn : ℕ → Holder → Turn) (word : ℕ → ℕ → LockTurn) : Type 0 where
   pub shown : (n : ℕ) (h : Holder) → n < 16 → Low h → word n (wordOf h) ≡ turnWord (turn n h)
   pub low : (n : ℕ) (h : Holder) → n < 16 → Low h → OnPass (turn n h) Low
-  pub refusal : (n : ℕ) (h : Holder) → StopsBy number (turn n h)
+  pub refusal : (n : ℕ) (h : Holder) → Stops number (turn n h)
 
 writer-has : (m i : ℕ) → m < 16 → has (one (16 + m)) i ≡ eqb i (16 + m)
 writer-has m i l = has-one (16 + m) i (omega (arith, l))
@@ -91,7 +91,7 @@ read-in-words = record { shown = shown; low = low; refusal = reading-stops }
     shown n (writer m) b l = rw (high m l)
     shown n (readers ms) b l = rw (lt-ltb (readersWord ms) 65536 (omega (arith, readers-below ms l)), readers-has ms l n) (go (among n ms))
       where
-        go : (c : Bool) → cond c (Stops 16) (Passes (with (readersWord ms) n)) ≡ turnWord (cond c (stops 16) (passes (readers (n ∷ ms))))
+        go : (c : Bool) → cond c (Stop 16) (Pass (with (readersWord ms) n)) ≡ turnWord (cond c (stops 16) (passes (readers (n ∷ ms))))
         go true = refl
         go false = refl
 
@@ -109,14 +109,14 @@ give-in-words = record { shown = shown; low = low; refusal = giving-stops }
     shown : (n : ℕ) (h : Holder) → n < 16 → Low h → givingWord n (wordOf h) ≡ turnWord (giving n h)
     shown n (writer m) b l = rw (writer-has m (16 + n) l, writer-has m n l) (go (ℕ-discrete m n))
       where
-        go : Dec (m ≡ n) → cond (eqb (16 + n) (16 + m)) (Passes 0) (cond (eqb n (16 + m)) (Passes (minus (one (16 + m)) (one n))) (Stops 17))
+        go : Dec (m ≡ n) → cond (eqb (16 + n) (16 + m)) (Pass 0) (cond (eqb n (16 + m)) (Pass (minus (one (16 + m)) (one n))) (Stop 17))
             ≡ turnWord (cond (eqb m n) (passes free) (stops 17))
         go (yes e) = rw (eq-eqb m n e, eq-eqb (16 + n) (16 + m) (omega (arith, e)))
         go (no q) = rw (ne-eqb m n q, ne-eqb (16 + n) (16 + m) (λ e. omega (arith, q, e)), ne-eqb n (16 + m) (λ e. omega (arith, b, e)))
     shown n (readers ms) b l =
         rw (has-beyond 16 (16 + n) (readers-below ms l) (omega arith), readers-has ms l n, without-word n ms b l) (go (among n ms))
       where
-        go : (c : Bool) → cond c (Passes (readersWord (without n ms))) (Stops 17) ≡ turnWord (cond c (passes (readers (without n ms))) (stops 17))
+        go : (c : Bool) → cond c (Pass (readersWord (without n ms))) (Stop 17) ≡ turnWord (cond c (passes (readers (without n ms))) (stops 17))
         go true = refl
         go false = refl
 

@@ -132,11 +132,11 @@ fn hand_over(turn: LockTurn, k: usize, at: Place, locks: usize, words: &mut [u32
     ensures { λ r. ⌜ Handed turn k at locks r (now (words .entry)) (now (words .exit)) ⌝ }
 {
     match turn {
-        LockTurn::Passes(word) => {
+        LockTurn::Pass(word) => {
             put_lock(words, locks, k, word);
             going_on(at)
         }
-        LockTurn::Stops(number) => Move::Stopped(number),
+        LockTurn::Stop(number) => Move::Stopped(number),
     }
 }
 

@@ -9,8 +9,8 @@ use sets::with_element;
 
 // What becomes of a lock that a thread asks for or gives up: its word then, or the number of a refusal.
 pub enum LockTurn {
-    Passes(u64),
-    Stops(u32),
+    Pass(u64),
+    Stop(u32),
 }
 
 // TAKE of thread `n`: it waits while anybody holds the lock.
@@ -19,9 +19,9 @@ pub fn taking(word: u64, n: usize) -> LockTurn
     ensures { λ r. ⌜ r ≡ takingWord n word ⌝ }
 {
     if word == 0 {
-        return LockTurn::Passes(one(16 + n));
+        return LockTurn::Pass(one(16 + n));
     }
-    LockTurn::Stops(16)
+    LockTurn::Stop(16)
 }
 
 // TAKER of thread `n`: it waits while a thread holds the lock for writing, or this one holds it at all.
@@ -30,11 +30,11 @@ pub fn reading(word: u64, n: usize) -> LockTurn
 {
     if word < 65536 {
         if has(word, n) {
-            return LockTurn::Stops(16);
+            return LockTurn::Stop(16);
         }
-        return LockTurn::Passes(with_element(word, n));
+        return LockTurn::Pass(with_element(word, n));
     }
-    LockTurn::Stops(16)
+    LockTurn::Stop(16)
 }
 
 // GIVE of thread `n`: it ends either hold.
@@ -43,10 +43,10 @@ pub fn giving(word: u64, n: usize) -> LockTurn
     ensures { λ r. ⌜ r ≡ givingWord n word ⌝ }
 {
     if has(word, 16 + n) {
-        return LockTurn::Passes(0);
+        return LockTurn::Pass(0);
     }
     if has(word, n) {
-        return LockTurn::Passes(difference(word, one(n)));
+        return LockTurn::Pass(difference(word, one(n)));
     }
-    LockTurn::Stops(17)
+    LockTurn::Stop(17)
 }

@@ -80,6 +80,7 @@ fn operate(
         Statement::Jump(target) => Move::To(target.statement),
         Statement::JumpZero(target) => operations::jump_zero(target.statement, at, registers),
         Statement::Return => operations::close(at, words),
+        Statement::TakeRead(h) => operations::take_read(h.number, at, sizes.locks, words, values),
     }
 }
 
