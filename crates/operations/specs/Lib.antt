@@ -1,4 +1,2 @@
 pub mod Step
-pub mod Turns
 pub mod Operation
-pub mod TurnLaws

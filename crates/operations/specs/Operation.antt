@@ -8,13 +8,11 @@ use lib.ListN.{getD, set}
 use Rattle.table.specs.Table.{Table}
 use Rattle.table.specs.declared.Arguments.{Arguments}
 use Rattle.machine.specs.Engine.{frameSlots}
-use Rattle.run_state.specs.Lists.{countsIn, startedIn, locksIn, countPlace, startedPlace, putLock}
+use Rattle.run_state.specs.Lists.{countsIn, startedIn, countPlace, startedPlace}
 use Rattle.run_state.specs.Shown.{Entered}
 use Rattle.operations.specs.declared.Place.{Place}
 use Rattle.operations.specs.declared.Move.{Move}
 use Rattle.operations.specs.declared.Move.the-variants.{To, Stopped}
-use Rattle.operations.specs.declared.turns.LockTurn.{LockTurn}
-use Rattle.operations.specs.declared.turns.LockTurn.the-variants.{Pass, Stop}
 
 -- a place within the limits of a run
 pub record Placed (at : Place) : Type 0 where
@@ -35,20 +33,6 @@ Older at older = (count : ℕ) → Newest at count → count ≡ older + 1
 -- the step ran, and its frame goes on
 abbrev pub on : Place → Move
 on at = To (at .next + 1)
-
--- a lock's word that can be stored
-abbrev pub Storable : LockTurn → Type 0
-Storable (Pass word) = word < 4294967296
-Storable (Stop number) = Unit {0}
-
--- a turn at lock k: the lock has the new word, and the thread goes on; or the step is refused, and nothing changes
-abbrev pub Handed : LockTurn → ℕ → Place → ℕ → Move → List ℕ → List ℕ → Type 0
-Handed (Pass word) k at locks r words words′ = (r ≡ on at) × (words′ ≡ putLock locks words k word)
-Handed (Stop number) k at locks r words words′ = (r ≡ Stopped number) × (words′ ≡ words)
-
--- TAKE, TAKER or GIVE of lock k, by what it does to the lock's word
-abbrev pub Turned : (ℕ → ℕ → LockTurn) → ℕ → Place → ℕ → Move → List ℕ → List ℕ → Type 0
-Turned turn k at locks r words words′ = Handed (turn (at .thread) (getD (locksIn locks words) k 0)) k at locks r words words′
 
 -- CALL: the frame goes on, and a new one stands in the next slot
 pub record Called (t : Table) (first from end : ℕ) (arguments : Arguments) (at : Place) (r : Move) (words words′ values values′ : List ℕ) : Type 0 where

@@ -1,6 +1,5 @@
-// The operations of document 01 on the lists of a run, one function each, and what a step is answered with.
+// The operations of document 01 on the lists of a run, but for those on locks, one function each, and what a step is answered with.
 mod numbers;
-mod turns;
 
 ghost use mathlib.Core.Path.{_≡_};
 ghost use mathlib.Core.Bool.{cond};
@@ -13,8 +12,7 @@ ghost use Rattle.machine.specs.Engine.{frameSlots};
 ghost use Rattle.run_state.specs.Lists.{countsIn, startedIn, accumulatorsIn, cellsIn, countPlace, putCell};
 ghost use Rattle.run_state.specs.Shown.{valuePlace, HandlesThere, Naming};
 ghost use Rattle.operations.specs.declared.Move.the-variants.{To, Closed};
-ghost use Rattle.operations.specs.Operation.{Placed, Newest, Older, on, Storable, Handed, Turned, Called, Started};
-ghost use Rattle.operations.specs.Turns.{takingWord, readingWord, givingWord};
+ghost use Rattle.operations.specs.Operation.{Placed, Newest, Older, on, Called, Started};
 use numbers::is_zero;
 use numbers::saturating_sum;
 use run_state::frames::enter;
@@ -23,19 +21,13 @@ use run_state::frames::value_of;
 use run_state::places::accumulator_of;
 use run_state::places::cell_at;
 use run_state::places::go_to;
-use run_state::places::lock_at;
 use run_state::places::put_accumulator;
 use run_state::places::put_cell;
 use run_state::places::put_count;
-use run_state::places::put_lock;
 use run_state::places::put_started;
 use run_state::places::started_of;
 use table::Arguments;
 use table::Statement;
-use turns::LockTurn;
-use turns::giving;
-use turns::reading;
-use turns::taking;
 
 // What a step is answered with: the statement that ran, the statement that was refused and the number 16 to 18 of its refusal, or that the thread
 // has no next statement: 14, it is not started, or 15, it has ended.
@@ -124,56 +116,6 @@ pub fn add(number: i32, at: Place, registers: &mut [i32; 80]) -> Move
     let sum = saturating_sum(accumulator_of(registers, at.thread), number);
     put_accumulator(registers, at.thread, sum);
     going_on(at)
-}
-
-// Lock `k` becomes what a thread's turn at it says, and the thread goes on; or it is refused, and nothing changes.
-fn hand_over(turn: LockTurn, k: usize, at: Place, locks: usize, words: &mut [u32; 545]) -> Move
-    requires { ⌜ Placed at × (locks ≤ 16) × Storable turn ⌝ }
-    ensures { λ r. ⌜ Handed turn k at locks r (now (words .entry)) (now (words .exit)) ⌝ }
-{
-    match turn {
-        LockTurn::Pass(word) => {
-            put_lock(words, locks, k, word);
-            going_on(at)
-        }
-        LockTurn::Stop(number) => Move::Stopped(number),
-    }
-}
-
-// TAKE: "the free lock becomes this thread's"; 16 while anybody holds it.
-pub fn take(h: usize, at: Place, locks: usize, words: &mut [u32; 545], values: &[u8; 4096]) -> Move
-    requires { ⌜ Placed at × (locks ≤ 16) ⌝ }
-    ensures { λ r. ⌜ Turned takingWord (getD (now (values .entry)) (valuePlace (at .slot) h) 0) at locks r (now (words .entry)) (now (words .exit)) ⌝ }
-{
-    let k = value_of(values, at.slot, h);
-    let turn = taking(lock_at(words, locks, k), at.thread);
-    hand_over(turn, k, at, locks, words)
-}
-
-// TAKER: "takes a lock for reading"; 16 while a thread holds it for writing or this thread holds it at all.
-pub fn take_read(
-    h: usize,
-    at: Place,
-    locks: usize,
-    words: &mut [u32; 545],
-    values: &[u8; 4096],
-) -> Move
-    requires { ⌜ Placed at × (locks ≤ 16) ⌝ }
-    ensures { λ r. ⌜ Turned readingWord (getD (now (values .entry)) (valuePlace (at .slot) h) 0) at locks r (now (words .entry)) (now (words .exit)) ⌝ }
-{
-    let k = value_of(values, at.slot, h);
-    let turn = reading(lock_at(words, locks, k), at.thread);
-    hand_over(turn, k, at, locks, words)
-}
-
-// GIVE: "ends either hold"; 17 where this thread holds the lock in neither way.
-pub fn give(h: usize, at: Place, locks: usize, words: &mut [u32; 545], values: &[u8; 4096]) -> Move
-    requires { ⌜ Placed at × (locks ≤ 16) ⌝ }
-    ensures { λ r. ⌜ Turned givingWord (getD (now (values .entry)) (valuePlace (at .slot) h) 0) at locks r (now (words .entry)) (now (words .exit)) ⌝ }
-{
-    let k = value_of(values, at.slot, h);
-    let turn = giving(lock_at(words, locks, k), at.thread);
-    hand_over(turn, k, at, locks, words)
 }
 
 // POINT: "h refers to what g refers to".

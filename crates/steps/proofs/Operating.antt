@@ -30,10 +30,10 @@ use Rattle.operations.specs.declared.Move.{Move}
 use Rattle.operations.specs.declared.Move.the-variants.{To, Closed, Stopped}
 use Rattle.operations.specs.declared.Step.{Step}
 use Rattle.operations.specs.declared.Step.the-variants.{Ran, Refused}
-use Rattle.operations.specs.declared.turns.LockTurn.{LockTurn}
-use Rattle.operations.specs.declared.turns.LockTurn.the-variants.{Pass, Stop}
-use Rattle.operations.specs.Turns.{takingWord, readingWord, givingWord}
-use Rattle.operations.specs.Operation.{Placed, on, Handed, Turned, Called, Started}
+use Rattle.locks.specs.declared.LockTurn.{LockTurn}
+use Rattle.locks.specs.declared.LockTurn.the-variants.{Pass, Stop}
+use Rattle.operations.specs.Operation.{Placed, on, Called, Started}
+use Rattle.locks.specs.Turns.{takingWord, readingWord, givingWord, Handed, Turned}
 use Rattle.steps.specs.Stepped.{Stepped, Here, stored, Storable, answerBy, Operated}
 use Rattle.steps.specs.StepLaws.{Top, top, placed, read-step, write-step, set-step, add-step, jump-step, jump-zero-step, return-step, AtLock, take-step, take-read-step, give-step, point-step, call-room, call-step, start-refused, start-step}
 

@@ -26,10 +26,10 @@ use Rattle.machine.specs.FrameLaws.{CallNext, Room, Rooms, call-has-room, engin
 use Rattle.operations.specs.declared.Step.the-variants.{Ran, Refused, Nothing}
 use Rattle.operations.specs.Step.{stepOf}
 use Rattle.operations.specs.Operation.{Placed}
-use Rattle.operations.specs.declared.turns.LockTurn.{LockTurn}
-use Rattle.operations.specs.declared.turns.LockTurn.the-variants.{Pass, Stop}
-use Rattle.operations.specs.Turns.{takingWord, readingWord, givingWord}
-use Rattle.operations.specs.TurnLaws.{turnWord, InWords, take-in-words, read-in-words, give-in-words}
+use Rattle.locks.specs.declared.LockTurn.{LockTurn}
+use Rattle.locks.specs.declared.LockTurn.the-variants.{Pass, Stop}
+use Rattle.locks.specs.Turns.{takingWord, readingWord, givingWord}
+use Rattle.locks.specs.TurnLaws.{turnWord, InWords, take-in-words, read-in-words, give-in-words}
 use Rattle.run_state.specs.Shown.{Arrays, arrays, valuePlace, Low, ShowsFrame, ShowsFrames, Lengths, ShowsLocks, Shows, ShowsBounded, Entered}
 use Rattle.run_state.specs.ShownLaws.{Kept, kept-both, kept-next, kept-value, kept-entered, frame-kept, frames-kept, one-thread, added, own-apart, opened-shown}
 use Rattle.run_state.specs.LockWordLaws.{word-at, locks-set}

@@ -15,10 +15,9 @@ use Rattle.machine.specs.Step.{Turn, passes, stops, taking, reading, giving}
 use Rattle.machine.specs.LockLaws.{OnPass, Stops, taking-stops, reading-stops, giving-stops}
 use Rattle.run_state.specs.Shown.{readersWord, wordOf, AllLow, Low}
 use Rattle.run_state.specs.LockWordLaws.{readers-has, readers-below, without-low, without-word}
-use Rattle.operations.specs.declared.turns.LockTurn.{LockTurn}
-use Rattle.operations.specs.declared.turns.LockTurn.the-variants.{Pass, Stop}
-use Rattle.operations.specs.Turns.{takingWord, readingWord, givingWord}
-use Rattle.operations.specs.Operation.{Storable}
+use Rattle.locks.specs.declared.LockTurn.{LockTurn}
+use Rattle.locks.specs.declared.LockTurn.the-variants.{Pass, Stop}
+use Rattle.locks.specs.Turns.{takingWord, readingWord, givingWord, Storable}
 
 -- ---- words that can be stored
 

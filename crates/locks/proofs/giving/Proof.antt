@@ -1,8 +1,8 @@
--- `operations::turns::giving` meets its contract. Assumes nothing.
+-- `locks::giving` meets its contract. Assumes nothing.
 use mathlib.Core.Path.{sym, _∙_}
 use borrow.Author.Needs.{needs}
-use Rattle.operations.proofs.turns.giving.Statement.{statement}
-use Rattle.operations.proofs.turns.giving.Tie as tie
+use Rattle.locks.proofs.giving.Statement.{statement}
+use Rattle.locks.proofs.giving.Tie as tie
 
 add-has : tie.Need-add-has
 add-has c = search needs

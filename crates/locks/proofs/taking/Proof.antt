@@ -1,8 +1,8 @@
--- `operations::turns::taking` meets its contract. Assumes nothing.
+-- `locks::taking` meets its contract. Assumes nothing.
 use borrow.Author.Tests.{eq-eqb, ne-eqb}
 use borrow.Author.Needs.{needs}
-use Rattle.operations.proofs.turns.taking.Statement.{statement}
-use Rattle.operations.proofs.turns.taking.Tie as tie
+use Rattle.locks.proofs.taking.Statement.{statement}
+use Rattle.locks.proofs.taking.Tie as tie
 
 add-one : tie.Need-add-one
 add-one c = search needs

@@ -1,9 +1,9 @@
--- `operations::turns::reading` meets its contract. Assumes nothing.
+-- `locks::reading` meets its contract. Assumes nothing.
 use mathlib.Core.Path.{sym, _∙_}
 use borrow.Author.Tests.{lt-ltb, le-ltb}
 use borrow.Author.Needs.{needs}
-use Rattle.operations.proofs.turns.reading.Statement.{statement}
-use Rattle.operations.proofs.turns.reading.Tie as tie
+use Rattle.locks.proofs.reading.Statement.{statement}
+use Rattle.locks.proofs.reading.Tie as tie
 
 has-requires : tie.Need-has-requires
 has-requires c κs = search needs

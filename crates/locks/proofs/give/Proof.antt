@@ -1,8 +1,8 @@
--- `operations::give` meets its contract. Assumes nothing.
-use Rattle.operations.specs.TurnLaws.{giving-storable}
+-- `locks::give` meets its contract. Assumes nothing.
+use Rattle.locks.specs.TurnLaws.{giving-storable}
 use borrow.Author.Needs.{needs}
-use Rattle.operations.proofs.give.Statement.{statement}
-use Rattle.operations.proofs.give.Tie as tie
+use Rattle.locks.proofs.give.Statement.{statement}
+use Rattle.locks.proofs.give.Tie as tie
 
 value-of-requires : tie.Need-value-of-requires
 value-of-requires c κs = search needs

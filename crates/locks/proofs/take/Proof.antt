@@ -1,8 +1,8 @@
--- `operations::take` meets its contract. Assumes nothing.
-use Rattle.operations.specs.TurnLaws.{taking-storable}
+-- `locks::take` meets its contract. Assumes nothing.
+use Rattle.locks.specs.TurnLaws.{taking-storable}
 use borrow.Author.Needs.{needs}
-use Rattle.operations.proofs.take.Statement.{statement}
-use Rattle.operations.proofs.take.Tie as tie
+use Rattle.locks.proofs.take.Statement.{statement}
+use Rattle.locks.proofs.take.Tie as tie
 
 value-of-requires : tie.Need-value-of-requires
 value-of-requires c κs = search needs

@@ -1,8 +1,8 @@
--- `operations::take_read` meets its contract. Assumes nothing.
-use Rattle.operations.specs.TurnLaws.{reading-storable}
+-- `locks::take_read` meets its contract. Assumes nothing.
+use Rattle.locks.specs.TurnLaws.{reading-storable}
 use borrow.Author.Needs.{needs}
-use Rattle.operations.proofs.take_read.Statement.{statement}
-use Rattle.operations.proofs.take_read.Tie as tie
+use Rattle.locks.proofs.take_read.Statement.{statement}
+use Rattle.locks.proofs.take_read.Tie as tie
 
 value-of-requires : tie.Need-value-of-requires
 value-of-requires c κs = search needs
