@@ -50,10 +50,12 @@ fn giving(word: u64, n: usize) -> LockTurn
     requires { ⌜ n < 16 ⌝ }
     ensures { λ r. ⌜ r ≡ givingWord n word ⌝ }
 {
-    if has(word, 16 + n) {
+    let writes = has(word, 16 + n);
+    if writes {
         return LockTurn::Pass(0);
     }
-    if has(word, n) {
+    let reads = has(word, n);
+    if reads {
         return LockTurn::Pass(difference(word, one(n)));
     }
     LockTurn::Stop(17)
