@@ -2,7 +2,7 @@
 use Prim.Native.Nat.{ℕ, _+_, _*_, _/_, _%_}
 use mathlib.Core.Path.{_≡_, refl}
 use mathlib.Core.Bool.{true, false, cond, _&&_}
-use mathlib.Core.List.{List, [], _∷_}
+use mathlib.Core.List.{List, [], _∷_, map}
 use mathlib.Core.Logic.{inl}
 use native.Mathlib.Omega.{arith}
 use lib.Dec.{eqb, ltb}
@@ -12,8 +12,8 @@ use Rattle.table.specs.Table.{Table}
 use Rattle.table.specs.Tabulate.{tabulateFrom, tabulate}
 use Rattle.table.specs.declared.Arguments.{Arguments}
 use Rattle.table.specs.declared.Statement.{Statement}
-use Rattle.table.specs.declared.Statement.the-variants.{Read, Write, Add, Take, Give, Call, Start, JumpZero, Return}
-use Rattle.machine.specs.State.{State, Frame, thread, start, opened, entered, free}
+use Rattle.table.specs.declared.Statement.the-variants.{Read, Write, Add, Take, Give, Call, Start, JumpZero, Return, TakeRead}
+use Rattle.machine.specs.State.{State, Frame, Holder, writer, readers, free, thread, holder, start, opened, entered}
 use Rattle.machine.specs.Step.{refused, saturate, step, after, run}
 use Rattle.machine.specs.Engine.{frameSlots, engineStep, answer}
 use Rattle.machine.specs.Words.{Safe}
@@ -80,6 +80,79 @@ own-lock-stays-shut = refl
 pub give-of-free-is-not-safe : let t = alone (Give (record { number = 0 }) ∷ Return ∷ Return ∷ []) in Safe t (start t) → ⊥
 unfolding alone start opened entered tabulateFrom tabulate
 give-of-free-is-not-safe safe = let held-by : false ≡ true = safe .no-stray 0 0 (0, refl, refl) in let z : _≡_ {A = ℕ} 0 1 = cc in omega arith
+
+-- ---- C-18: threads of one routine with one lock, thread n before the n-th of the statements that are numbered
+
+abbrev take : Statement
+take = Take (record { number = 0 })
+
+abbrev taker : Statement
+taker = TakeRead (record { number = 0 })
+
+abbrev give : Statement
+give = Give (record { number = 0 })
+
+unfoldable pub standing : List ℕ → State
+standing nexts =
+    record {
+      threads = map (λ (s : ℕ). record { accumulator = pos 0; frames = record { routine = 0; next = s; values = 0 ∷ [] } ∷ [] }) nexts;
+      cells = pos 0 ∷ [];
+      locks = free ∷ [];
+    }
+
+-- who holds the lock after the steps of these threads
+unfoldable pub holder-after : List Statement → List ℕ → List ℕ → Holder
+unfolding alone standing run
+holder-after statements nexts ns = holder (run (alone statements) (standing nexts) ns) 0
+
+-- what a step of thread n is answered with then
+unfoldable pub answer-after : List Statement → List ℕ → List ℕ → ℕ → ℕ
+unfolding alone standing run
+answer-after statements nexts ns n = answer (step (alone statements) (run (alone statements) (standing nexts) ns) n)
+
+-- "Display threads only read and should not wait for one another": two hold the lock for reading at once
+pub two-readers-at-once : holder-after (taker ∷ Return ∷ []) (0 ∷ 0 ∷ []) (0 ∷ 1 ∷ []) ≡ readers (1 ∷ 0 ∷ [])
+unfolding holder-after
+two-readers-at-once = refl
+
+-- TAKER "waits (16) while a thread holds the lock for writing": another, or this one
+pub taker-waits-for-a-writer :
+    (answer-after (take ∷ taker ∷ Return ∷ []) (0 ∷ 1 ∷ []) (0 ∷ []) 1 ≡ 16) × (answer-after (take ∷ taker ∷ Return ∷ []) (0 ∷ 1 ∷ []) (0 ∷ []) 0 ≡ 16)
+unfolding answer-after
+taker-waits-for-a-writer = (refl, refl)
+
+-- "or this thread holds it at all": for reading too, beside another reader or alone
+pub taker-waits-for-its-own-hold :
+    (answer-after (taker ∷ taker ∷ Return ∷ []) (0 ∷ 0 ∷ []) (0 ∷ []) 0 ≡ 16) × (answer-after (taker ∷ taker ∷ Return ∷ []) (0 ∷ 0 ∷ []) (0 ∷ 1 ∷ []) 0 ≡ 16)
+unfolding answer-after
+taker-waits-for-its-own-hold = (refl, refl)
+
+-- "TAKE waits while anybody holds it": another reader, or this thread, whose reading does not become writing
+pub take-waits-for-a-reader :
+    (answer-after (taker ∷ take ∷ Return ∷ []) (0 ∷ 1 ∷ []) (0 ∷ []) 1 ≡ 16) × (answer-after (taker ∷ take ∷ Return ∷ []) (0 ∷ 1 ∷ []) (0 ∷ []) 0 ≡ 16)
+unfolding answer-after
+take-waits-for-a-reader = (refl, refl)
+
+-- "GIVE ends either hold": one reader's leaves the other's, the last one's and a writer's free the lock
+pub give-ends-one-hold :
+    (holder-after (taker ∷ give ∷ Return ∷ []) (0 ∷ 0 ∷ []) (0 ∷ 1 ∷ 0 ∷ []) ≡ readers (1 ∷ []))
+    × (holder-after (taker ∷ give ∷ Return ∷ []) (0 ∷ 0 ∷ []) (0 ∷ 1 ∷ 0 ∷ 1 ∷ []) ≡ free)
+    × (holder-after (take ∷ give ∷ Return ∷ []) (0 ∷ []) (0 ∷ 0 ∷ []) ≡ free)
+unfolding holder-after
+give-ends-one-hold = (refl, refl, refl)
+
+-- 17: another thread's hold, for reading or writing, is not this one's to give
+pub give-of-another-is-refused :
+    (answer-after (taker ∷ give ∷ Return ∷ []) (0 ∷ 1 ∷ []) (0 ∷ []) 1 ≡ 17) × (answer-after (take ∷ give ∷ Return ∷ []) (0 ∷ 1 ∷ []) (0 ∷ []) 1 ≡ 17)
+unfolding answer-after
+give-of-another-is-refused = (refl, refl)
+
+-- "An ended thread keeps its locks", those held for reading too: then TAKE waits, and of TAKER only where they are held for writing
+pub ended-thread-keeps-both-kinds :
+    (holder-after (taker ∷ Return ∷ take ∷ taker ∷ []) (0 ∷ 2 ∷ 3 ∷ []) (0 ∷ 0 ∷ 1 ∷ 2 ∷ []) ≡ readers (2 ∷ 0 ∷ []))
+    × (holder-after (take ∷ Return ∷ take ∷ taker ∷ []) (0 ∷ 2 ∷ 3 ∷ []) (0 ∷ 0 ∷ 1 ∷ 2 ∷ []) ≡ writer 0)
+unfolding holder-after
+ended-thread-keeps-both-kinds = (refl, refl)
 
 -- ---- document 01's own table
 

@@ -8,7 +8,7 @@ use lib.ListN.{getD, set}
 use Rattle.table.specs.Table.{Table}
 use Rattle.table.specs.declared.Arguments.{Arguments}
 use Rattle.machine.specs.Engine.{frameSlots}
-use Rattle.run_state.specs.Lists.{countsIn, startedIn, ownersIn, countPlace, startedPlace, putOwner}
+use Rattle.run_state.specs.Lists.{countsIn, startedIn, countPlace, startedPlace}
 use Rattle.run_state.specs.Shown.{Entered}
 use Rattle.operations.specs.declared.Place.{Place}
 use Rattle.operations.specs.declared.Move.{Move}
@@ -33,13 +33,6 @@ Older at older = (count : ℕ) → Newest at count → count ≡ older + 1
 -- the step ran, and its frame goes on
 abbrev pub on : Place → Move
 on at = To (at .next + 1)
-
--- TAKE and GIVE of lock k: refused with `number` unless its owner is `needed`, and then nothing changes; else its owner becomes `owner`, and the
--- thread goes on
-abbrev pub Locked : ℕ → ℕ → ℕ → ℕ → Place → ℕ → Move → List ℕ → List ℕ → Type 0
-Locked number needed owner k at locks r words words′ =
-    record { blocked : getD (ownersIn locks words) k 0 ≡ needed → ⊥; answer-is : r ≡ Stopped number; words-are : words′ ≡ words }
-    ⊎ record { free : getD (ownersIn locks words) k 0 ≡ needed; answer-is : r ≡ on at; words-are : words′ ≡ putOwner locks words k owner }
 
 -- CALL: the frame goes on, and a new one stands in the next slot
 pub record Called (t : Table) (first from end : ℕ) (arguments : Arguments) (at : Place) (r : Move) (words words′ values values′ : List ℕ) : Type 0 where

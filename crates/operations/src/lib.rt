@@ -1,4 +1,4 @@
-// The operations of document 01 on the lists of a run, one function each, and what a step is answered with.
+// The operations of document 01 on the lists of a run, but for those on locks, one function each, and what a step is answered with.
 mod numbers;
 
 ghost use mathlib.Core.Path.{_≡_};
@@ -12,7 +12,7 @@ ghost use Rattle.machine.specs.Engine.{frameSlots};
 ghost use Rattle.run_state.specs.Lists.{countsIn, startedIn, accumulatorsIn, cellsIn, countPlace, putCell};
 ghost use Rattle.run_state.specs.Shown.{valuePlace, HandlesThere, Naming};
 ghost use Rattle.operations.specs.declared.Move.the-variants.{To, Closed};
-ghost use Rattle.operations.specs.Operation.{Placed, Newest, Older, on, Locked, Called, Started};
+ghost use Rattle.operations.specs.Operation.{Placed, Newest, Older, on, Called, Started};
 use numbers::is_zero;
 use numbers::saturating_sum;
 use run_state::frames::enter;
@@ -21,11 +21,9 @@ use run_state::frames::value_of;
 use run_state::places::accumulator_of;
 use run_state::places::cell_at;
 use run_state::places::go_to;
-use run_state::places::owner_at;
 use run_state::places::put_accumulator;
 use run_state::places::put_cell;
 use run_state::places::put_count;
-use run_state::places::put_owner;
 use run_state::places::put_started;
 use run_state::places::started_of;
 use table::Arguments;
@@ -118,47 +116,6 @@ pub fn add(number: i32, at: Place, registers: &mut [i32; 80]) -> Move
     let sum = saturating_sum(accumulator_of(registers, at.thread), number);
     put_accumulator(registers, at.thread, sum);
     going_on(at)
-}
-
-// Makes `owner` the owner of lock `k` where that is `needed`; else refused with `number`.
-fn hand_over(
-    k: usize,
-    needed: usize,
-    owner: usize,
-    number: u32,
-    at: Place,
-    locks: usize,
-    words: &mut [u32; 545],
-) -> Move
-    requires { ⌜ Placed at × (locks ≤ 16) × (owner < 4294967296) ⌝ }
-    ensures { λ r. ⌜ Locked number needed owner k at locks r (now (words .entry)) (now (words .exit)) ⌝ }
-{
-    let after = at.next + 1;
-    if owner_at(words, locks, k) != needed {
-        return Move::Stopped(number);
-    }
-    put_owner(words, locks, k, owner);
-    Move::To(after)
-}
-
-// TAKE: "the free lock becomes this thread's"; 16 where it is held.
-pub fn take(h: usize, at: Place, locks: usize, words: &mut [u32; 545], values: &[u8; 4096]) -> Move
-    requires { ⌜ Placed at × (locks ≤ 16) ⌝ }
-    ensures { λ r. ⌜ Locked 16 0 (at .thread + 1) (getD (now (values .entry)) (valuePlace (at .slot) h) 0) at locks r (now (words .entry)) (now (words .exit)) ⌝ }
-{
-    let k = value_of(values, at.slot, h);
-    let owner = at.thread + 1;
-    hand_over(k, 0, owner, 16, at, locks, words)
-}
-
-// GIVE: "this thread's lock becomes free"; 17 where it is not this thread's.
-pub fn give(h: usize, at: Place, locks: usize, words: &mut [u32; 545], values: &[u8; 4096]) -> Move
-    requires { ⌜ Placed at × (locks ≤ 16) ⌝ }
-    ensures { λ r. ⌜ Locked 17 (at .thread + 1) 0 (getD (now (values .entry)) (valuePlace (at .slot) h) 0) at locks r (now (words .entry)) (now (words .exit)) ⌝ }
-{
-    let k = value_of(values, at.slot, h);
-    let owner = at.thread + 1;
-    hand_over(k, owner, 0, 17, at, locks, words)
 }
 
 // POINT: "h refers to what g refers to".

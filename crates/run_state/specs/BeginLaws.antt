@@ -1,7 +1,7 @@
 -- The lists as they are filled at first show where a run begins. Assumes nothing.
 use Prim.Native.Nat.{ℕ, zero, suc, _<_}
 use mathlib.Core.Path.{_≡_, refl, sym, ap, _∙_, subst}
-use mathlib.Core.List.{List, [], _∷_, map}
+use mathlib.Core.List.{List, [], _∷_}
 use native.Mathlib.Omega.{arith}
 use lib.IntN.{ℤ, pos}
 use lib.ListN.{length, getD, set, length-set, replicate, length-replicate, getD-replicate}
@@ -9,16 +9,13 @@ use Rattle.table.specs.Table.{Table, tableOf, routine}
 use Rattle.table.specs.Extents.{firstStatements, firstHandles}
 use Rattle.table.specs.Accepted.{Accepted}
 use Rattle.table.specs.declared.Arguments.{Arguments}
-use Rattle.machine.specs.State.{Holder, free, thread, start}
+use Rattle.machine.specs.State.{thread, start}
 use Rattle.machine.specs.FrameLaws.{start-bounded}
 use Rattle.run_state.specs.ListLaws.{part-replicate, parts-count, parts-started}
-use Rattle.run_state.specs.Shown.{Arrays, arrays, partsOf, holderOf, Shows, ListsShow, Entering, Entered}
+use Rattle.run_state.specs.LockWordLaws.{all-free}
+use Rattle.run_state.specs.Shown.{Arrays, arrays, partsOf, Shows, ListsShow, Entering, Entered}
 use Rattle.run_state.specs.ShownLaws.{ThreadIn, opened-shown}
 use Rattle.run_state.specs.TableLaws.{LookedUp, looked-up, naming}
-
-all-free : (n : ℕ) → replicate n free ≡ map holderOf (replicate n 0)
-all-free zero = refl
-all-free (suc n) = ap (λ (l : List Holder). free ∷ l) (all-free n)
 
 -- nothing is passed to routine 0
 abbrev pub nothing-passed : Arguments
@@ -86,7 +83,7 @@ module _ (numbers : List ℤ) (handle : List ℕ) (accepted : Accepted (tableOf 
             let long : length zeros ≡ 545 = ap length z ∙ length-replicate {A = ℕ} 545 0 in
             let t = tableOf numbers in
             parts-started t (set zeros 512 1) new registers 1 (omega (arith, length-set zeros 512 1))
-            ∙ ap (λ (a : Arrays). arrays 1 (a .nexts) (a .values) (a .counts) (a .accumulators) (a .owners) (a .cells)) (parts-count t zeros new registers 0 512 1 (omega arith) refl)
+            ∙ ap (λ (a : Arrays). arrays 1 (a .nexts) (a .values) (a .counts) (a .accumulators) (a .locks) (a .cells)) (parts-count t zeros new registers 0 512 1 (omega arith) refl)
             ∙ rw (
               z,
               r,

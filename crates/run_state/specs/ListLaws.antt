@@ -10,7 +10,7 @@ use lib.IntN.{ℤ}
 use lib.ListN.{length, getD, take, drop, set, length-take, length-drop, replicate, length-replicate, getD-replicate, List·getD-eq-default}
 use lib.Seq.{getD-take, getD-drop, getD-set-same, getD-set-other, drop-set-add, drop-set-lt, take-set-lt, take-set-le, set-out, ext-getD}
 use Rattle.table.specs.Table.{Table}
-use Rattle.run_state.specs.Lists.{part, put, countPlace, startedPlace, nextsIn, countsIn, startedIn, ownersIn, putOwner, accumulatorsIn, cellsIn, putCell}
+use Rattle.run_state.specs.Lists.{part, put, countPlace, startedPlace, nextsIn, countsIn, startedIn, locksIn, putLock, accumulatorsIn, cellsIn, putCell}
 use Rattle.run_state.specs.Shown.{arrays, partsOf}
 
 -- ---- one part
@@ -95,7 +95,7 @@ started-there words some = go (ltb startedPlace (length words)) refl
 module _ (t : Table) (words values : List ℕ) (registers : List ℤ) where
   pub parts-next : (slot x : ℕ) → slot < 512
       → partsOf t (set words slot x) values registers
-      ≡ arrays (startedIn words) (set (nextsIn words) slot x) values (countsIn words) (accumulatorsIn registers) (ownersIn (t .locks) words) (cellsIn (t .cells) registers)
+      ≡ arrays (startedIn words) (set (nextsIn words) slot x) values (countsIn words) (accumulatorsIn registers) (locksIn (t .locks) words) (cellsIn (t .cells) registers)
   parts-next slot x b =
       rw (
         started-kept words slot x (λ e. omega arith),
@@ -106,7 +106,7 @@ module _ (t : Table) (words values : List ℕ) (registers : List ℤ) where
 
   pub parts-count : (n j x : ℕ) → n < 16 → j ≡ countPlace n
       → partsOf t (set words j x) values registers
-      ≡ arrays (startedIn words) (nextsIn words) values (set (countsIn words) n x) (accumulatorsIn registers) (ownersIn (t .locks) words) (cellsIn (t .cells) registers)
+      ≡ arrays (startedIn words) (nextsIn words) values (set (countsIn words) n x) (accumulatorsIn registers) (locksIn (t .locks) words) (cellsIn (t .cells) registers)
   parts-count n j x b e =
       rw (
         started-kept words j x (λ q. omega arith),
@@ -117,7 +117,7 @@ module _ (t : Table) (words values : List ℕ) (registers : List ℤ) where
 
   pub parts-started : (x : ℕ) → startedPlace < length words
       → partsOf t (set words startedPlace x) values registers
-      ≡ arrays x (nextsIn words) values (countsIn words) (accumulatorsIn registers) (ownersIn (t .locks) words) (cellsIn (t .cells) registers)
+      ≡ arrays x (nextsIn words) values (countsIn words) (accumulatorsIn registers) (locksIn (t .locks) words) (cellsIn (t .cells) registers)
   unfolding startedIn
   parts-started x b =
       rw (
@@ -127,10 +127,10 @@ module _ (t : Table) (words values : List ℕ) (registers : List ℤ) where
         part-below 529 (t .locks) words startedPlace x (omega arith),
       )
 
-  pub parts-owner : (k x : ℕ)
-      → partsOf t (putOwner (t .locks) words k x) values registers
-      ≡ arrays (startedIn words) (nextsIn words) values (countsIn words) (accumulatorsIn registers) (set (ownersIn (t .locks) words) k x) (cellsIn (t .cells) registers)
-  parts-owner k x =
+  pub parts-lock : (k x : ℕ)
+      → partsOf t (putLock (t .locks) words k x) values registers
+      ≡ arrays (startedIn words) (nextsIn words) values (countsIn words) (accumulatorsIn registers) (set (locksIn (t .locks) words) k x) (cellsIn (t .cells) registers)
+  parts-lock k x =
       rw (
         put-kept 529 (t .locks) words startedIn k x (λ j b. started-kept words j x (λ e. omega arith)),
         put-kept 529 (t .locks) words nextsIn k x (λ j b. part-above 0 512 words j x (omega arith)),
@@ -140,12 +140,12 @@ module _ (t : Table) (words values : List ℕ) (registers : List ℤ) where
 
   pub parts-accumulator : (n : ℕ) (x : ℤ) → n < 16
       → partsOf t words values (set registers n x)
-      ≡ arrays (startedIn words) (nextsIn words) values (countsIn words) (set (accumulatorsIn registers) n x) (ownersIn (t .locks) words) (cellsIn (t .cells) registers)
+      ≡ arrays (startedIn words) (nextsIn words) values (countsIn words) (set (accumulatorsIn registers) n x) (locksIn (t .locks) words) (cellsIn (t .cells) registers)
   parts-accumulator n x b = rw (part-set 0 16 registers n n x b (omega arith), part-below 16 (t .cells) registers n x b)
 
   pub parts-cell : (k : ℕ) (x : ℤ)
       → partsOf t words values (putCell (t .cells) registers k x)
-      ≡ arrays (startedIn words) (nextsIn words) values (countsIn words) (accumulatorsIn registers) (ownersIn (t .locks) words) (set (cellsIn (t .cells) registers) k x)
+      ≡ arrays (startedIn words) (nextsIn words) values (countsIn words) (accumulatorsIn registers) (locksIn (t .locks) words) (set (cellsIn (t .cells) registers) k x)
   parts-cell k x =
       rw (
         put-kept 16 (t .cells) registers accumulatorsIn k x (λ j b. part-above 0 16 registers j x (omega arith)),

@@ -14,7 +14,7 @@ part at n l = take n (drop at l)
 unfoldable pub put : {A : Type 0} → ℕ → ℕ → List A → ℕ → A → List A
 put at n l i x = cond (ltb i n) (set l (at + i) x) l
 
--- ---- words: 512 slots' next statements, 16 threads' frame counts, how many threads are started, and one owner a lock
+-- ---- words: 512 slots' next statements, 16 threads' frame counts, how many threads are started, and one word a lock
 
 abbrev pub countPlace : ℕ → ℕ
 countPlace n = 512 + n
@@ -22,8 +22,8 @@ countPlace n = 512 + n
 abbrev pub startedPlace : ℕ
 startedPlace = 528
 
-abbrev pub ownerPlace : ℕ
-ownerPlace = 529
+abbrev pub lockPlace : ℕ
+lockPlace = 529
 
 abbrev pub nextsIn : List ℕ → List ℕ
 nextsIn words = part 0 512 words
@@ -34,11 +34,11 @@ countsIn words = part 512 16 words
 unfoldable pub startedIn : List ℕ → ℕ
 startedIn words = getD words startedPlace 0
 
-abbrev pub ownersIn : ℕ → List ℕ → List ℕ
-ownersIn locks words = part ownerPlace locks words
+abbrev pub locksIn : ℕ → List ℕ → List ℕ
+locksIn locks words = part lockPlace locks words
 
-abbrev pub putOwner : ℕ → List ℕ → ℕ → ℕ → List ℕ
-putOwner locks words k owner = put ownerPlace locks words k owner
+abbrev pub putLock : ℕ → List ℕ → ℕ → ℕ → List ℕ
+putLock locks words k word = put lockPlace locks words k word
 
 -- ---- registers: 16 accumulators, and the cells
 

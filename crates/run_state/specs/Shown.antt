@@ -1,5 +1,5 @@
 -- How the lists of a run show a state of the machine. Nothing that a promise of `engine::run` says rests on it. Assumes nothing.
-use Prim.Native.Nat.{ℕ, zero, suc, _+_, _-_, _*_, _%_, _<_, _≤_}
+use Prim.Native.Nat.{ℕ, _+_, _-_, _*_, _%_, _<_, _≤_}
 use mathlib.Core.Path.{_≡_}
 use mathlib.Core.Bool.{cond}
 use mathlib.Core.List.{List, [], _∷_, map}
@@ -11,31 +11,32 @@ use Rattle.table.specs.Table.{Table, tableOf, declaration, routine, passed, Own
 use Rattle.table.specs.Extents.{firstStatements, firstHandles}
 use Rattle.table.specs.Accepted.{Accepted}
 use Rattle.table.specs.declared.Arguments.{Arguments}
-use Rattle.machine.specs.State.{State, Frame, Thread, Holder, free, held, thread, refers}
+use Rattle.sets.specs.Set.{one, with}
+use Rattle.machine.specs.State.{State, Frame, Thread, Holder, writer, readers, free, thread, refers}
 use Rattle.machine.specs.Engine.{frameSlots}
 use Rattle.machine.specs.FrameLaws.{Bounded}
 use Rattle.run_state.specs.declared.Sizes.{Sizes}
-use Rattle.run_state.specs.Lists.{nextsIn, countsIn, startedIn, ownersIn, accumulatorsIn, cellsIn}
+use Rattle.run_state.specs.Lists.{nextsIn, countsIn, startedIn, locksIn, accumulatorsIn, cellsIn}
 
 -- what the lists hold, apart: how many threads are started; each slot's next statement and its values, eight a slot; each thread's frame count and
--- accumulator; each lock's owner; the cells
+-- accumulator; each lock's word; the cells
 pub record Arrays : Type 0 where
   pub started : ℕ
   pub nexts : List ℕ
   pub values : List ℕ
   pub counts : List ℕ
   pub accumulators : List ℤ
-  pub owners : List ℕ
+  pub locks : List ℕ
   pub cells : List ℤ
 
 abbrev pub arrays : ℕ → List ℕ → List ℕ → List ℕ → List ℤ → List ℕ → List ℤ → Arrays
-arrays started nexts values counts accumulators owners cells =
-    record { started = started; nexts = nexts; values = values; counts = counts; accumulators = accumulators; owners = owners; cells = cells }
+arrays started nexts values counts accumulators locks cells =
+    record { started = started; nexts = nexts; values = values; counts = counts; accumulators = accumulators; locks = locks; cells = cells }
 
 -- the lists of a run of a table, apart
 abbrev pub partsOf : Table → List ℕ → List ℕ → List ℤ → Arrays
 partsOf t words values registers =
-    arrays (startedIn words) (nextsIn words) values (countsIn words) (accumulatorsIn registers) (ownersIn (t .locks) words) (cellsIn (t .cells) registers)
+    arrays (startedIn words) (nextsIn words) values (countsIn words) (accumulatorsIn registers) (locksIn (t .locks) words) (cellsIn (t .cells) registers)
 
 -- the machine's thread that has thread number n in the run: "takes the next thread number"
 abbrev pub user : ℕ → ℕ
@@ -45,10 +46,28 @@ user n = n
 abbrev pub valuePlace : ℕ → ℕ → ℕ
 valuePlace slot h = slot * 8 + h % 8
 
--- 0 is nobody, else one more than the thread
-abbrev pub holderOf : ℕ → Holder
-holderOf zero = free
-holderOf (suc n) = held (user n)
+-- a lock's word is a set of thread numbers: reader n is element n, writer n is element 16 + n; 0 is nobody
+abbrev pub readersWord : List ℕ → ℕ
+readersWord [] = 0
+readersWord (m ∷ ms) = with (readersWord ms) m
+
+abbrev pub wordOf : Holder → ℕ
+wordOf (writer m) = one (16 + m)
+wordOf (readers ms) = readersWord ms
+
+-- who holds a lock has an element in its word
+abbrev pub AllLow : List ℕ → Type 0
+AllLow [] = Unit {0}
+AllLow (m ∷ ms) = (m < 16) × AllLow ms
+
+abbrev pub Low : Holder → Type 0
+Low (writer m) = m < 16
+Low (readers ms) = AllLow ms
+
+-- the locks' words show who holds each
+pub record ShowsLocks (words : List ℕ) (locks : List Holder) : Type 0 where
+  pub words-are : words ≡ map wordOf locks
+  pub low : (k : ℕ) → Low (getD locks k free)
 
 -- a slot shows a frame
 pub record ShowsFrame (t : Table) (nexts values : List ℕ) (slot : ℕ) (f : Frame) : Type 0 where
@@ -80,7 +99,7 @@ pub record Shows (t : Table) (a : Arrays) (state : State) : Type 0 where
   pub started-is : a .started ≡ length (state .threads)
   pub most : a .started ≤ 16
   pub cells-are : state .cells ≡ a .cells
-  pub locks-are : state .locks ≡ map holderOf (a .owners)
+  pub locks-are : ShowsLocks (a .locks) (state .locks)
   pub thread-is : (m : ℕ) → m < a .started → ShowsThread t (a .nexts) (a .values) (m * 32) (getD (a .counts) m 0) (getD (a .accumulators) m (pos 0)) (thread state (user m))
 
 -- the parts show a state of the machine in which no thread's frames can run out of slots

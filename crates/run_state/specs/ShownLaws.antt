@@ -2,7 +2,7 @@
 use Prim.Native.Nat.{ℕ, _+_, _-_, _*_, _%_, _<_, _≤_}
 use mathlib.Core.Path.{_≡_, refl, sym, ap, _∙_, subst}
 use mathlib.Core.Bool.{Bool, true, false}
-use mathlib.Core.List.{List, [], _∷_, _++_, map}
+use mathlib.Core.List.{List, [], _∷_, _++_}
 use native.Mathlib.Omega.{arith}
 use native.Mathlib.Decide.{ℕ-discrete}
 use borrow.Author.Tests.{eqb-true, eq-eqb, ltb-true, ltb-false}
@@ -16,7 +16,7 @@ use Rattle.table.specs.TabulateLaws.{length-tabulate, getD-tabulate}
 use Rattle.table.specs.Accepted.{Accepted}
 use Rattle.table.specs.declared.Arguments.{Arguments}
 use Rattle.machine.specs.State.{State, Frame, Thread, Holder, ended, thread, entered, opened}
-use Rattle.run_state.specs.Shown.{Arrays, valuePlace, holderOf, ShowsFrame, ShowsFrames, ShowsThread, Lengths, Shows, startValue, Entered}
+use Rattle.run_state.specs.Shown.{Arrays, valuePlace, ShowsFrame, ShowsFrames, ShowsThread, Lengths, ShowsLocks, Shows, startValue, Entered}
 
 -- ---- frames are shown as before where their slots are as before
 
@@ -104,7 +104,7 @@ module _ (t : Table) (a new : Arrays) (n : ℕ) (changed : Changed t a new n) wh
       rw (changed .counts m apart, changed .accumulators m apart) (thread-kept t _ _ _ _ _ _ _ _ s (changed .slots m apart))
 
   pub one-thread : (state : State) (th : Thread) (cells : List ℤ) (locks : List Holder) → Shows t a state → n < a .started → new .started ≡ a .started
-      → ThreadIn t new n th → cells ≡ new .cells → locks ≡ map holderOf (new .owners)
+      → ThreadIn t new n th → cells ≡ new .cells → ShowsLocks (new .locks) locks
       → Shows t new (record { threads = set (state .threads) n th; cells = cells; locks = locks })
   one-thread state th cells locks s low e shown c l =
       record {
@@ -123,7 +123,7 @@ module _ (t : Table) (a new : Arrays) (n : ℕ) (changed : Changed t a new n) wh
       at m b (no q) = rw (getD-set-other (state .threads) n m th ended q) (other-thread m (thread state m) q (s .thread-is m b))
 
   pub added : (state : State) (th : Thread) → Shows t a state → n ≡ a .started → a .started < 16 → new .started ≡ a .started + 1
-      → ThreadIn t new n th → new .cells ≡ a .cells → new .owners ≡ a .owners
+      → ThreadIn t new n th → new .cells ≡ a .cells → new .locks ≡ a .locks
       → Shows t new (record { threads = state .threads ++ th ∷ []; cells = state .cells; locks = state .locks })
   added state th s is low e shown c l =
       record {
@@ -131,7 +131,7 @@ module _ (t : Table) (a new : Arrays) (n : ℕ) (changed : Changed t a new n) wh
         started-is = omega (arith, e, s .started-is, length-append (state .threads) (th ∷ []));
         most = omega (arith, e);
         cells-are = s .cells-are ∙ sym c;
-        locks-are = s .locks-are ∙ ap (map holderOf) (sym l);
+        locks-are = rw l (s .locks-are);
         thread-is = λ m b. at m (omega (arith, e)) (ℕ-discrete m n);
       }
     where

@@ -1,5 +1,5 @@
 // The state of a run in three lists, lent by the caller of a step: `words`, `values` and `registers`. `words` has each slot's next statement, each
-// thread's frame count, how many threads are started, and each lock's owner; `values` each slot's handle values; `registers` each thread's
+// thread's frame count, how many threads are started, and each lock's word; `values` each slot's handle values; `registers` each thread's
 // accumulator, and the cells. Places past the table's locks and cells are never read.
 pub mod frames;
 pub mod places;

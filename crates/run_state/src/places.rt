@@ -3,12 +3,18 @@ ghost use mathlib.Core.Path.{_≡_};
 ghost use Prim.Native.Nat.{_+_, _<_, _≤_};
 ghost use lib.IntN.{pos};
 ghost use lib.ListN.{getD, set};
-ghost use Rattle.run_state.specs.Lists.{nextsIn, countsIn, startedIn, ownersIn, accumulatorsIn, cellsIn, countPlace, startedPlace, putOwner, putCell};
+ghost use Rattle.run_state.specs.Lists.{nextsIn, countsIn, startedIn, locksIn, accumulatorsIn, cellsIn, countPlace, startedPlace, putLock, putCell};
 
 fn wide(x: u32) -> usize
     ensures { λ r. ⌜ r ≡ x ⌝ }
 {
     x as usize
+}
+
+fn set_of(x: u32) -> u64
+    ensures { λ r. ⌜ (r ≡ x) × (r < 4294967296) ⌝ }
+{
+    x as u64
 }
 
 // The next statement of the frame in `slot`.
@@ -58,21 +64,21 @@ pub fn put_started(words: &mut [u32; 545], started: usize)
     words[528] = (started % 4_294_967_296) as u32;
 }
 
-// Who holds lock `k` of so many locks: 0 for nobody, else one more than the thread.
-pub fn owner_at(words: &[u32; 545], locks: usize, k: usize) -> usize
+// The word of lock `k` of so many locks: who holds it.
+pub fn lock_at(words: &[u32; 545], locks: usize, k: usize) -> u64
     requires { ⌜ locks ≤ 16 ⌝ }
-    ensures { λ r. ⌜ r ≡ getD (ownersIn locks (now (words .entry))) k 0 ⌝ }
+    ensures { λ r. ⌜ (r ≡ getD (locksIn locks (now (words .entry))) k 0) × (r < 4294967296) ⌝ }
 {
-    if k < locks { wide(words[529 + k]) } else { 0 }
+    if k < locks { set_of(words[529 + k]) } else { 0 }
 }
 
-// Stores who holds lock `k` of so many locks.
-pub fn put_owner(words: &mut [u32; 545], locks: usize, k: usize, owner: usize)
-    requires { ⌜ (locks ≤ 16) × (owner < 4294967296) ⌝ }
-    ensures { λ _. ⌜ now (words .exit) ≡ putOwner locks (now (words .entry)) k owner ⌝ }
+// Stores the word of lock `k` of so many locks.
+pub fn put_lock(words: &mut [u32; 545], locks: usize, k: usize, word: u64)
+    requires { ⌜ (locks ≤ 16) × (word < 4294967296) ⌝ }
+    ensures { λ _. ⌜ now (words .exit) ≡ putLock locks (now (words .entry)) k word ⌝ }
 {
     if k < locks {
-        words[529 + k] = (owner % 4_294_967_296) as u32;
+        words[529 + k] = (word % 4_294_967_296) as u32;
     }
 }
 

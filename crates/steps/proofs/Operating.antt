@@ -16,13 +16,13 @@ use Rattle.table.specs.declared.Arguments.{Arguments}
 use Rattle.table.specs.declared.Handle.{Handle}
 use Rattle.table.specs.declared.Target.{Target}
 use Rattle.table.specs.declared.Statement.{Statement}
-use Rattle.table.specs.declared.Statement.the-variants.{Read, Write, Set, Add, Take, Give, Point, Call, Start, Jump, JumpZero, Return}
+use Rattle.table.specs.declared.Statement.the-variants.{Read, Write, Set, Add, Take, Give, Point, Call, Start, Jump, JumpZero, Return, TakeRead}
 use Rattle.machine.specs.State.{State}
 use Rattle.machine.specs.Step.{saturate, isZero}
 use Rattle.machine.specs.Engine.{frameSlots}
 use Rattle.run_state.specs.declared.Sizes.{Sizes}
-use Rattle.run_state.specs.Lists.{nextsIn, countsIn, startedIn, ownersIn, accumulatorsIn, cellsIn, countPlace, startedPlace, putCell}
-use Rattle.run_state.specs.ListLaws.{started-there, parts-next, parts-count, parts-started, parts-owner, parts-accumulator, parts-cell}
+use Rattle.run_state.specs.Lists.{nextsIn, countsIn, startedIn, locksIn, accumulatorsIn, cellsIn, countPlace, startedPlace, putCell}
+use Rattle.run_state.specs.ListLaws.{started-there, parts-next, parts-count, parts-started, parts-lock, parts-accumulator, parts-cell}
 use Rattle.run_state.specs.Shown.{Arrays, arrays, partsOf, valuePlace, ShowsBounded, Fixed, Standing, HandlesThere, Naming}
 use Rattle.run_state.specs.TableLaws.{statement-read, handles-there, LookedUp, looked-up, naming}
 use Rattle.operations.specs.declared.Place.{Place}
@@ -30,9 +30,12 @@ use Rattle.operations.specs.declared.Move.{Move}
 use Rattle.operations.specs.declared.Move.the-variants.{To, Closed, Stopped}
 use Rattle.operations.specs.declared.Step.{Step}
 use Rattle.operations.specs.declared.Step.the-variants.{Ran, Refused}
-use Rattle.operations.specs.Operation.{Placed, on, Locked, Called, Started}
+use Rattle.locks.specs.declared.LockTurn.{LockTurn}
+use Rattle.locks.specs.declared.LockTurn.the-variants.{Pass, Stop}
+use Rattle.operations.specs.Operation.{Placed, on, Called, Started}
+use Rattle.locks.specs.Turns.{takingWord, readingWord, givingWord, Handed, Turned}
 use Rattle.steps.specs.Stepped.{Stepped, Here, stored, Storable, answerBy, Operated}
-use Rattle.steps.specs.StepLaws.{Top, top, placed, read-step, write-step, set-step, add-step, jump-step, jump-zero-step, return-step, take-refused, take-step, give-refused, give-step, point-step, call-room, call-step, start-refused, start-step}
+use Rattle.steps.specs.StepLaws.{Top, top, placed, read-step, write-step, set-step, add-step, jump-step, jump-zero-step, return-step, AtLock, take-step, take-read-step, give-step, point-step, call-room, call-step, start-refused, start-step}
 
 -- the statement of a line is the table's
 line-said : (numbers : List ℤ) (base next : ℕ) (σ : Statement) → base ≡ statementLine numbers 0
@@ -195,12 +198,12 @@ module _ (numbers : List ℤ) (first handle : List ℕ) (sizes : Sizes) (words v
   went-to : (words′ values′ : List ℕ) (registers′ : List ℤ) (r : Move) (x : ℕ) (new : Arrays) (τ : Statement) → σ ≡ τ → r ≡ To x → x < 4294967296
       → partsOf (tableOf numbers) words′ values′ registers′ ≡ new
       → ((state : State) (s : ShowsBounded (tableOf numbers) (partsOf (tableOf numbers) words values registers) state)
-      → Stepped (tableOf numbers) (arrays (new .started) (set (new .nexts) (at .slot) x) (new .values) (new .counts) (new .accumulators) (new .owners) (new .cells)) state (at .thread) (Ran τ))
+      → Stepped (tableOf numbers) (arrays (new .started) (set (new .nexts) (at .slot) x) (new .values) (new .counts) (new .accumulators) (new .locks) (new .cells)) state (at .thread) (Ran τ))
       → Operated (tableOf numbers) words values registers words′ values′ registers′ at σ r
   went-to words′ values′ registers′ r x new τ e q l v did =
       left words′ values′ registers′ r (To x) _ (Ran τ) q l
       (parts-next t words′ values′ registers′ (at .slot) x (placed-here .slot-low)
-      ∙ ap (λ (b : Arrays). arrays (b .started) (set (b .nexts) (at .slot) x) (b .values) (b .counts) (b .accumulators) (b .owners) (b .cells)) v)
+      ∙ ap (λ (b : Arrays). arrays (b .started) (set (b .nexts) (at .slot) x) (b .values) (b .counts) (b .accumulators) (b .locks) (b .cells)) v)
       (ap Ran e) did
 
   next-small : at .next + 1 < 4294967296
@@ -209,7 +212,7 @@ module _ (numbers : List ℤ) (first handle : List ℕ) (sizes : Sizes) (words v
   went-on : (words′ values′ : List ℕ) (registers′ : List ℤ) (r : Move) (new : Arrays) (τ : Statement) → σ ≡ τ → r ≡ on at
       → partsOf (tableOf numbers) words′ values′ registers′ ≡ new
       → ((state : State) (s : ShowsBounded (tableOf numbers) (partsOf (tableOf numbers) words values registers) state)
-      → Stepped (tableOf numbers) (arrays (new .started) (set (new .nexts) (at .slot) (at .next + 1)) (new .values) (new .counts) (new .accumulators) (new .owners) (new .cells)) state (at .thread) (Ran τ))
+      → Stepped (tableOf numbers) (arrays (new .started) (set (new .nexts) (at .slot) (at .next + 1)) (new .values) (new .counts) (new .accumulators) (new .locks) (new .cells)) state (at .thread) (Ran τ))
       → Operated (tableOf numbers) words values registers words′ values′ registers′ at σ r
   went-on words′ values′ registers′ r new τ e q v did = went-to words′ values′ registers′ r (at .next + 1) new τ e q next-small v did
 
@@ -257,40 +260,47 @@ module _ (numbers : List ℤ) (first handle : List ℕ) (sizes : Sizes) (words v
       ∙ parts-accumulator t words values registers (at .thread) (saturate (getD (accumulatorsIn registers) (at .thread) (pos 0) +ℤ number)) (placed-here .thread-low))
       (λ state s. add-step t accepted a state (at .thread) (at .slot) s (here .low) (p state s) (at .next) (stands-at state s) number (is state s (Add number) e))
 
-  -- the locks that the header says are the table's
-  locked : (number needed owner k : ℕ) (r : Move) (words′ : List ℕ) → Locked number needed owner k at (sizes .locks) r words words′
-      → Locked number needed owner k at (tableOf numbers .locks) r words words′
-  locked number needed owner k r words′ w = subst (λ (locks : ℕ). Locked number needed owner k at locks r words words′) (fixed .sized .locks-are) w
+  -- TAKE, TAKER or GIVE of a handle, by what it does to the lock's word
+  did-turn : (h : Handle) (turn : ℕ → ℕ → LockTurn) (words′ : List ℕ) (r : Move) (τ : Statement) → σ ≡ τ
+      → ((state : State) (s : ShowsBounded (tableOf numbers) (partsOf (tableOf numbers) words values registers) state)
+      → AtLock (tableOf numbers) (partsOf (tableOf numbers) words values registers) state (at .thread) (at .slot) (at .next) (getD values (valuePlace (at .slot) (h .number)) 0) τ
+      (turn (at .thread) (getD (locksIn (tableOf numbers .locks) words) (getD values (valuePlace (at .slot) (h .number)) 0) 0)))
+      → Turned turn (getD values (valuePlace (at .slot) (h .number)) 0) at (sizes .locks) r words words′
+      → Operated (tableOf numbers) words values registers words′ values registers at σ r
+  did-turn h turn words′ r τ e did w =
+      go (turn (at .thread) (getD (locksIn (t .locks) words) k 0)) did (subst (λ (locks : ℕ). Turned turn k at locks r words words′) (fixed .sized .locks-are) w)
+    where
+      k : ℕ
+      k = getD values (valuePlace (at .slot) (h .number)) 0
+
+      go : (x : LockTurn)
+          → ((state : State) (s : ShowsBounded (tableOf numbers) (partsOf (tableOf numbers) words values registers) state)
+          → AtLock (tableOf numbers) (partsOf (tableOf numbers) words values registers) state (at .thread) (at .slot) (at .next) k τ x)
+          → Handed x k at (tableOf numbers .locks) r words words′ → Operated (tableOf numbers) words values registers words′ values registers at σ r
+      go (Pass word) did w =
+          went-on words′ values registers r _ τ e (w .0) (ap (λ (l : List ℕ). partsOf t l values registers) (w .1) ∙ parts-lock t words values registers k word) did
+      go (Stop number) did w = was-refused number words′ values registers r τ e (w .0) (w .1) refl refl did
 
   pub did-take : (h : Handle) (words′ : List ℕ) (r : Move) → σ ≡ Take h
-      → Locked 16 0 (at .thread + 1) (getD values (valuePlace (at .slot) (h .number)) 0) at (sizes .locks) r words words′
+      → Turned takingWord (getD values (valuePlace (at .slot) (h .number)) 0) at (sizes .locks) r words words′
       → Operated (tableOf numbers) words values registers words′ values registers at σ r
-  did-take h words′ r e w = go (locked 16 0 (at .thread + 1) (getD values (valuePlace (at .slot) (h .number)) 0) r words′ w)
-    where
-      go : Locked 16 0 (at .thread + 1) (getD values (valuePlace (at .slot) (h .number)) 0) at (tableOf numbers .locks) r words words′
-          → Operated (tableOf numbers) words values registers words′ values registers at σ r
-      go (inl w) =
-          was-refused 16 words′ values registers r (Take h) e (w .answer-is) (w .words-are) refl refl
-          (λ state s. take-refused t accepted a state (at .thread) (at .slot) s (here .low) (p state s) (at .next) (stands-at state s) h (is state s (Take h) e) (w .blocked))
-      go (inr w) =
-          went-on words′ values registers r _ (Take h) e (w .answer-is)
-          (ap (λ (l : List ℕ). partsOf t l values registers) (w .words-are) ∙ parts-owner t words values registers (getD values (valuePlace (at .slot) (h .number)) 0) (at .thread + 1))
-          (λ state s. take-step t accepted a state (at .thread) (at .slot) s (here .low) (p state s) (at .next) (stands-at state s) h (is state s (Take h) e) (w .free))
+  did-take h words′ r e w =
+      did-turn h takingWord words′ r (Take h) e
+      (λ state s. take-step t accepted a state (at .thread) (at .slot) s (here .low) (p state s) (at .next) (stands-at state s) h (is state s (Take h) e)) w
+
+  pub did-take-read : (h : Handle) (words′ : List ℕ) (r : Move) → σ ≡ TakeRead h
+      → Turned readingWord (getD values (valuePlace (at .slot) (h .number)) 0) at (sizes .locks) r words words′
+      → Operated (tableOf numbers) words values registers words′ values registers at σ r
+  did-take-read h words′ r e w =
+      did-turn h readingWord words′ r (TakeRead h) e
+      (λ state s. take-read-step t accepted a state (at .thread) (at .slot) s (here .low) (p state s) (at .next) (stands-at state s) h (is state s (TakeRead h) e)) w
 
   pub did-give : (h : Handle) (words′ : List ℕ) (r : Move) → σ ≡ Give h
-      → Locked 17 (at .thread + 1) 0 (getD values (valuePlace (at .slot) (h .number)) 0) at (sizes .locks) r words words′
+      → Turned givingWord (getD values (valuePlace (at .slot) (h .number)) 0) at (sizes .locks) r words words′
       → Operated (tableOf numbers) words values registers words′ values registers at σ r
-  did-give h words′ r e w = go (locked 17 (at .thread + 1) 0 (getD values (valuePlace (at .slot) (h .number)) 0) r words′ w)
-    where
-      go : Locked 17 (at .thread + 1) 0 (getD values (valuePlace (at .slot) (h .number)) 0) at (tableOf numbers .locks) r words words′
-          → Operated (tableOf numbers) words values registers words′ values registers at σ r
-      go (inl w) =
-          was-refused 17 words′ values registers r (Give h) e (w .answer-is) (w .words-are) refl refl
-          (λ state s. give-refused t accepted a state (at .thread) (at .slot) s (here .low) (p state s) (at .next) (stands-at state s) h (is state s (Give h) e) (w .blocked))
-      go (inr w) =
-          went-on words′ values registers r _ (Give h) e (w .answer-is)
-          (ap (λ (l : List ℕ). partsOf t l values registers) (w .words-are) ∙ parts-owner t words values registers (getD values (valuePlace (at .slot) (h .number)) 0) 0)
-          (λ state s. give-step t accepted a state (at .thread) (at .slot) s (here .low) (p state s) (at .next) (stands-at state s) h (is state s (Give h) e) (w .free))
+  did-give h words′ r e w =
+      did-turn h givingWord words′ r (Give h) e
+      (λ state s. give-step t accepted a state (at .thread) (at .slot) s (here .low) (p state s) (at .next) (stands-at state s) h (is state s (Give h) e)) w
 
   pub did-point : (h g : Handle) (values′ : List ℕ) (r : Move) → σ ≡ Point h g → r ≡ on at
       → values′ ≡ set values (valuePlace (at .slot) (h .number)) (getD values (valuePlace (at .slot) (g .number)) 0)
@@ -309,7 +319,7 @@ module _ (numbers : List ℤ) (first handle : List ℕ) (sizes : Sizes) (words v
       went-on words′ values′ registers r _ (Call q arguments) e (w .answer-is)
       (ap (λ (l : List ℕ). partsOf t l values′ registers) (w .words-are)
       ∙ parts-count t opened values′ registers (at .thread) (countPlace (at .thread)) count (placed-here .thread-low) refl
-      ∙ ap (λ (b : Arrays). arrays (b .started) (b .nexts) (b .values) (set (b .counts) (at .thread) count) (b .accumulators) (b .owners) (b .cells))
+      ∙ ap (λ (b : Arrays). arrays (b .started) (b .nexts) (b .values) (set (b .counts) (at .thread) count) (b .accumulators) (b .locks) (b .cells))
       (parts-next t words values′ registers (at .slot + 1) (getD first q 0) (omega (arith, here .newest .slot-is, room-here q arguments e, placed-here .thread-low))))
       (λ state s. call-step t accepted a state (at .thread) (at .slot) s (here .low) (p state s) (at .next) (stands-at state s) q arguments
       (getD first q 0) (getD handle q 0) (getD handle (q + 1) 0) (u .first-is) (u .from-is) (u .end-is) values′ (is state s (Call q arguments) e) (w .entered))
@@ -331,7 +341,7 @@ module _ (numbers : List ℤ) (first handle : List ℕ) (sizes : Sizes) (words v
       begun : (n : ℕ) → n ≡ startedIn words → n < 16 → words′ ≡ set (set (set words (n * 32) (getD first q 0)) (countPlace n) 1) startedPlace (n + 1) → registers′ ≡ set registers n (pos 0)
           → partsOf (tableOf numbers) words′ values′ registers′
           ≡ arrays (n + 1) (set (nextsIn words) (n * 32) (getD first q 0)) values′ (set (countsIn words) n 1) (set (accumulatorsIn registers) n (pos 0))
-          (ownersIn (tableOf numbers .locks) words) (cellsIn (tableOf numbers .cells) registers)
+          (locksIn (tableOf numbers .locks) words) (cellsIn (tableOf numbers .cells) registers)
       begun n is low x y =
           let opened = set words (n * 32) (getD first q 0) in
           let counted = set opened (countPlace n) 1 in
@@ -339,11 +349,11 @@ module _ (numbers : List ℤ) (first handle : List ℕ) (sizes : Sizes) (words v
           let long : startedPlace < length counted = omega (arith, length-set opened (countPlace n) 1, length-set words (n * 32) (getD first q 0), started-there words (omega (arith, here .low))) in
           ap (λ (l : List ℕ). partsOf t l values′ registers′) x ∙ ap (λ (l : List ℤ). partsOf t (set counted startedPlace (n + 1)) values′ l) y
           ∙ parts-started t counted values′ (set registers n (pos 0)) (n + 1) long
-          ∙ ap (λ (b : Arrays). arrays (n + 1) (b .nexts) (b .values) (b .counts) (b .accumulators) (b .owners) (b .cells))
+          ∙ ap (λ (b : Arrays). arrays (n + 1) (b .nexts) (b .values) (b .counts) (b .accumulators) (b .locks) (b .cells))
           (parts-count t opened values′ (set registers n (pos 0)) n (countPlace n) 1 low refl
-          ∙ ap (λ (b : Arrays). arrays (b .started) (b .nexts) (b .values) (set (b .counts) n 1) (b .accumulators) (b .owners) (b .cells))
+          ∙ ap (λ (b : Arrays). arrays (b .started) (b .nexts) (b .values) (set (b .counts) n 1) (b .accumulators) (b .locks) (b .cells))
           (parts-next t words values′ (set registers n (pos 0)) (n * 32) (getD first q 0) frame-low
-          ∙ ap (λ (b : Arrays). arrays (b .started) (set (b .nexts) (n * 32) (getD first q 0)) (b .values) (b .counts) (b .accumulators) (b .owners) (b .cells)) (parts-accumulator t words values′ registers n (pos 0) low)))
+          ∙ ap (λ (b : Arrays). arrays (b .started) (set (b .nexts) (n * 32) (getD first q 0)) (b .values) (b .counts) (b .accumulators) (b .locks) (b .cells)) (parts-accumulator t words values′ registers n (pos 0) low)))
 
   pub did-jump : (target : Target) (r : Move) → σ ≡ Jump target → r ≡ To (target .statement) → Operated (tableOf numbers) words values registers words values registers at σ r
   did-jump target r e q =

@@ -1,15 +1,14 @@
 -- Each operation on the arrays is the engine's step. Assumes nothing.
-use Prim.Native.Nat.{ℕ, zero, suc, _+_, _-_, _*_, _<_, _≤_}
+use Prim.Native.Nat.{ℕ, suc, _+_, _-_, _*_, _<_, _≤_}
 use mathlib.Core.Path.{_≡_, refl, sym, ap, ap₂, _∙_, subst}
 use mathlib.Core.Bool.{false, cond}
-use mathlib.Core.List.{List, [], _∷_, map}
+use mathlib.Core.List.{List, [], _∷_}
 use native.Mathlib.Omega.{arith}
 use native.Mathlib.Decide.{ℕ-discrete}
-use native.Mathlib.Numerals.{add-one}
-use borrow.Author.Tests.{lt-ltb, le-ltb, le-leb, lt-leb, eq-eqb, ne-eqb}
+use borrow.Author.Tests.{lt-ltb, le-ltb, le-leb, lt-leb}
 use lib.Dec.{eqb}
 use lib.IntN.{ℤ, pos, _+ℤ_}
-use lib.ListN.{length, getD, set, length-set, List·getD-map, List·getD-eq-default}
+use lib.ListN.{length, getD, set, length-set, List·getD-eq-default}
 use lib.Seq.{getD-set-same, getD-set-other, set-comm}
 use Rattle.table.specs.Table.{Table, routine, statement, passed, OwnHandle}
 use Rattle.table.specs.Accepted.{Accepted, Operands, Passes}
@@ -18,34 +17,23 @@ use Rattle.table.specs.declared.Arguments.{Arguments}
 use Rattle.table.specs.declared.Handle.{Handle}
 use Rattle.table.specs.declared.Target.{Target}
 use Rattle.table.specs.declared.Statement.{Statement}
-use Rattle.table.specs.declared.Statement.the-variants.{Read, Write, Set, Add, Take, Give, Point, Call, Start, Jump, JumpZero, Return}
-use Rattle.machine.specs.State.{State, Frame, Holder, free, held, ended, thread, holder, refers, opened}
-use Rattle.machine.specs.Step.{moved, refused, saturate, isZero, going, pointing, with-thread, operate, stepped, step}
+use Rattle.table.specs.declared.Statement.the-variants.{Read, Write, Set, Add, Take, Give, Point, Call, Start, Jump, JumpZero, Return, TakeRead}
+use Rattle.machine.specs.State.{State, Frame, Holder, ended, thread, holder, refers, opened}
+use Rattle.machine.specs.Step.{moved, refused, Turn, passes, stops, saturate, isZero, going, pointing, with-thread, turned, operate, stepped, step}
 use Rattle.machine.specs.Engine.{frameSlots, limit, engineStep}
+use Rattle.machine.specs.LockLaws.{OnPass, Stops}
 use Rattle.machine.specs.FrameLaws.{CallNext, Room, Rooms, call-has-room, engine-step-bounded}
 use Rattle.operations.specs.declared.Step.the-variants.{Ran, Refused, Nothing}
 use Rattle.operations.specs.Step.{stepOf}
 use Rattle.operations.specs.Operation.{Placed}
-use Rattle.run_state.specs.Shown.{Arrays, arrays, valuePlace, holderOf, ShowsFrame, ShowsFrames, Lengths, Shows, ShowsBounded, Entered}
+use Rattle.locks.specs.declared.LockTurn.{LockTurn}
+use Rattle.locks.specs.declared.LockTurn.the-variants.{Pass, Stop}
+use Rattle.locks.specs.Turns.{takingWord, readingWord, givingWord}
+use Rattle.locks.specs.TurnLaws.{turnWord, InWords, take-in-words, read-in-words, give-in-words}
+use Rattle.run_state.specs.Shown.{Arrays, arrays, valuePlace, Low, ShowsFrame, ShowsFrames, Lengths, ShowsLocks, Shows, ShowsBounded, Entered}
 use Rattle.run_state.specs.ShownLaws.{Kept, kept-both, kept-next, kept-value, kept-entered, frame-kept, frames-kept, one-thread, added, own-apart, opened-shown}
+use Rattle.run_state.specs.LockWordLaws.{word-at, locks-set}
 use Rattle.steps.specs.Stepped.{Stepped}
-
--- ---- locks
-
-map-set : {A B : Type 0} (f : A → B) (l : List A) (i : ℕ) (y : A) → map f (set l i y) ≡ set (map f l) i (f y)
-map-set f [] i y = refl
-map-set f (x ∷ xs) zero y = refl
-map-set {B = B} f (x ∷ xs) (suc i) y = ap (λ (zs : List B). f x ∷ zs) (map-set f xs i y)
-
-holder-is : (t : Table) (a : Arrays) (state : State) (k : ℕ) → Shows t a state → holder state k ≡ holderOf (getD (a .owners) k 0)
-holder-is t a state k s = ap (λ (l : List Holder). getD l k free) (s .locks-are) ∙ List·getD-map holderOf (a .owners) k 0
-
-holder-next : (n : ℕ) → holderOf (n + 1) ≡ held n
-holder-next n = rw add-one
-
-locks-set : (t : Table) (a : Arrays) (state : State) (k x : ℕ) (h : Holder) → Shows t a state → holderOf x ≡ h
-    → set (state .locks) k h ≡ map holderOf (set (a .owners) k x)
-locks-set t a state k x h s e = rw (s .locks-are, ← e) (sym (map-set holderOf (a .owners) k x))
 
 -- ---- the newest frame of a thread
 
@@ -111,6 +99,12 @@ pub record Accumulated (old new : List ℤ) (n : ℕ) (b : ℤ) : Type 0 where
   pub own : getD new n (pos 0) ≡ b
   pub other : (m : ℕ) → (m ≡ n → ⊥) → getD new m (pos 0) ≡ getD old m (pos 0)
 
+-- a turn of thread n at lock k, by what it does to the lock's word: the lock has the new one, and the thread goes on; or the step is refused
+abbrev pub AtLock : Table → Arrays → State → ℕ → ℕ → ℕ → ℕ → Statement → LockTurn → Type 0
+AtLock t a state n slot next k σ (Pass word) =
+    Stepped t (arrays (a .started) (set (a .nexts) slot (next + 1)) (a .values) (a .counts) (a .accumulators) (set (a .locks) k word) (a .cells)) state n (Ran σ)
+AtLock t a state n slot next k σ (Stop number) = Stepped t a state n (Refused number σ)
+
 module _ (t : Table) (accepted : Accepted t) (a : Arrays) (state : State) (n slot : ℕ) (whole : ShowsBounded t a state) (low : n < a .started) (p : Top t a state n slot) where
   abbrev s : Shows t a state
   s = whole .shows
@@ -148,10 +142,10 @@ module _ (t : Table) (accepted : Accepted t) (a : Arrays) (state : State) (n slo
   own-slot : (m i : ℕ) → (m ≡ n → ⊥) → m * 32 ≤ i → i < m * 32 + 32 → i ≡ slot → ⊥
   own-slot m i apart l u e = omega (arith, p .slot-is, p .few, apart)
 
-  lengths-next : (x : ℕ) (values : List ℕ) (counts : List ℕ) (accumulators : List ℤ) (owners : List ℕ) (cells : List ℤ) → length values ≡ length (a .values)
+  lengths-next : (x : ℕ) (values : List ℕ) (counts : List ℕ) (accumulators : List ℤ) (locks : List ℕ) (cells : List ℤ) → length values ≡ length (a .values)
       → length counts ≡ length (a .counts) → length accumulators ≡ length (a .accumulators) → length cells ≡ length (a .cells)
-      → Lengths t (arrays (a .started) (set (a .nexts) slot x) values counts accumulators owners cells)
-  lengths-next x values counts accumulators owners cells v c k z =
+      → Lengths t (arrays (a .started) (set (a .nexts) slot x) values counts accumulators locks cells)
+  lengths-next x values counts accumulators locks cells v c k z =
       record {
         nexts = length-set (a .nexts) slot x ∙ s .lengths .nexts;
         values = v ∙ s .lengths .values;
@@ -171,19 +165,19 @@ module _ (t : Table) (accepted : Accepted t) (a : Arrays) (state : State) (n slo
   rest-kept : (nexts values : List ℕ) → Kept (a .nexts) nexts (a .values) values (n * 32) slot → ShowsFrames t nexts values (n * 32) (p .older)
   rest-kept nexts values k = frames-kept t (a .nexts) nexts (a .values) values (n * 32) slot (p .older) (p .rest) k (omega (arith, p .slot-is))
 
-  pub goes : (x : ℕ) (b : ℤ) (accumulators : List ℤ) (owners : List ℕ) (cells new-cells : List ℤ) (locks : List Holder)
-      → Accumulated (a .accumulators) accumulators n b → length cells ≡ length (a .cells) → new-cells ≡ cells → locks ≡ map holderOf owners
-      → Shows t (arrays (a .started) (set (a .nexts) slot x) (a .values) (a .counts) accumulators owners cells)
-      (with-thread state n b (going (p .f) x ∷ p .older) new-cells locks)
-  goes x b accumulators owners cells new-cells locks k z c l =
-      one-thread t a (arrays (a .started) (set (a .nexts) slot x) (a .values) (a .counts) accumulators owners cells) n
+  pub goes : (x : ℕ) (b : ℤ) (accumulators : List ℤ) (locks : List ℕ) (cells new-cells : List ℤ) (new-locks : List Holder)
+      → Accumulated (a .accumulators) accumulators n b → length cells ≡ length (a .cells) → new-cells ≡ cells → ShowsLocks locks new-locks
+      → Shows t (arrays (a .started) (set (a .nexts) slot x) (a .values) (a .counts) accumulators locks cells)
+      (with-thread state n b (going (p .f) x ∷ p .older) new-cells new-locks)
+  goes x b accumulators locks cells new-cells new-locks k z c l =
+      one-thread t a (arrays (a .started) (set (a .nexts) slot x) (a .values) (a .counts) accumulators locks cells) n
       (record {
-        lengths = lengths-next x (a .values) (a .counts) accumulators owners cells refl refl (k .long) z;
+        lengths = lengths-next x (a .values) (a .counts) accumulators locks cells refl refl (k .long) z;
         slots = λ m apart. kept-next (a .nexts) (a .values) slot x (m * 32) (m * 32 + 32) (λ i v w. own-slot m i apart v w);
         counts = λ m apart. refl;
         accumulators = k .other;
       })
-      state (record { accumulator = b; frames = going (p .f) x ∷ p .older }) new-cells locks s low refl
+      state (record { accumulator = b; frames = going (p .f) x ∷ p .older }) new-cells new-locks s low refl
       (record {
         count-is = p .count-is;
         few = omega (arith, p .count-is, p .few);
@@ -234,66 +228,66 @@ module _ (t : Table) (accepted : Accepted t) (a : Arrays) (state : State) (n slo
     pub read-step : (h : Handle) → statement t (p .f .next) ≡ Read h
         → Stepped t
         (arrays (a .started) (set (a .nexts) slot (next + 1)) (a .values) (a .counts)
-        (set (a .accumulators) n (getD (a .cells) (getD (a .values) (valuePlace slot (h .number)) 0) (pos 0))) (a .owners) (a .cells))
+        (set (a .accumulators) n (getD (a .cells) (getD (a .values) (valuePlace slot (h .number)) 0) (pos 0))) (a .locks) (a .cells))
         state n (Ran (Read h))
     unfolding operate
     read-step h e =
         rw on
         (ran _ (Read h) _ e refl refl
-        (goes (p .f .next + 1) _ _ (a .owners) (a .cells) (state .cells) (state .locks)
+        (goes (p .f .next + 1) _ _ (a .locks) (a .cells) (state .cells) (state .locks)
         (accumulated-set _ _ (ap₂ (λ (l : List ℤ) (i : ℕ). getD l i (pos 0)) (sym (s .cells-are)) (own-value (h .number) (operands-of (Read h) e .reads (h .number) refl .own))))
         refl (s .cells-are) (s .locks-are)))
 
     pub write-step : (h : Handle) → statement t (p .f .next) ≡ Write h
         → Stepped t
-        (arrays (a .started) (set (a .nexts) slot (next + 1)) (a .values) (a .counts) (a .accumulators) (a .owners)
+        (arrays (a .started) (set (a .nexts) slot (next + 1)) (a .values) (a .counts) (a .accumulators) (a .locks)
         (set (a .cells) (getD (a .values) (valuePlace slot (h .number)) 0) (getD (a .accumulators) n (pos 0))))
         state n (Ran (Write h))
     unfolding operate
     write-step h e =
         rw on
         (ran _ (Write h) _ e refl refl
-        (goes (p .f .next + 1) _ (a .accumulators) (a .owners) _ _ (state .locks) accumulated-same
+        (goes (p .f .next + 1) _ (a .accumulators) (a .locks) _ _ (state .locks) accumulated-same
         (length-set (a .cells) (getD (a .values) (valuePlace slot (h .number)) 0) (getD (a .accumulators) n (pos 0)))
         (rw (s .cells-are, own-value (h .number) (operands-of (Write h) e .writes (h .number) refl .own), p .accumulator-is))
         (s .locks-are)))
 
     pub set-step : (number : ℤ) → statement t (p .f .next) ≡ Set number
-        → Stepped t (arrays (a .started) (set (a .nexts) slot (next + 1)) (a .values) (a .counts) (set (a .accumulators) n number) (a .owners) (a .cells)) state n (Ran (Set number))
+        → Stepped t (arrays (a .started) (set (a .nexts) slot (next + 1)) (a .values) (a .counts) (set (a .accumulators) n number) (a .locks) (a .cells)) state n (Ran (Set number))
     unfolding operate
     set-step number e =
         rw on
         (ran _ (Set number) _ e refl refl
-        (goes (p .f .next + 1) _ _ (a .owners) (a .cells) (state .cells) (state .locks) (accumulated-set _ _ refl) refl (s .cells-are) (s .locks-are)))
+        (goes (p .f .next + 1) _ _ (a .locks) (a .cells) (state .cells) (state .locks) (accumulated-set _ _ refl) refl (s .cells-are) (s .locks-are)))
 
     pub add-step : (number : ℤ) → statement t (p .f .next) ≡ Add number
         → Stepped t
         (arrays (a .started) (set (a .nexts) slot (next + 1)) (a .values) (a .counts)
-        (set (a .accumulators) n (saturate (getD (a .accumulators) n (pos 0) +ℤ number))) (a .owners) (a .cells))
+        (set (a .accumulators) n (saturate (getD (a .accumulators) n (pos 0) +ℤ number))) (a .locks) (a .cells))
         state n (Ran (Add number))
     unfolding operate
     add-step number e =
         rw on
         (ran _ (Add number) _ e refl refl
-        (goes (p .f .next + 1) _ _ (a .owners) (a .cells) (state .cells) (state .locks)
+        (goes (p .f .next + 1) _ _ (a .locks) (a .cells) (state .cells) (state .locks)
         (accumulated-set _ _ (ap (λ (z : ℤ). saturate (z +ℤ number)) (p .accumulator-is))) refl (s .cells-are) (s .locks-are)))
 
     pub jump-step : (target : Target) → statement t (p .f .next) ≡ Jump target
-        → Stepped t (arrays (a .started) (set (a .nexts) slot (target .statement)) (a .values) (a .counts) (a .accumulators) (a .owners) (a .cells)) state n (Ran (Jump target))
+        → Stepped t (arrays (a .started) (set (a .nexts) slot (target .statement)) (a .values) (a .counts) (a .accumulators) (a .locks) (a .cells)) state n (Ran (Jump target))
     unfolding operate
     jump-step target e =
         ran _ (Jump target) _ e refl refl
-        (goes (target .statement) _ (a .accumulators) (a .owners) (a .cells) (state .cells) (state .locks) accumulated-same refl (s .cells-are) (s .locks-are))
+        (goes (target .statement) _ (a .accumulators) (a .locks) (a .cells) (state .cells) (state .locks) accumulated-same refl (s .cells-are) (s .locks-are))
 
     pub jump-zero-step : (target : Target) → statement t (p .f .next) ≡ JumpZero target
         → Stepped t
-        (arrays (a .started) (set (a .nexts) slot (cond (isZero (getD (a .accumulators) n (pos 0))) (target .statement) (next + 1))) (a .values) (a .counts) (a .accumulators) (a .owners) (a .cells))
+        (arrays (a .started) (set (a .nexts) slot (cond (isZero (getD (a .accumulators) n (pos 0))) (target .statement) (next + 1))) (a .values) (a .counts) (a .accumulators) (a .locks) (a .cells))
         state n (Ran (JumpZero target))
     unfolding operate
     jump-zero-step target e =
         rw there
         (ran _ (JumpZero target) _ e refl refl
-        (goes (cond (isZero (thread state n .accumulator)) (target .statement) (p .f .next + 1)) _ (a .accumulators) (a .owners) (a .cells) (state .cells) (state .locks)
+        (goes (cond (isZero (thread state n .accumulator)) (target .statement) (p .f .next + 1)) _ (a .accumulators) (a .locks) (a .cells) (state .cells) (state .locks)
         accumulated-same refl (s .cells-are) (s .locks-are)))
       where
         there : set (a .nexts) slot (cond (isZero (getD (a .accumulators) n (pos 0))) (target .statement) (next + 1))
@@ -302,11 +296,11 @@ module _ (t : Table) (accepted : Accepted t) (a : Arrays) (state : State) (n slo
 
     -- RETURN: the frame is no longer counted
     pub return-step : statement t (p .f .next) ≡ Return
-        → Stepped t (arrays (a .started) (a .nexts) (a .values) (set (a .counts) n (getD (a .counts) n 0 - 1)) (a .accumulators) (a .owners) (a .cells)) state n (Ran Return)
+        → Stepped t (arrays (a .started) (a .nexts) (a .values) (set (a .counts) n (getD (a .counts) n 0 - 1)) (a .accumulators) (a .locks) (a .cells)) state n (Ran Return)
     unfolding operate
     return-step e =
         ran _ Return _ e refl refl
-        (one-thread t a (arrays (a .started) (a .nexts) (a .values) (set (a .counts) n (getD (a .counts) n 0 - 1)) (a .accumulators) (a .owners) (a .cells)) n
+        (one-thread t a (arrays (a .started) (a .nexts) (a .values) (set (a .counts) n (getD (a .counts) n 0 - 1)) (a .accumulators) (a .locks) (a .cells)) n
         (record {
           lengths =
               record {
@@ -326,76 +320,59 @@ module _ (t : Table) (accepted : Accepted t) (a : Arrays) (state : State) (n slo
         record { count-is = c; few = omega (arith, c, p .few); accumulator-is = p .accumulator-is; frames = p .rest })
         (s .cells-are) (s .locks-are))
 
-    -- ---- TAKE and GIVE
+    -- ---- TAKE, TAKER and GIVE
 
-    -- the lock that a handle refers to, by its owner
-    lock-is : (h o : ℕ) → OwnHandle t (p .f .routine) h → getD (a .owners) (getD (a .values) (valuePlace slot h) 0) 0 ≡ o
-        → holder state (refers (p .f) h) ≡ holderOf o
-    lock-is h o own q =
-        ap (λ (i : ℕ). holder state i) (sym (own-value h own)) ∙ holder-is t a state (getD (a .values) (valuePlace slot h) 0) s ∙ ap holderOf q
+    -- what the operation does to the lock's word, it does to who holds the lock
+    lock-step : {number : ℕ} {turn : ℕ → Holder → Turn} {word : ℕ → ℕ → LockTurn} → InWords number turn word → eqb number 0 ≡ false → (h : ℕ) (σ : Statement)
+        → statement t (p .f .next) ≡ σ → OwnHandle t (p .f .routine) h → limit (length (state .threads)) σ ≡ 0
+        → operate t state n (thread state n .accumulator) (p .f) (p .older) σ
+        ≡ turned t state n (thread state n .accumulator) (p .f) (p .older) (refers (p .f) h) (turn n (holder state (refers (p .f) h)))
+        → AtLock t a state n slot next (getD (a .values) (valuePlace slot h) 0) σ (word n (getD (a .locks) (getD (a .values) (valuePlace slot h) 0) 0))
+    lock-step {number} {turn} {word} w some h σ e own free does =
+        let low16 : n < 16 = omega (arith, s .most) in
+        let k = refers (p .f) h in
+        let who = holder state k in
+        rw (own-value h own, word-at (a .locks) (state .locks) (s .locks-are) k, w .shown n who low16 (s .locks-are .low k))
+        (by (turn n who) does (w .refusal n who) (w .low n who low16 (s .locks-are .low k)))
+      where
+        by : (x : Turn)
+            → operate t state n (thread state n .accumulator) (p .f) (p .older) σ ≡ turned t state n (thread state n .accumulator) (p .f) (p .older) (refers (p .f) h) x
+            → Stops number x → OnPass x Low → AtLock t a state n slot next (refers (p .f) h) σ (turnWord x)
+        by (passes new) o r l =
+            rw on
+            (ran _ σ _ e free o
+            (goes (p .f .next + 1) _ (a .accumulators) _ (a .cells) (state .cells) _ accumulated-same refl (s .cells-are)
+            (locks-set (a .locks) (state .locks) (s .locks-are) (refers (p .f) h) new l)))
+        by (stops m) o r l = turned-down σ m e (by-operation σ e free ∙ o) (rw r some)
 
-    -- the state after a lock changes hands
-    handed : (h x : ℕ) (new : Holder) → OwnHandle t (p .f .routine) h → holderOf x ≡ new
-        → Shows t (arrays (a .started) (set (a .nexts) slot (p .f .next + 1)) (a .values) (a .counts) (a .accumulators) (set (a .owners) (getD (a .values) (valuePlace slot h) 0) x) (a .cells))
-        (with-thread state n (thread state n .accumulator) (going (p .f) (p .f .next + 1) ∷ p .older) (state .cells) (set (state .locks) (refers (p .f) h) new))
-    handed h x new own q =
-        goes (p .f .next + 1) _ (a .accumulators) _ (a .cells) (state .cells) _ accumulated-same refl (s .cells-are)
-        (ap (λ (i : ℕ). set (state .locks) i new) (sym (own-value h own)) ∙ locks-set t a state (getD (a .values) (valuePlace slot h) 0) x new s q)
+    module _ (h : Handle) where
+      abbrev lock : ℕ
+      lock = getD (a .values) (valuePlace slot (h .number)) 0
 
-    module _ (h : Handle) (e : statement t (p .f .next) ≡ Take h) where
-      pub take-refused : (getD (a .owners) (getD (a .values) (valuePlace slot (h .number)) 0) 0 ≡ 0 → ⊥) → Stepped t a state n (Refused 16 (Take h))
+      pub take-step : statement t (p .f .next) ≡ Take h → AtLock t a state n slot next lock (Take h) (takingWord n (getD (a .locks) lock 0))
       unfolding operate
-      take-refused w =
-          turned-down (Take h) 16 e (by-operation (Take h) e refl ∙ blocked (getD (a .owners) (getD (a .values) (valuePlace slot (h .number)) 0) 0) refl) refl
-        where
-          blocked : (o : ℕ) → getD (a .owners) (getD (a .values) (valuePlace slot (h .number)) 0) 0 ≡ o
-              → operate t state n (thread state n .accumulator) (p .f) (p .older) (Take h) ≡ refused 16
-          blocked zero q = absurd (w q)
-          blocked (suc m) q = rw (lock-is (h .number) (suc m) (operands-of (Take h) e .takes (h .number) refl .own) q)
+      take-step e = lock-step take-in-words refl (h .number) (Take h) e (operands-of (Take h) e .takes (h .number) refl .own) refl refl
 
-      pub take-step : getD (a .owners) (getD (a .values) (valuePlace slot (h .number)) 0) 0 ≡ 0
-          → Stepped t (arrays (a .started) (set (a .nexts) slot (next + 1)) (a .values) (a .counts) (a .accumulators) (set (a .owners) (getD (a .values) (valuePlace slot (h .number)) 0) (n + 1)) (a .cells)) state n (Ran (Take h))
+      pub take-read-step : statement t (p .f .next) ≡ TakeRead h → AtLock t a state n slot next lock (TakeRead h) (readingWord n (getD (a .locks) lock 0))
       unfolding operate
-      take-step w =
-          rw on
-          (ran _ (Take h)
-          (with-thread state n (thread state n .accumulator) (going (p .f) (p .f .next + 1) ∷ p .older) (state .cells) (set (state .locks) (refers (p .f) (h .number)) (held n)))
-          e refl (rw (lock-is (h .number) 0 (operands-of (Take h) e .takes (h .number) refl .own) w))
-          (handed (h .number) (n + 1) (held n) (operands-of (Take h) e .takes (h .number) refl .own) (holder-next n)))
+      take-read-step e = lock-step read-in-words refl (h .number) (TakeRead h) e (operands-of (TakeRead h) e .takes (h .number) refl .own) refl refl
 
-    module _ (h : Handle) (e : statement t (p .f .next) ≡ Give h) where
-      pub give-refused : (getD (a .owners) (getD (a .values) (valuePlace slot (h .number)) 0) 0 ≡ n + 1 → ⊥) → Stepped t a state n (Refused 17 (Give h))
+      pub give-step : statement t (p .f .next) ≡ Give h → AtLock t a state n slot next lock (Give h) (givingWord n (getD (a .locks) lock 0))
       unfolding operate
-      give-refused w =
-          turned-down (Give h) 17 e (by-operation (Give h) e refl ∙ blocked (getD (a .owners) (getD (a .values) (valuePlace slot (h .number)) 0) 0) refl) refl
-        where
-          blocked : (o : ℕ) → getD (a .owners) (getD (a .values) (valuePlace slot (h .number)) 0) 0 ≡ o
-              → operate t state n (thread state n .accumulator) (p .f) (p .older) (Give h) ≡ refused 17
-          blocked zero q = rw (lock-is (h .number) zero (operands-of (Give h) e .gives (h .number) refl .own) q)
-          blocked (suc m) q = rw (lock-is (h .number) (suc m) (operands-of (Give h) e .gives (h .number) refl .own) q, ne-eqb m n (λ z. w (omega (arith, q, z))))
-
-      pub give-step : getD (a .owners) (getD (a .values) (valuePlace slot (h .number)) 0) 0 ≡ n + 1
-          → Stepped t (arrays (a .started) (set (a .nexts) slot (next + 1)) (a .values) (a .counts) (a .accumulators) (set (a .owners) (getD (a .values) (valuePlace slot (h .number)) 0) 0) (a .cells)) state n (Ran (Give h))
-      unfolding operate
-      give-step w =
-          rw on
-          (ran _ (Give h)
-          (with-thread state n (thread state n .accumulator) (going (p .f) (p .f .next + 1) ∷ p .older) (state .cells) (set (state .locks) (refers (p .f) (h .number)) free))
-          e refl (rw (lock-is (h .number) (n + 1) (operands-of (Give h) e .gives (h .number) refl .own) w ∙ holder-next n, eq-eqb n n refl))
-          (handed (h .number) 0 free (operands-of (Give h) e .gives (h .number) refl .own) refl))
+      give-step e = lock-step give-in-words refl (h .number) (Give h) e (operands-of (Give h) e .gives (h .number) refl .own) refl refl
 
     -- ---- POINT
 
     pub point-step : (h g : Handle) → statement t (p .f .next) ≡ Point h g
         → Stepped t
-        (arrays (a .started) (set (a .nexts) slot (next + 1)) (set (a .values) (valuePlace slot (h .number)) (getD (a .values) (valuePlace slot (g .number)) 0)) (a .counts) (a .accumulators) (a .owners) (a .cells)) state n (Ran (Point h g))
+        (arrays (a .started) (set (a .nexts) slot (next + 1)) (set (a .values) (valuePlace slot (h .number)) (getD (a .values) (valuePlace slot (g .number)) 0)) (a .counts) (a .accumulators) (a .locks) (a .cells)) state n (Ran (Point h g))
     unfolding operate
     point-step h g e =
         rw on
         (ran _ (Point h g) _ e refl refl
-        (one-thread t a (arrays (a .started) nexts′ values′ (a .counts) (a .accumulators) (a .owners) (a .cells)) n
+        (one-thread t a (arrays (a .started) nexts′ values′ (a .counts) (a .accumulators) (a .locks) (a .cells)) n
         (record {
-          lengths = lengths-next (p .f .next + 1) values′ (a .counts) (a .accumulators) (a .owners) (a .cells) (length-set (a .values) (valuePlace slot (h .number)) to) refl refl refl;
+          lengths = lengths-next (p .f .next + 1) values′ (a .counts) (a .accumulators) (a .locks) (a .cells) (length-set (a .values) (valuePlace slot (h .number)) to) refl refl refl;
           slots = λ m apart. kept (m * 32) (m * 32 + 32) (λ i v w. own-slot m i apart v w);
           counts = λ m apart. refl;
           accumulators = λ m apart. refl;
@@ -463,12 +440,12 @@ module _ (t : Table) (accepted : Accepted t) (a : Arrays) (state : State) (n slo
         nexts-long = length-set going-on there first ∙ length-set (a .nexts) slot (p .f .next + 1) ∙ s .lengths .nexts
 
         new-frame : there < 512 → Passes t (p .f .routine) q arguments → ShowsFrame t (set going-on there first) values there (opened t q (p .f .values) arguments)
-        new-frame l passes =
-            opened-shown t accepted (set going-on there first) (a .values) values (p .f .values) there slot q arguments (passes .there)
+        new-frame l given =
+            opened-shown t accepted (set going-on there first) (a .values) values (p .f .values) there slot q arguments (given .there)
             (getD-set-same going-on there first 0 (omega (arith, nexts-long, length-set going-on there first)) ∙ first-is)
             (subst (λ (i : ℕ). Entered t (a .values) values there slot (routine t q .handle) i arguments) end-is
             (subst (λ (i : ℕ). Entered t (a .values) values there slot i end arguments) from-is entered))
-            (λ k l. own-value (getD (passed arguments) k 0) (passes .argument k l .own))
+            (λ k l. own-value (getD (passed arguments) k 0) (given .argument k l .own))
 
         opening : (low high : ℕ) → ((i : ℕ) → low ≤ i → i < high → i ≡ there → ⊥) → Kept going-on (set going-on there first) (a .values) values low high
         opening low high out =
@@ -480,13 +457,13 @@ module _ (t : Table) (accepted : Accepted t) (a : Arrays) (state : State) (n slo
 
       pub call-step : (values : List ℕ) → statement t (p .f .next) ≡ Call q arguments → Entered t (a .values) values (slot + 1) slot from end arguments
           → Stepped t
-          (arrays (a .started) (set (set (a .nexts) (slot + 1) first) slot (next + 1)) values (set (a .counts) n (getD (a .counts) n 0 + 1)) (a .accumulators) (a .owners) (a .cells))
+          (arrays (a .started) (set (set (a .nexts) (slot + 1) first) slot (next + 1)) values (set (a .counts) n (getD (a .counts) n 0 + 1)) (a .accumulators) (a .locks) (a .cells))
           state n (Ran (Call q arguments))
       unfolding operate
       call-step values e entered =
           rw (moved-on values (slot + 1) entered (λ z. omega arith))
           (ran _ (Call q arguments) _ e refl refl
-          (one-thread t a (arrays (a .started) nexts′ values counts′ (a .accumulators) (a .owners) (a .cells)) n
+          (one-thread t a (arrays (a .started) nexts′ values counts′ (a .accumulators) (a .locks) (a .cells)) n
           (record {
             lengths =
                 record {
@@ -548,7 +525,7 @@ module _ (t : Table) (accepted : Accepted t) (a : Arrays) (state : State) (n slo
       pub start-step : (values : List ℕ) → statement t (p .f .next) ≡ Start q arguments → a .started < 16 → Entered t (a .values) values (a .started * 32) slot from end arguments
           → Stepped t
           (arrays (a .started + 1) (set (set (a .nexts) (a .started * 32) first) slot (next + 1)) values (set (a .counts) (a .started) 1)
-          (set (a .accumulators) (a .started) (pos 0)) (a .owners) (a .cells))
+          (set (a .accumulators) (a .started) (pos 0)) (a .locks) (a .cells))
           state n (Ran (Start q arguments))
       unfolding operate
       start-step values e w entered =
@@ -570,7 +547,7 @@ module _ (t : Table) (accepted : Accepted t) (a : Arrays) (state : State) (n slo
           })
           (with-thread state n (thread state n .accumulator) (going (p .f) (p .f .next + 1) ∷ p .older) (state .cells) (state .locks))
           (record { accumulator = pos 0; frames = opened t q (p .f .values) arguments ∷ [] })
-          (goes (p .f .next + 1) _ (a .accumulators) (a .owners) (a .cells) (state .cells) (state .locks) accumulated-same refl (s .cells-are) (s .locks-are))
+          (goes (p .f .next + 1) _ (a .accumulators) (a .locks) (a .cells) (state .cells) (state .locks) accumulated-same refl (s .cells-are) (s .locks-are))
           refl (w) refl
           (let c = getD-set-same (a .counts) (a .started) 1 0 (omega (arith, s .lengths .counts, w)) in
           record {
@@ -586,11 +563,11 @@ module _ (t : Table) (accepted : Accepted t) (a : Arrays) (state : State) (n slo
           refl refl))
         where
           mid : Arrays
-          mid = arrays (a .started) going-on (a .values) (a .counts) (a .accumulators) (a .owners) (a .cells)
+          mid = arrays (a .started) going-on (a .values) (a .counts) (a .accumulators) (a .locks) (a .cells)
 
           new : Arrays
           new =
-              arrays (a .started + 1) (set going-on (a .started * 32) first) values (set (a .counts) (a .started) 1) (set (a .accumulators) (a .started) (pos 0)) (a .owners) (a .cells)
+              arrays (a .started + 1) (set going-on (a .started * 32) first) values (set (a .counts) (a .started) 1) (set (a .accumulators) (a .started) (pos 0)) (a .locks) (a .cells)
 
           above : a .started * 32 ≡ a .started * 32 + 0
           above = omega arith

@@ -48,8 +48,8 @@ fn operate(
         Statement::Write(h) => operations::write(h.number, at, sizes.cells, values, registers),
         Statement::Set(number) => operations::set(number, at, registers),
         Statement::Add(number) => operations::add(number, at, registers),
-        Statement::Take(h) => operations::take(h.number, at, sizes.locks, words, values),
-        Statement::Give(h) => operations::give(h.number, at, sizes.locks, words, values),
+        Statement::Take(h) => locks::take(h.number, at, sizes.locks, words, values),
+        Statement::Give(h) => locks::give(h.number, at, sizes.locks, words, values),
         Statement::Point { handle: h, from: g } => operations::point(
             h.number,
             g.number,
@@ -80,6 +80,7 @@ fn operate(
         Statement::Jump(target) => Move::To(target.statement),
         Statement::JumpZero(target) => operations::jump_zero(target.statement, at, registers),
         Statement::Return => operations::close(at, words),
+        Statement::TakeRead(h) => locks::take_read(h.number, at, sizes.locks, words, values),
     }
 }
 

@@ -5,7 +5,7 @@ use mir.Facts.{toZ-ofZ}
 use native.Mathlib.Omega.{arith}
 use mathlib.Core.Path.{refl}
 use mathlib.Core.Logic.{inl, inr}
-use Rattle.steps.proofs.Operating.{placed-here, cells-few, locks-few, values-long, slot-below, lines-there, named, room-here, did-read, did-write, did-set, did-add, did-take, did-give, did-point, did-call, did-start, did-jump, did-jump-zero, did-return}
+use Rattle.steps.proofs.Operating.{placed-here, cells-few, locks-few, values-long, slot-below, lines-there, named, room-here, did-read, did-write, did-set, did-add, did-take, did-give, did-point, did-call, did-start, did-jump, did-jump-zero, did-return, did-take-read}
 use borrow.Author.Needs.{needs}
 use Rattle.steps.proofs.operate.Statement.{statement}
 use Rattle.steps.proofs.operate.Tie as tie
@@ -79,6 +79,12 @@ enum-told c = search needs
 close-requires : tie.Need-close-requires
 close-requires c κs = (placed-here _ _ _ _ _ _ _ _ _ (c .before .before .before .pre), c .before .before .before .pre .newest)
 
+enum-known-statement-12 : tie.Need-enum-known-statement-12
+enum-known-statement-12 c = search needs
+
+take-read-requires : tie.Need-take-read-requires
+take-read-requires c κs = (placed-here _ _ _ _ _ _ _ _ _ (c .before .before .before .before .before .pre), locks-few _ _ _ _ _ _ _ _ _ (c .before .before .before .before .before .pre))
+
 returns : tie.Need-returns
 returns c = did-read _ _ _ _ _ _ _ _ _ (c .before .before .before .before .before .before .pre) _ _ _ (c .before .before .before .before .statement .given .1) (c .read .ensures .0) (c .read .ensures .1)
 
@@ -115,6 +121,9 @@ returns-11 c = did-jump-zero _ _ _ _ _ _ _ _ _ (c .before .before .before .befor
 returns-12 : tie.Need-returns-12
 returns-12 c = did-return _ _ _ _ _ _ _ _ _ (c .before .before .before .before .pre) _ _ (c .before .before .enum-told .given .1) (c .close .ensures .0) (c .close .ensures .1)
 
+returns-13 : tie.Need-returns-13
+returns-13 c = did-take-read _ _ _ _ _ _ _ _ _ (c .before .before .before .before .before .before .pre) _ _ _ (c .before .before .before .before .statement12 .given .1) (c .take-read .ensures)
+
 pub operate-spec : {M : Type 1} → statement M
 operate-spec =
     tie.close
@@ -142,6 +151,8 @@ operate-spec =
     jump-zero-requires
     enum-told
     close-requires
+    enum-known-statement-12
+    take-read-requires
     returns
     returns-2
     returns-3
@@ -153,4 +164,5 @@ operate-spec =
     returns-9
     returns-10
     returns-11
-    returns-12)
+    returns-12
+    returns-13)
