@@ -1,2 +1,1 @@
-pub mod Own
 pub mod OwnLaws

@@ -1,34 +1,30 @@
--- What is held in the way of each access: from lists that loops fill, and where nothing is taken for reading. Assumes nothing.
+-- What is held in the way of each access: from the sets of both modes, and where nothing is taken for reading. Assumes nothing.
 use mathlib.Core.Path.{_≡_, refl, sym, ap, ap₂, _∙_}
-use mathlib.Core.Bool.{Bool, true, false, not}
+use mathlib.Core.Bool.{Bool, true, false}
 use mathlib.Core.List.{List, _++_}
 use Prim.Native.Nat.{ℕ, _+_, _*_, _-_, _≤_, _<_}
-use native.Mathlib.Nat.{le-refl}
 use native.Mathlib.Decide.{decLt}
 use native.Mathlib.Omega.{arith}
 use lib.Dec.{ltb}
 use lib.IntN.{ℤ}
-use lib.ListN.{length, getD, set, take, drop, replicate, length-replicate, length-take, length-drop, List·getD-eq-default}
-use lib.Seq.{getD-take, getD-drop, length-take-le, take-at, drop-at}
+use lib.ListN.{length, getD, take, drop, List·getD-eq-default}
+use lib.Seq.{getD-take, length-take-le, take-at, drop-at}
 use borrow.Author.Tests.{not-true, le-ltb}
 use borrow.Rule.Slice.PartMut.{putMid, same-len-mid}
-use Rattle.table.specs.Header.{statements, statementLine}
-use Rattle.table.specs.Fields.{field}
-use Rattle.table.specs.Table.{Table, tableOf, statement, statementIn, statementOf}
+use Rattle.table.specs.Header.{statements}
+use Rattle.table.specs.Table.{Table, tableOf, statement, statementOf}
 use Rattle.table.specs.Tabulate.{tabulate}
-use Rattle.table.specs.TabulateLaws.{Filled, filled-all, Rewritten, rewritten-next, zeros-at, length-tabulate, getD-tabulate, is-tabulate, tabulate-same}
+use Rattle.table.specs.TabulateLaws.{length-tabulate, is-tabulate, tabulate-same}
 use Rattle.table.specs.Accepted.{Accepted}
 use Rattle.table.specs.CheckLaws.{until-all}
 use Rattle.table.specs.FrontLaws.{part-long, put-first}
 use Rattle.table.specs.LookupLaws.{statement-is, statements-length}
-use Rattle.table.specs.OperationLaws.{view-line}
 use Rattle.table.specs.Until.{until}
 use Rattle.table.specs.View.{view, onOr, takesToRead}
 use Rattle.table.specs.declared.Reference.{Reference}
 use Rattle.table.specs.declared.Reference.the-variants.{To, Nothing}
 use Rattle.table.specs.declared.Statement.{Statement}
 use Rattle.table.specs.declared.Statement.the-variants.{Return}
-use Rattle.table.specs.declared.View.{View}
 use Rattle.report.specs.Greatest.{greatest}
 use Rattle.report.specs.Layout.{oneEach}
 use Rattle.report.specs.Flow.{flowSets}
@@ -36,25 +32,7 @@ use Rattle.report.specs.Effect.{gives}
 use Rattle.report.specs.Held.{heldSets}
 use Rattle.report.specs.ModeLaws.{modes-same}
 use Rattle.report.specs.Findings.{setsOf, ownHeld, ownHolds}
-use Rattle.own_holds.specs.Own.{takesToWriteAlone, heldBy}
-
--- ---- a list that is cleared
-
-pub cleared : (s : List ℕ) (n p : ℕ) → Filled (λ k. 0) s n p → n ≤ p → s ≡ replicate n 0
-cleared s n p f h =
-    filled-all (λ k. 0) s n p f h ∙ sym (is-tabulate n (λ k. 0) (replicate n 0) 0 (length-replicate n 0) (λ k l. zeros-at n k))
-
--- ---- the lowest statement that takes a lock for reading
-
--- the line of statement s, from that of statement 0
-line-of : (f : List ℤ) (base s : ℕ) → base ≡ statementLine f 0 → base + s ≡ statementLine f s
-line-of f base s e = omega arith
-
--- what its line says
-pub to-write-alone : (f : List ℤ) (base s : ℕ) {b : Bool} → base ≡ statementLine f 0 → b ≡ takesToRead (view (statementIn f (base + s) (field f (base + s) 1)))
-    → takesToWriteAlone f s ≡ not b
-unfolding takesToWriteAlone
-to-write-alone f base s e i = ap (λ (v : View). not (takesToRead v)) (sym (view-line f s (line-of f base s e) refl)) ∙ ap not (sym i)
+use Rattle.modes.specs.Modes.{takesToWriteAlone, heldBy}
 
 module _ (f : List ℤ) where
   abbrev t : Table
@@ -96,30 +74,6 @@ module _ (f : List ℤ) where
   one-mode flow given a e i is =
       is ∙ sym (held-once _ (held-long false flow given))
       ∙ ap (λ (l : List ℕ). heldBy f l (heldSets t (oneEach t) false flow given)) (sym (modes-same t (oneEach t) (none-to-read e i) flow given))
-
-  -- ---- rewritten in place
-
-  -- what the loop leaves at each place, from the list before it
-  abbrev pub way : List ℕ → ℕ → ℕ
-  way w s = onOr (view (statementOf f s) .writes) (λ h. getD w (statements f + s) 0) (getD w s 0)
-
-  pub way-next : {w₀ w : List ℕ} {base s n v : ℕ} → Rewritten (way w₀) w₀ w s → s < length w → n ≡ statements f → base ≡ statementLine f 0
-      → v ≡ onOr (view (statementIn f (base + s) (field f (base + s) 1)) .writes) (λ h. getD w (n + s) 0) (getD w s 0) → Rewritten (way w₀) w₀ (set w s v) (s + 1)
-  way-next {w₀} {w} {base} {s} {n} {v} r l e i is =
-      rewritten-next r l
-      (is
-      ∙ ap₂ {C = ℕ} (λ (x y : ℕ). onOr (view (statementIn f (base + s) (field f (base + s) 1)) .writes) (λ h. x) y) (ap (λ (m : ℕ). getD w (m + s) 0) e ∙ r .rest (statements f + s) (omega arith))
-      (r .rest s (le-refl s))
-      ∙ ap {B = ℕ} (λ (v : View). onOr (v .writes) (λ h. getD w₀ (statements f + s) 0) (getD w₀ s 0)) (view-line f s (line-of f base s i) refl))
-
-  pub way-done : {w₀ w : List ℕ} {s : ℕ} → Rewritten (way w₀) w₀ w s → statements f ≤ s → statements f ≤ length w₀
-      → take (statements f) w ≡ heldBy f (drop (statements f) w₀) w₀
-  unfolding heldBy
-  way-done {w₀} {w} r h l =
-      is-tabulate (statements f) _ (take (statements f) w) 0 (length-take-le (statements f) w (omega (arith, r .filled .long)))
-      (λ k b.
-      getD-take (statements f) w k 0 b ∙ r .filled .holds k (omega arith)
-      ∙ ap {B = ℕ} (λ (x : ℕ). onOr (view (statementOf f k) .writes) (λ h. x) (getD w₀ k 0)) (sym (getD-drop (statements f) w₀ k 0)))
 
   -- only the first places matter
   held-front : (a b c d : List ℕ) → ((s : ℕ) → s < statements f → getD a s 0 ≡ getD b s 0) → ((s : ℕ) → s < statements f → getD c s 0 ≡ getD d s 0)

@@ -4,47 +4,16 @@
 ghost use mathlib.Core.Path.{_≡_};
 ghost use mathlib.Core.Bool.{true, false};
 ghost use Prim.Native.Nat.{_+_, _*_, _≤_};
-ghost use lib.ListN.{length, replicate, take, drop};
-ghost use Rattle.table.specs.Fields.{field};
+ghost use lib.ListN.{length, replicate, take};
 ghost use Rattle.table.specs.Header.{statements};
 ghost use Rattle.table.specs.Extents.{firstStatements};
-ghost use Rattle.table.specs.Table.{tableOf, statementIn};
-ghost use Rattle.table.specs.Until.{until};
-ghost use Rattle.table.specs.View.{view, onOr};
+ghost use Rattle.table.specs.Table.{tableOf};
 ghost use Rattle.table.specs.Accepted.{Accepted};
 ghost use Rattle.report.specs.Layout.{oneEach};
 ghost use Rattle.report.specs.Held.{heldSets};
 ghost use Rattle.report.specs.Findings.{setsOf, ownHolds};
 ghost use Rattle.held_edges.specs.TableEdges.{basesOf};
-ghost use Rattle.own_holds.specs.Own.{takesToWriteAlone, heldBy};
-use table::Reference;
-
-// The lowest statement that takes a lock for reading; how many statements there are, if none does.
-fn first_to_read(numbers: &[i32]) -> usize
-    ensures { λ r. ⌜ r ≡ until (takesToWriteAlone (now (numbers .entry))) 0 (statements (now (numbers .entry))) ⌝ }
-{
-    let base = table::first_line(numbers);
-    let count = table::field_of(numbers, 0, 5);
-    let mut s = 0;
-    while s < count {
-        if attributes::takes_to_read_at(numbers, base + s) {
-            return s;
-        }
-        s += 1;
-    }
-    s
-}
-
-// Makes all sets empty.
-fn clear(sets: &mut [u64])
-    ensures { λ _. ⌜ now (sets .exit) ≡ replicate (length (now (sets .entry))) 0 ⌝ }
-{
-    let mut p = 0;
-    while p < sets.len() {
-        sets[p] = 0;
-        p += 1;
-    }
-}
+ghost use Rattle.modes.specs.Modes.{heldBy};
 
 // Leaves in the first places of `out` what is held for writing at each statement.
 fn writing_holds(
@@ -62,37 +31,12 @@ fn writing_holds(
     requires { ⌜ length (now out) ≡ basesOf (now numbers) .every + 1 ⌝ }
     ensures { λ _. ⌜ take (statements (now (numbers .entry))) (now (out .exit)) ≡ heldSets (tableOf (now (numbers .entry))) (oneEach (tableOf (now (numbers .entry)))) true (now (flow .entry)) (now (given .entry)) ⌝ }
 {
-    clear(out);
+    modes::clear(out);
     lockset::held_sets(numbers, first, flow, given, true, edges, also, out);
 }
 
-// What is held in the way of the access of the statement in `line`, from what is held for writing and in either way.
-fn held_in_way(numbers: &[i32], line: usize, writing: u64, either: u64) -> u64
-    ensures { λ r. ⌜ r ≡ onOr (view (statementIn (now (numbers .entry)) line (field (now (numbers .entry)) line 1)) .writes) (λ h. writing) either ⌝ }
-{
-    let writes = attributes::writes_at(numbers, line);
-    match writes {
-        Reference::To(_) => writing,
-        Reference::Nothing => either,
-    }
-}
-
-// Leaves in the first places of `work`, where what is held in either way stands, what is held in the way of each access; behind it stands what is held for
-// writing.
-fn put_writing(numbers: &[i32], work: &mut [u64])
-    requires { ⌜ statements (now numbers) + statements (now numbers) ≤ length (now work) ⌝ }
-    ensures { λ _. ⌜ take (statements (now (numbers .entry))) (now (work .exit)) ≡ heldBy (now (numbers .entry)) (drop (statements (now (numbers .entry))) (now (work .entry))) (now (work .entry)) ⌝ }
-{
-    let base = table::first_line(numbers);
-    let count = table::field_of(numbers, 0, 5);
-    let mut s = 0;
-    while s < count {
-        work[s] = held_in_way(numbers, base + s, work[count + s], work[s]);
-        s += 1;
-    }
-}
-
-// The same, with what is held for writing found first.
+// Leaves in the first places of `work`, where what is held in either way stands, what is held in the way of each access, and behind it what is left of finding
+// what is held for writing.
 fn add_writing(
     numbers: &[i32],
     first: &[usize],
@@ -119,7 +63,7 @@ fn add_writing(
         also,
         &mut work[count..end],
     );
-    put_writing(numbers, work);
+    modes::put_writing(numbers, work);
 }
 
 // Leaves in the first places of `work`, a list of empty sets, what is held in either way at each statement.
@@ -170,7 +114,7 @@ fn both_holds(
     ensures { λ _. ⌜ take (statements (now (numbers .entry))) (now (work .exit)) ≡ heldBy (now (numbers .entry)) (heldSets (tableOf (now (numbers .entry))) (oneEach (tableOf (now (numbers .entry)))) true (now (flow .entry)) (now (given .entry))) (heldSets (tableOf (now (numbers .entry))) (oneEach (tableOf (now (numbers .entry)))) false (now (flow .entry)) (now (given .entry))) ⌝ }
 {
     either_holds(numbers, first, flow, given, edges, also, work);
-    if first_to_read(numbers) < table::field_of(numbers, 0, 5) {
+    if modes::first_to_read(numbers) < table::field_of(numbers, 0, 5) {
         add_writing(numbers, first, flow, given, edges, also, work);
     }
 }

@@ -1,13 +1,13 @@
--- `own_holds::clear` meets its contract. Its loop has cleared the places below p. Assumes nothing.
+-- `modes::clear` meets its contract. Its loop has cleared the places below p. Assumes nothing.
 use mathlib.Core.Path.{refl}
 use Prim.Native.Nat.{_-_}
 use native.Mathlib.Omega.{arith}
 use lib.ListN.{length}
 use Rattle.table.specs.TabulateLaws.{Filled, filled-none, filled-next}
-use Rattle.own_holds.specs.OwnLaws.{cleared}
+use Rattle.modes.specs.ModeLoops.{cleared}
 use borrow.Author.Needs.{needs}
-use Rattle.own_holds.proofs.clear.Statement.{statement}
-use Rattle.own_holds.proofs.clear.Tie as tie
+use Rattle.modes.proofs.clear.Statement.{statement}
+use Rattle.modes.proofs.clear.Tie as tie
 
 abbrev Inv-loop : tie.InvT-loop
 Inv-loop sets₀ p₀ sets p = Filled (λ k. 0) sets (length sets₀) p

@@ -1,12 +1,12 @@
--- `own_holds::put_writing` meets its contract. Its loop has put the sets below s. Assumes nothing.
+-- `modes::put_writing` meets its contract. Its loop has put the sets below s. Assumes nothing.
 use Prim.Native.Nat.{_-_}
 use native.Mathlib.Omega.{arith}
 use denote.Ref.{now}
 use Rattle.table.specs.TabulateLaws.{Rewritten, rewritten-none}
-use Rattle.own_holds.specs.OwnLaws.{way, way-next, way-done}
+use Rattle.modes.specs.ModeLoops.{way, way-next, way-done}
 use borrow.Author.Needs.{needs}
-use Rattle.own_holds.proofs.put_writing.Statement.{statement}
-use Rattle.own_holds.proofs.put_writing.Tie as tie
+use Rattle.modes.proofs.put_writing.Statement.{statement}
+use Rattle.modes.proofs.put_writing.Tie as tie
 
 abbrev Inv-loop : tie.InvT-loop
 Inv-loop numbers work₀ base count s₀ work s = Rewritten (way numbers work₀) work₀ work s

@@ -1,4 +1,4 @@
--- `own_holds::first_to_read` meets its contract. Its loop has passed the statements below s. Assumes nothing.
+-- `modes::first_to_read` meets its contract. Its loop has passed the statements below s. Assumes nothing.
 use mathlib.Core.Path.{ap, _∙_}
 use mathlib.Core.Bool.{not}
 use Prim.Native.Nat.{_-_}
@@ -6,11 +6,11 @@ use native.Mathlib.Omega.{arith}
 use denote.Ref.{now}
 use Rattle.table.specs.Until.{until}
 use Rattle.table.specs.UntilLaws.{Looking, looking-start, looking-next, stop-from-zero, done-from-zero}
-use Rattle.own_holds.specs.Own.{takesToWriteAlone}
-use Rattle.own_holds.specs.OwnLaws.{to-write-alone}
+use Rattle.modes.specs.Modes.{takesToWriteAlone}
+use Rattle.modes.specs.ModeLoops.{to-write-alone}
 use borrow.Author.Needs.{needs}
-use Rattle.own_holds.proofs.first_to_read.Statement.{statement}
-use Rattle.own_holds.proofs.first_to_read.Tie as tie
+use Rattle.modes.proofs.first_to_read.Statement.{statement}
+use Rattle.modes.proofs.first_to_read.Tie as tie
 
 abbrev Inv-loop : tie.InvT-loop
 Inv-loop numbers base count s₀ s = Looking (takesToWriteAlone numbers) count 0 s

@@ -1,8 +1,8 @@
--- `own_holds::held_in_way` meets its contract. Assumes nothing.
+-- `modes::held_in_way` meets its contract. Assumes nothing.
 use mathlib.Core.Path.{sym, _∙_}
 use borrow.Author.Needs.{needs}
-use Rattle.own_holds.proofs.held_in_way.Statement.{statement}
-use Rattle.own_holds.proofs.held_in_way.Tie as tie
+use Rattle.modes.proofs.held_in_way.Statement.{statement}
+use Rattle.modes.proofs.held_in_way.Tie as tie
 
 writes-at-requires : tie.Need-writes-at-requires
 writes-at-requires c κs = search needs

@@ -1,4 +1,4 @@
--- What is held in the way of each access, from the numbers of a table. Assumes nothing.
+-- The two modes of a hold, from the numbers of a table. Assumes nothing.
 use Prim.Native.Nat.{ℕ}
 use mathlib.Core.Bool.{Bool, not}
 use mathlib.Core.List.{List}
