@@ -1,19 +1,19 @@
 -- TAKE, TAKER and GIVE do to a lock's word what the machine says of who holds it. Assumes nothing.
 use Prim.Native.Nat.{ℕ, _+_, _^_, _<_}
-use mathlib.Core.Path.{_≡_, refl, sym, _∙_}
+use mathlib.Core.Path.{_≡_, refl, _∙_}
 use mathlib.Core.Bool.{Bool, true, false, cond}
-use mathlib.Core.List.{List, [], _∷_}
+use mathlib.Core.List.{[], _∷_}
 use native.Mathlib.Omega.{arith}
 use native.Mathlib.Decide.{ℕ-discrete}
 use borrow.Author.Tests.{eq-eqb, ne-eqb, lt-ltb, le-ltb}
 use lib.Dec.{eqb, ltb}
 use lib.Pow.{pow-lt, pow-add, pow-pos}
 use Rattle.sets.specs.Set.{has, one, with, minus, union}
-use Rattle.sets.specs.SetLaws.{has-one, has-with, has-beyond, has-positive, one-is, union-below, minus-below}
+use Rattle.sets.specs.SetLaws.{has-one, has-beyond, has-positive, one-is, union-below, minus-below}
 use Rattle.machine.specs.State.{Holder, writer, readers, free, among, without}
 use Rattle.machine.specs.Step.{Turn, passes, stops, taking, reading, giving}
 use Rattle.machine.specs.LockLaws.{OnPass, Stops, taking-stops, reading-stops, giving-stops}
-use Rattle.run_state.specs.Shown.{readersWord, wordOf, AllLow, Low}
+use Rattle.run_state.specs.Shown.{readersWord, wordOf, Low}
 use Rattle.run_state.specs.LockWordLaws.{readers-has, readers-below, without-low, without-word}
 use Rattle.locks.specs.declared.LockTurn.{LockTurn}
 use Rattle.locks.specs.declared.LockTurn.the-variants.{Pass, Stop}

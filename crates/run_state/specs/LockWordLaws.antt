@@ -1,6 +1,6 @@
 -- What a lock's word says of who holds it. Assumes nothing.
-use Prim.Native.Nat.{ℕ, zero, suc, _+_, _^_, _<_, _≤_}
-use mathlib.Core.Path.{_≡_, refl, sym, ap, _∙_, subst}
+use Prim.Native.Nat.{ℕ, zero, suc, _^_, _<_}
+use mathlib.Core.Path.{_≡_, refl, sym, ap, _∙_}
 use mathlib.Core.Bool.{Bool, true, false, cond, not, _||_, _&&_}
 use mathlib.Core.List.{List, [], _∷_, map}
 use native.Mathlib.Omega.{arith}
@@ -10,7 +10,7 @@ use lib.Dec.{eqb, ltb}
 use lib.ListN.{length, getD, set, replicate, List·getD-map}
 use lib.Pow.{pow-lt}
 use lib.Seq.{getD-set-same, getD-set-other, set-out}
-use Rattle.sets.specs.Set.{has, one, with, union, minus}
+use Rattle.sets.specs.Set.{has, one, with, minus}
 use Rattle.sets.specs.SetLaws.{has-empty, has-one, has-with, has-minus, same-elements, union-below, one-is}
 use Rattle.machine.specs.State.{Holder, free, among, without}
 use Rattle.run_state.specs.Shown.{readersWord, wordOf, AllLow, Low, ShowsLocks}
