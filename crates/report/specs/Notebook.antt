@@ -1,5 +1,6 @@
 -- The trainer's notebook: tables and the reports that they have, under one statement of the definitions; and the traps that document 01 names.
 -- Assumes nothing.
+use Prim.Native.Nat.{ℕ}
 use mathlib.Core.Path.{_≡_, refl}
 use mathlib.Core.List.{List, [], _∷_}
 use Rattle.report.specs.Cases.{Case, row, asComputed, asGiven, walkOf}
