@@ -18,7 +18,7 @@ use Rattle.report.specs.Layout.{named, isIn, ownerOf, oneEach}
 use Rattle.report.specs.Operations.{nexts, accessed, given}
 use Rattle.report.specs.Flow.{startOf, passing, flowEdges, allFlowEdges, flowInitials, flowSets}
 use Rattle.report.specs.Effect.{overCopy, upFrom, namingEdges, callEdges, effects, gives, effectOf}
-use Rattle.report.specs.Held.{entry, onlyLock, atReturns, gained, lost, heldAfter, waysFrom, allWays, heldSets}
+use Rattle.report.specs.Held.{entry, onlyLock, atReturns, takenIn, gained, lost, heldAfter, waysFrom, allWays, heldSets}
 use Rattle.report.specs.Future.{callers, nextEffects, futureEdges, futureInitials, futures}
 use Rattle.report.specs.Preceded.{marked, isMarked, reachEdges, reachSets, bringsStart, entered, precedingEdges, precededSets, isPreceded}
 use Rattle.report.specs.Findings.{setsOf, clash, sharedAt, sharedCells, ownAccess, touchesAt, countedAt, ownHeld, commonLocks, isUnguarded, strayBy, strayAt, statementAccess, accessCount, isStray}
@@ -39,7 +39,7 @@ inOneList (l ∷ ls) = l ++ inOneList ls
 
 -- the reports of the cases, as the definitions give them and as they are to be
 unfoldable pub asComputed : List Case → List (List (List ℤ))
-unfolding onesIn has firsts one union inter minus subset isEmpty count isSingle same room settle settled putInto along passEdges least lowest until plain handlesFrom parameters firstOf tabulateFrom tabulate argumentsIn statementIn statementOf declarationOf routineAt tableOf joinedFrom unionFrom interFrom countFrom unionAt leaving narrow narrowAll leftOut greatest named isIn ownerOf oneEach nexts accessed given startOf passing flowEdges allFlowEdges flowInitials flowSets overCopy upFrom namingEdges callEdges effects gives effectOf entry onlyLock atReturns gained lost heldAfter waysFrom allWays heldSets callers nextEffects futureEdges futureInitials futures marked isMarked reachEdges reachSets bringsStart entered precedingEdges precededSets isPreceded setsOf clash sharedAt sharedCells ownAccess touchesAt countedAt ownHeld commonLocks isUnguarded strayBy strayAt statementAccess accessCount isStray cellLine cellLines strayLine strayLines countLines saysUnguarded saysStray totalLine findingLines linesFor reportLines
+unfolding onesIn has firsts one union inter minus subset isEmpty count isSingle same room settle settled putInto along passEdges least lowest until plain handlesFrom parameters firstOf tabulateFrom tabulate argumentsIn statementIn statementOf declarationOf routineAt tableOf joinedFrom unionFrom interFrom countFrom unionAt leaving narrow narrowAll leftOut greatest named isIn ownerOf oneEach nexts accessed given startOf passing flowEdges allFlowEdges flowInitials flowSets overCopy upFrom namingEdges callEdges effects gives effectOf entry onlyLock atReturns takenIn gained lost heldAfter waysFrom allWays heldSets callers nextEffects futureEdges futureInitials futures marked isMarked reachEdges reachSets bringsStart entered precedingEdges precededSets isPreceded setsOf clash sharedAt sharedCells ownAccess touchesAt countedAt ownHeld commonLocks isUnguarded strayBy strayAt statementAccess accessCount isStray cellLine cellLines strayLine strayLines countLines saysUnguarded saysStray totalLine findingLines linesFor reportLines
 asComputed [] = []
 asComputed (c ∷ cs) = reportLines (tableOf (inOneList (c .lines))) ∷ asComputed cs
 

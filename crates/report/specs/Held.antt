@@ -32,11 +32,15 @@ atReturns t k held c =
     interFrom (allLocks t) (routine t (k .routineOf c) .first) (routine t (k .routineOf c) .count)
     (λ s. cond (view (statement t s) .ends) (held (k .statementPlace c s)) (allLocks t))
 
--- what statement s of copy c adds, with `held` the sets before each place: "TAKE adds to both sets; TAKER adds only to the second set, under TAKE's one-lock
--- condition", and "After CALL r: the intersection of the sets before r's RETURNs"
+-- the lock that a statement of copy c takes, in a mode: "TAKE adds to both sets; TAKER adds only to the second set, under TAKE's one-lock condition"
+unfoldable pub takenIn : Layout → Bool → List ℕ → ℕ → Statement → ℕ
+takenIn k mode flow c σ = setOn (takesIn mode (view σ)) (λ h. onlyLock (flowAt k flow c h))
+
+-- what statement s of copy c adds, with `held` the sets before each place: the lock that it takes, and "After CALL r: the intersection of the sets before r's
+-- RETURNs"
 unfoldable pub gained : Table → Layout → Bool → List ℕ → (ℕ → ℕ) → ℕ → ℕ → Statement → ℕ
 gained t k mode flow held c s σ =
-    union (setOn (takesIn mode (view σ)) (λ h. onlyLock (flowAt k flow c h))) (setOn (calls (view σ)) (λ q. atReturns t k held (k .leads c s)))
+    union (takenIn k mode flow c σ) (setOn (calls (view σ)) (λ q. atReturns t k held (k .leads c s)))
 
 -- what it removes: "GIVE removes its whole flow set", and CALL r what a "GIVE in r, or in what r reaches by CALLs, has in its flow set"
 unfoldable pub lost : Layout → List ℕ → List ℕ → ℕ → ℕ → Statement → ℕ

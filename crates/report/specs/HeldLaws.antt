@@ -26,7 +26,7 @@ use Rattle.report.specs.Operations.{nexts}
 use Rattle.report.specs.Flow.{flowAt}
 use Rattle.report.specs.FlowLaws.{FlowHas}
 use Rattle.report.specs.EffectLaws.{GivesHas}
-use Rattle.report.specs.Held.{allLocks, entry, onlyLock, atReturns, gained, lost, heldAfter, waysFrom, allWays, heldSets}
+use Rattle.report.specs.Held.{allLocks, entry, onlyLock, atReturns, takenIn, gained, lost, heldAfter, waysFrom, allWays, heldSets}
 use Rattle.report.specs.NextLaws.{goes-next, next-goes, goes-placed, map-has, map-from}
 use Rattle.report.specs.PlaceLaws.{placed, place-at, among-all, of-some}
 use Rattle.report.specs.Rules.{Place, Goes, Only, Gains, Loses, After, AtReturns, HeldRules}
@@ -172,7 +172,7 @@ module _ (t : Table) (k : Layout) (acc : Accepted t) (fits : Fits t k) (mode : B
     gained-more : (c s : ℕ) (σ : Statement) (x : ℕ) → has (gained t k mode flow G c s σ) x ≡ true → has (gained t k mode flow H c s σ) x ≡ true
     unfolding gained
     gained-more c s σ x a =
-        let taken : ℕ = setOn (takesIn mode (view σ)) (λ h. onlyLock (flowAt k flow c h)) in
+        let taken : ℕ = takenIn k mode flow c σ in
         union-cases taken (setOn (calls (view σ)) (λ q. atReturns t k G (k .leads c s))) x (has-union-left taken _ x)
         (λ b.
         let o : On (calls (view σ)) (λ q. has (atReturns t k G (k .leads c s)) x ≡ true) = set-from (calls (view σ)) (λ q. atReturns t k G (k .leads c s)) x b in
@@ -245,9 +245,9 @@ module _ (t : Table) (k : Layout) (acc : Accepted t) (fits : Fits t k) (mode : B
 
   gains-rule : (c s : ℕ) (σ : Statement) (x : ℕ) → has (gained t k mode flow left c s σ) x ≡ true
       → Gains (copiesOf fits) mode (FlowHas k flow) (GivesHas given) Held c s x σ
-  unfolding gained
+  unfolding gained takenIn
   gains-rule c s σ x =
-      union-cases (setOn (takesIn mode (view σ)) (λ h. onlyLock (flowAt k flow c h))) (setOn (calls (view σ)) (λ q. atReturns t k left (k .leads c s))) x
+      union-cases (takenIn k mode flow c σ) (setOn (calls (view σ)) (λ q. atReturns t k left (k .leads c s))) x
       (λ a.
       let o : On (takesIn mode (view σ)) (λ h. has (onlyLock (flowAt k flow c h)) x ≡ true) = set-from (takesIn mode (view σ)) (λ h. onlyLock (flowAt k flow c h)) x a in
       inl (o .0, o .1, only-from _ (below (k .handlePlace c (o .0))) x (o .2)))
@@ -332,12 +332,12 @@ module _ (t : Table) (k : Layout) (acc : Accepted t) (fits : Fits t k) (mode : B
 
       gains-has : (c s : ℕ) → Place (copiesOf fits) c s → (x : ℕ) → has (allLocks t) x ≡ true
           → Gains (copiesOf fits) mode (FlowHas k flow) (GivesHas given) other c s x (statement t s) → has (gained t k mode flow H c s (statement t s)) x ≡ true
-      unfolding gained
+      unfolding gained takenIn
       gains-has c s v x l (inl (h, e, a)) =
-          has-union-left (setOn (takesIn mode (view (statement t s))) (λ h. onlyLock (flowAt k flow c h))) _ x
+          has-union-left (takenIn k mode flow c (statement t s)) _ x
           (set-has (takesIn mode (view (statement t s))) (λ h. onlyLock (flowAt k flow c h)) x e (only-has (flowAt k flow c h) (below (k .handlePlace c h)) x a))
       gains-has c s v x l (inr (q, e, a)) =
-          has-union-right (setOn (takesIn mode (view (statement t s))) (λ h. onlyLock (flowAt k flow c h))) _ x
+          has-union-right (takenIn k mode flow c (statement t s)) _ x
           (set-has (calls (view (statement t s))) (λ q. atReturns t k H (k .leads c s)) x e
           (at-returns (k .leads c s) x (fits .leads-there c s q (v .there) (v .inside) (calls-names (view (statement t s)) e)) l a))
 

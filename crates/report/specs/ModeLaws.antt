@@ -23,7 +23,7 @@ use Rattle.report.specs.Operations.{nexts}
 use Rattle.report.specs.Flow.{flowAt}
 use Rattle.report.specs.FlowLaws.{FlowHas}
 use Rattle.report.specs.EffectLaws.{GivesHas}
-use Rattle.report.specs.Held.{allLocks, entry, onlyLock, atReturns, gained, lost, heldAfter, waysFrom, allWays, heldSets}
+use Rattle.report.specs.Held.{allLocks, entry, onlyLock, atReturns, takenIn, gained, lost, heldAfter, waysFrom, allWays, heldSets}
 use Rattle.report.specs.HeldLaws.{HeldHas, held-rules, held-greatest}
 use Rattle.report.specs.Rules.{Place, After, HeldRules}
 
@@ -67,7 +67,7 @@ module _ (t : Table) (k : Layout) (none : (s : ℕ) → takesToRead (view (state
       go Nothing false e = refl
 
   ways-same : (c s : ℕ) → waysFrom t k true flow given c s ≡ waysFrom t k false flow given c s
-  unfolding waysFrom heldAfter gained
+  unfolding waysFrom heldAfter gained takenIn
   ways-same c s =
       ap {B = List Way}
       (λ (r : Reference).

@@ -17,7 +17,7 @@ use Rattle.report.specs.Flow.{startOf, passing, flowEdges, allFlowEdges,
 use Rattle.report.specs.Effect.{overCopy, namingEdges, callEdges, effects, gives, effectOf}
 use Rattle.report.specs.Future.{nextEffects, futureEdges, futureInitials, futures}
 use Rattle.report.specs.Preceded.{reachEdges, reachSets, bringsStart, precedingEdges, precededSets}
-use Rattle.report.specs.Held.{entry, atReturns, gained, lost, heldAfter, waysFrom, allWays, heldSets}
+use Rattle.report.specs.Held.{entry, atReturns, takenIn, gained, lost, heldAfter, waysFrom, allWays, heldSets}
 use Rattle.report.specs.Findings.{Sets, setsOf, sharedAt, sharedCells, ownAccess, touchesAt, countedAt, ownHeld, commonLocks, strayBy, strayAt, statementAccess, accessCount, isStray}
 use Rattle.report.specs.Report.{cellLine, cellLines, strayLines, findingLines, linesFor, reportLines, reportText}
 
@@ -73,7 +73,7 @@ module _ (t u : Table) (alike : Alike t u) where
 
     -- the held sets
     held-by-view : (mode : Bool) (flow freed : List ℕ) → heldSets t k mode flow freed ≡ heldSets u k mode flow freed
-    unfolding heldSets allWays waysFrom entry heldAfter gained lost atReturns nexts
+    unfolding heldSets allWays waysFrom entry heldAfter gained takenIn lost atReturns nexts
     held-by-view mode flow freed = simp (views-same, routines-same, locks-same, entry)
 
     -- what a START can precede
