@@ -1,6 +1,6 @@
 // What is held at each statement of a table, in the way of its access (C-18): for writing at a WRITE, in either way at any other statement. It comes from the
-// held sets of both modes, which are the same where nothing is taken for reading. `first` is the list of declarations::first_statements; `edges` and `also` lend
-// the room for edges.
+// held sets of both modes, which are the same where nothing is taken for reading. `first` is the list of declarations::first_statements; `edges` lends the
+// room for edges.
 ghost use mathlib.Core.Path.{_≡_};
 ghost use mathlib.Core.Bool.{true, false};
 ghost use Prim.Native.Nat.{_+_, _*_, _≤_};
@@ -22,17 +22,17 @@ fn writing_holds(
     flow: &[u64],
     given: &[u64],
     edges: &mut [u32],
-    also: &mut [u16],
     out: &mut [u64],
 )
     requires { ⌜ Accepted (tableOf (now numbers)) ⌝ }
     requires { ⌜ now first ≡ firstStatements (now numbers) ⌝ }
-    requires { ⌜ (3 * statements (now numbers) + 1 ≤ length (now edges)) × (3 * statements (now numbers) + 1 ≤ length (now also)) ⌝ }
+    requires { ⌜ 4 * statements (now numbers) ≤ length (now edges) ⌝ }
     requires { ⌜ length (now out) ≡ basesOf (now numbers) .every + 1 ⌝ }
     ensures { λ _. ⌜ take (statements (now (numbers .entry))) (now (out .exit)) ≡ heldSets (tableOf (now (numbers .entry))) (oneEach (tableOf (now (numbers .entry)))) true (now (flow .entry)) (now (given .entry)) ⌝ }
 {
     modes::clear(out);
-    lockset::held_sets(numbers, first, flow, given, true, edges, also, out);
+    let mut also = [0u16; 1537];
+    lockset::held_sets(numbers, first, flow, given, true, edges, &mut also[..], out);
 }
 
 // Leaves in the first places of `work`, where what is held in either way stands, what is held in the way of each access, and behind it what is left of finding
@@ -43,26 +43,17 @@ fn add_writing(
     flow: &[u64],
     given: &[u64],
     edges: &mut [u32],
-    also: &mut [u16],
     work: &mut [u64],
 )
     requires { ⌜ Accepted (tableOf (now numbers)) ⌝ }
     requires { ⌜ now first ≡ firstStatements (now numbers) ⌝ }
-    requires { ⌜ (3 * statements (now numbers) + 1 ≤ length (now edges)) × (3 * statements (now numbers) + 1 ≤ length (now also)) ⌝ }
+    requires { ⌜ 4 * statements (now numbers) ≤ length (now edges) ⌝ }
     requires { ⌜ statements (now numbers) + (basesOf (now numbers) .every + 1) ≤ length (now work) ⌝ }
     ensures { λ _. ⌜ take (statements (now (numbers .entry))) (now (work .exit)) ≡ heldBy (now (numbers .entry)) (heldSets (tableOf (now (numbers .entry))) (oneEach (tableOf (now (numbers .entry)))) true (now (flow .entry)) (now (given .entry))) (now (work .entry)) ⌝ }
 {
     let count = table::field_of(numbers, 0, 5);
     let end = count + lockset::places_of(numbers);
-    writing_holds(
-        numbers,
-        first,
-        flow,
-        given,
-        edges,
-        also,
-        &mut work[count..end],
-    );
+    writing_holds(numbers, first, flow, given, edges, &mut work[count..end]);
     modes::put_writing(numbers, work);
 }
 
@@ -73,17 +64,17 @@ fn either_holds(
     flow: &[u64],
     given: &[u64],
     edges: &mut [u32],
-    also: &mut [u16],
     work: &mut [u64],
 )
     requires { ⌜ Accepted (tableOf (now numbers)) ⌝ }
     requires { ⌜ now first ≡ firstStatements (now numbers) ⌝ }
-    requires { ⌜ (3 * statements (now numbers) + 1 ≤ length (now edges)) × (3 * statements (now numbers) + 1 ≤ length (now also)) ⌝ }
+    requires { ⌜ 4 * statements (now numbers) ≤ length (now edges) ⌝ }
     requires { ⌜ now work ≡ replicate (length (now work)) 0 ⌝ }
     requires { ⌜ basesOf (now numbers) .every + 1 ≤ length (now work) ⌝ }
     ensures { λ _. ⌜ take (statements (now (numbers .entry))) (now (work .exit)) ≡ heldSets (tableOf (now (numbers .entry))) (oneEach (tableOf (now (numbers .entry)))) false (now (flow .entry)) (now (given .entry)) ⌝ }
 {
     let places = lockset::places_of(numbers);
+    let mut also = [0u16; 1537];
     lockset::held_sets(
         numbers,
         first,
@@ -91,7 +82,7 @@ fn either_holds(
         given,
         false,
         edges,
-        also,
+        &mut also[..],
         &mut work[..places],
     );
 }
@@ -103,19 +94,18 @@ fn both_holds(
     flow: &[u64],
     given: &[u64],
     edges: &mut [u32],
-    also: &mut [u16],
     work: &mut [u64],
 )
     requires { ⌜ Accepted (tableOf (now numbers)) ⌝ }
     requires { ⌜ now first ≡ firstStatements (now numbers) ⌝ }
-    requires { ⌜ (3 * statements (now numbers) + 1 ≤ length (now edges)) × (3 * statements (now numbers) + 1 ≤ length (now also)) ⌝ }
+    requires { ⌜ 4 * statements (now numbers) ≤ length (now edges) ⌝ }
     requires { ⌜ now work ≡ replicate (length (now work)) 0 ⌝ }
     requires { ⌜ statements (now numbers) + (basesOf (now numbers) .every + 1) ≤ length (now work) ⌝ }
     ensures { λ _. ⌜ take (statements (now (numbers .entry))) (now (work .exit)) ≡ heldBy (now (numbers .entry)) (heldSets (tableOf (now (numbers .entry))) (oneEach (tableOf (now (numbers .entry)))) true (now (flow .entry)) (now (given .entry))) (heldSets (tableOf (now (numbers .entry))) (oneEach (tableOf (now (numbers .entry)))) false (now (flow .entry)) (now (given .entry))) ⌝ }
 {
-    either_holds(numbers, first, flow, given, edges, also, work);
+    either_holds(numbers, first, flow, given, edges, work);
     if modes::first_to_read(numbers) < table::field_of(numbers, 0, 5) {
-        add_writing(numbers, first, flow, given, edges, also, work);
+        add_writing(numbers, first, flow, given, edges, work);
     }
 }
 
@@ -138,14 +128,5 @@ pub fn own_holds(
     let routines = table::field_of(numbers, 0, 4);
     let mut given = [0u64; 32];
     dataflow::given_sets(numbers, first, flow, edges, &mut given[..routines]);
-    let mut also = [0u16; 1537];
-    both_holds(
-        numbers,
-        first,
-        flow,
-        &given[..routines],
-        edges,
-        &mut also[..],
-        work,
-    );
+    both_holds(numbers, first, flow, &given[..routines], edges, work);
 }

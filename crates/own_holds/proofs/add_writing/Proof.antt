@@ -29,7 +29,7 @@ part-writing-holds-end : tie.Need-part-writing-holds-end
 part-writing-holds-end c = search needs
 
 writing-holds-requires : tie.Need-writing-holds-requires
-writing-holds-requires c κs = (c .before .before .before .before .before .before .before .before .before .before .before .pre .0, (c .before .before .before .before .before .before .before .before .before .before .before .pre .1 .0, (c .before .before .before .before .before .before .before .before .before .before .before .pre .1 .1 .0, places-long (now (c .before .before .before .before .before .before .before .before .before .before .before .args .numbers)) (now (c .before .before .before .before .before .before .before .before .before .before .before .args .work)) (c .before .before .before .before .field-of .result) (c .before .before .before .places-of .result) (c .before .before .before .before .field-of .ensures .0) (omega (arith, c .before .before .before .places-of .ensures)) (omega (arith, c .before .before .before .places-of .ensures, c .before .before .before .before .before .before .before .before .before .before .before .pre .1 .1 .1)) ∙ c .before .before .before .places-of .ensures)))
+writing-holds-requires c κs = (c .before .before .before .before .before .before .before .before .before .pre .0, (c .before .before .before .before .before .before .before .before .before .pre .1 .0, (c .before .before .before .before .before .before .before .before .before .pre .1 .1 .0, places-long (now (c .before .before .before .before .before .before .before .before .before .args .numbers)) (now (c .before .before .before .before .before .before .before .before .before .args .work)) (c .before .before .before .field-of .result) (c .before .before .places-of .result) (c .before .before .before .field-of .ensures .0) (omega (arith, c .before .before .places-of .ensures)) (omega (arith, c .before .before .places-of .ensures, c .before .before .before .before .before .before .before .before .before .pre .1 .1 .1)) ∙ c .before .before .places-of .ensures)))
 
 put-writing-requires : tie.Need-put-writing-requires
 put-writing-requires c κs = search needs
@@ -40,11 +40,8 @@ same-length c = search needs
 same-length-2 : tie.Need-same-length-2
 same-length-2 c = search needs
 
-same-length-3 : tie.Need-same-length-3
-same-length-3 c = search needs
-
 returns : tie.Need-returns
-returns c = put-held (now (c .before .before .before .before .before .before .before .before .before .before .before .before .before .before .before .before .before .before .before .before .before .before .args .numbers)) (now (c .before .before .before .before .before .before .before .before .before .before .before .before .before .before .before .before .before .before .before .before .before .before .args .work)) (c .before .before .before .before .before .before .before .before .before .before .before .before .before .before .before .field-of .result) (c .before .before .before .before .before .before .before .before .before .before .before .before .before .before .places-of .result) (c .before .before .before .before .before .before .before .before .before .before .before .before .before .before .before .field-of .ensures .0) (omega (arith, c .before .before .before .before .before .before .before .before .before .before .before .before .before .before .places-of .ensures)) (omega (arith, c .before .before .before .before .before .before .before .before .before .before .before .before .before .before .places-of .ensures, c .before .before .before .before .before .before .before .before .before .before .before .before .before .before .before .before .before .before .before .before .before .before .pre .1 .1 .1)) (c .before .before .before .before .before .before .before .before .before .before .writing-holds .last .1 .1 .1 .1 .1 .1 .0) (c .before .before .before .before .before .before .before .before .before .before .writing-holds .kept .1 .1 .1 .1 .1 .1 .0) _ _ (c .before .before .before .before .before .before .before .before .before .before .writing-holds .ensures) (c .before .before .put-writing .ensures)
+returns c = put-held (now (c .before .before .before .before .before .before .before .before .before .before .before .before .before .before .before .before .before .before .args .numbers)) (now (c .before .before .before .before .before .before .before .before .before .before .before .before .before .before .before .before .before .before .args .work)) (c .before .before .before .before .before .before .before .before .before .before .before .before .field-of .result) (c .before .before .before .before .before .before .before .before .before .before .before .places-of .result) (c .before .before .before .before .before .before .before .before .before .before .before .before .field-of .ensures .0) (omega (arith, c .before .before .before .before .before .before .before .before .before .before .before .places-of .ensures)) (omega (arith, c .before .before .before .before .before .before .before .before .before .before .before .places-of .ensures, c .before .before .before .before .before .before .before .before .before .before .before .before .before .before .before .before .before .before .pre .1 .1 .1)) (c .before .before .before .before .before .before .before .before .writing-holds .last .1 .1 .1 .1 .1 .0) (c .before .before .before .before .before .before .before .before .writing-holds .kept .1 .1 .1 .1 .1 .0) _ _ (c .before .before .before .before .before .before .before .before .writing-holds .ensures) (c .before .before .put-writing .ensures)
 
 pub add-writing-spec : {M : Type 1} → statement M
 add-writing-spec =
@@ -61,5 +58,4 @@ add-writing-spec =
     put-writing-requires
     same-length
     same-length-2
-    same-length-3
     returns)

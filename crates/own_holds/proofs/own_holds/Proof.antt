@@ -2,12 +2,11 @@
 use mathlib.Core.Path.{sym, _∙_}
 use Prim.Native.Nat.{ℕ, _≤_}
 use native.Mathlib.Omega.{arith}
-use lib.ListN.{length-replicate}
 use denote.Ref.{now}
 use Rattle.table.specs.CutLaws.{cut-long}
 use Rattle.table.specs.AcceptedLaws.{routines-few}
 use Rattle.table.specs.FrontLaws.{front-fits, front-is, front-long}
-use Rattle.own_holds.specs.OwnLaws.{also-fits, edges-fit, own-known}
+use Rattle.own_holds.specs.OwnLaws.{own-known}
 use borrow.Author.Needs.{needs}
 use Rattle.own_holds.proofs.own_holds.Statement.{statement}
 use Rattle.own_holds.proofs.own_holds.Tie as tie
@@ -42,13 +41,8 @@ slice-aggregate-both-holds c = let f = now (c .before .before .before .before .b
     let long = c .before .before .before .before .given-sets .kept .1 .1 .1 .1 .0 ∙ sym (cut-long {A = ℕ} _ 32 0 r) in
     front-long 32 (c .before .before .before .before .given-sets .last .1 .1 .1 .1 .0) long
 
-slice-aggregate-both-holds-2 : tie.Need-slice-aggregate-both-holds-2
-slice-aggregate-both-holds-2 c = search needs
-
 both-holds-requires : tie.Need-both-holds-requires
-both-holds-requires c κs = let f = now (c .before .before .before .before .before .before .before .before .before .before .before .before .before .before .before .args .numbers) in
-    let acc = c .before .before .before .before .before .before .before .before .before .before .before .before .before .before .before .pre .0 in
-    (acc, (c .before .before .before .before .before .before .before .before .before .before .before .before .before .before .before .pre .1 .0, ((edges-fit f acc _ (omega (arith, c .before .before .before .before .before .before .before .before .before .before .before .before .before .before .before .pre .1 .1 .1 .0, c .before .before .before .before .before .before .before .given-sets .kept .1 .1 .1 .0)), omega (arith, also-fits f acc, length-replicate {A = ℕ} 1537 0)), (c .before .before .before .before .before .before .before .before .before .before .before .before .before .before .before .pre .1 .1 .1 .1 .0, c .before .before .before .before .before .before .before .before .before .before .before .before .before .before .before .pre .1 .1 .1 .1 .1))))
+both-holds-requires c κs = (c .before .before .before .before .before .before .before .before .before .before .before .before .before .before .pre .0, (c .before .before .before .before .before .before .before .before .before .before .before .before .before .before .pre .1 .0, (omega (arith, c .before .before .before .before .before .before .before .before .before .before .before .before .before .before .pre .1 .1 .1 .0, c .before .before .before .before .before .before .given-sets .kept .1 .1 .1 .0), (c .before .before .before .before .before .before .before .before .before .before .before .before .before .before .pre .1 .1 .1 .1 .0, c .before .before .before .before .before .before .before .before .before .before .before .before .before .before .pre .1 .1 .1 .1 .1))))
 
 same-length : tie.Need-same-length
 same-length c = search needs
@@ -57,10 +51,10 @@ same-length-2 : tie.Need-same-length-2
 same-length-2 c = search needs
 
 returns : tie.Need-returns
-returns c = let f = now (c .before .before .before .before .before .before .before .before .before .before .before .before .before .before .before .before .before .before .before .before .before .args .numbers) in
-    let r : c .before .before .before .before .before .before .before .before .before .before .before .before .before .before .before .before .field-of .result ≤ 32 = omega (arith, c .before .before .before .before .before .before .before .before .before .before .before .before .before .before .before .before .field-of .ensures .0, routines-few f (c .before .before .before .before .before .before .before .before .before .before .before .before .before .before .before .before .before .before .before .before .before .pre .0)) in
-    let long = c .before .before .before .before .before .before .before .before .before .before .before .before .before .given-sets .kept .1 .1 .1 .1 .0 ∙ sym (cut-long {A = ℕ} _ 32 0 r) in
-    own-known f _ _ _ (c .before .before .before .before .before .before .before .before .before .before .before .before .before .before .before .before .before .before .before .before .before .pre .1 .1 .0) (front-is 32 (c .before .before .before .before .before .before .before .before .before .before .before .before .before .given-sets .last .1 .1 .1 .1 .0) long ∙ c .before .before .before .before .before .before .before .before .before .before .before .before .before .given-sets .ensures) (c .before .before .before .before .before .both-holds .ensures)
+returns c = let f = now (c .before .before .before .before .before .before .before .before .before .before .before .before .before .before .before .before .before .before .before .args .numbers) in
+    let r : c .before .before .before .before .before .before .before .before .before .before .before .before .before .before .field-of .result ≤ 32 = omega (arith, c .before .before .before .before .before .before .before .before .before .before .before .before .before .before .field-of .ensures .0, routines-few f (c .before .before .before .before .before .before .before .before .before .before .before .before .before .before .before .before .before .before .before .pre .0)) in
+    let long = c .before .before .before .before .before .before .before .before .before .before .before .given-sets .kept .1 .1 .1 .1 .0 ∙ sym (cut-long {A = ℕ} _ 32 0 r) in
+    own-known f _ _ _ (c .before .before .before .before .before .before .before .before .before .before .before .before .before .before .before .before .before .before .before .pre .1 .1 .0) (front-is 32 (c .before .before .before .before .before .before .before .before .before .before .before .given-sets .last .1 .1 .1 .1 .0) long ∙ c .before .before .before .before .before .before .before .before .before .before .before .given-sets .ensures) (c .before .before .before .before .both-holds .ensures)
 
 pub own-holds-spec : {M : Type 1} → statement M
 own-holds-spec =
@@ -72,7 +66,6 @@ own-holds-spec =
     given-sets-requires
     array-share-prefix-given
     slice-aggregate-both-holds
-    slice-aggregate-both-holds-2
     both-holds-requires
     same-length
     same-length-2
