@@ -1,3 +1,4 @@
+#![tactic(auto)]
 // A field of a table text: six characters and the number that they say, read.
 ghost use Rattle.std.specs.Prelude.{◌≡◌, ◌+◌, ◌≤◌, true, [], ◌∷◌, length, take, drop};
 ghost use Rattle.fields.specs.Field.{field_of, decimal_of, digits_from, field_answer, decimal_answer, field_at};

@@ -1,3 +1,4 @@
+#![tactic(auto)]
 // A line of a table text: eight fields of six characters and a line feed, read.
 ghost use Rattle.std.specs.Prelude.{◌≡◌, ◌*◌, ◌+◌, ◌≤◌, true, length, take, drop};
 ghost use Rattle.std.proofs.Math.Option.{none};

@@ -1,3 +1,4 @@
+#![tactic(auto)]
 // What stands at a place of a list, past its end too, and small numbers as places. Each is said once, for all crates above.
 ghost use Rattle.std.specs.Prelude.{◌≡◌, ◌<◌, get_or};
 

@@ -1,3 +1,4 @@
+#![tactic(auto)]
 // An answer of three numbers in one, for the C boundary.
 ghost use Rattle.std.specs.Prelude.{◌≡◌};
 ghost use Rattle.packing.specs.Packed.{packed};

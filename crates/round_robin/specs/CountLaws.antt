@@ -101,13 +101,23 @@ module _ (x : ℕ) where
   spread_less (y ∷ s) [] l f = absurd (omega arith)
   spread_less (y ∷ s) (z ∷ r) l f = go (spread_less s r (suc_inj l) (λ i. f (suc i))) (has y x) refl (has z x) refl
     where
+      first : has y x ≡ true → ((i : ℕ) → has (get_or r i 0) x ≡ true → has (get_or s i 0) x ≡ true)
+          → (i : ℕ) → has (get_or (z ∷ r) i 0) x ≡ true → has (get_or (y ∷ s) i 0) x ≡ true
+      first p rest zero h = p
+      first p rest (suc j) h = rest j h
+
+      later : has z x ≡ false → ((i : ℕ) → has (get_or r i 0) x ≡ true → has (get_or s i 0) x ≡ true)
+          → (i : ℕ) → has (get_or (z ∷ r) i 0) x ≡ true → has (get_or (y ∷ s) i 0) x ≡ true
+      later q rest zero h = let t : true ≡ false = sym h ∙ q in let w : ◌≡◌ {A = ℕ} 0 1 = cc in absurd (omega arith)
+      later q rest (suc j) h = rest j h
+
       go : (spread x s ≤ spread x r) × (spread x r ≤ spread x s → (i : ℕ) → has (get_or r i 0) x ≡ true → has (get_or s i 0) x ≡ true)
           → (a : Bool) → has y x ≡ a → (b : Bool) → has z x ≡ b
           → (spread x (y ∷ s) ≤ spread x (z ∷ r)) × (spread x (z ∷ r) ≤ spread x (y ∷ s) → (i : ℕ) → has (get_or (z ∷ r) i 0) x ≡ true → has (get_or (y ∷ s) i 0) x ≡ true)
-      go ih true p true q = rw (p, q) (omega (arith, ih.0), λ g i. elim i [ zero ↦ λ h. p | suc j ↦ ih.1 (omega arith) j ])
+      go ih true p true q = rw (p, q) (omega (arith, ih.0), λ g. first p (ih.1 (omega arith)))
       go ih true p false q = let t : true ≡ false = sym (f 0 p) ∙ q in let w : ◌≡◌ {A = ℕ} 0 1 = cc in absurd (omega arith)
       go ih false p true q = rw (p, q) (omega (arith, ih.0), λ g i. absurd (omega (arith, ih.0)))
-      go ih false p false q = rw (p, q) (omega (arith, ih.0), λ g i. elim i [ zero ↦ λ h. let t : true ≡ false = sym h ∙ q in let w : ◌≡◌ {A = ℕ} 0 1 = cc in absurd (omega arith) | suc j ↦ ih.1 (omega arith) j ])
+      go ih false p false q = rw (p, q) (omega (arith, ih.0), λ g. later q (ih.1 (omega arith)))
 
   -- an edge does the same with x where the same places have it
   along_to : (e : Edge) (s r : List ℕ) → length s ≡ length r → ((i : ℕ) → has (get_or s i 0) x ≡ true → has (get_or r i 0) x ≡ true)

@@ -1,3 +1,4 @@
+#![tactic(auto)]
 // Sets of at most 64 elements, each in one number: element i is bit i.
 ghost use Rattle.std.specs.Prelude.{◌≡◌};
 ghost use Rattle.sets.specs.Set.{has, firsts, one, with, union, inter, minus, subset, is_empty, count, is_single, only, lowest};

@@ -1,3 +1,4 @@
+#![tactic(auto)]
 // The table: its types, and what stands where in the numbers of its lines. Definitions and laws are in specs/.
 ghost use Rattle.std.specs.Prelude.{◌≡◌, ◌+◌, ◌*◌, ◌<◌, ◌≤◌, ◌^◌, length};
 ghost use Rattle.table.specs.Fields.{field, number, unused, plain};

@@ -1,0 +1,63 @@
+-- `fields::field_of` meets its contract: each return is one case of `field_of`. Assumes nothing.
+use borrow.Author.Rules.{rules}
+use native.Mathlib.Omega.{arith}
+use mathlib.Core.Path.{◌≡◌, ap, sym, ◌∙◌}
+use Rattle.fields.specs.Field.{field_of, decimal_of, positive, negative, field_answer}
+use Rattle.fields.specs.FieldLoops.{field_blank, field_minus, field_plus, decimal_six, told_value, told_bad, word_plus, word_minus, minus_fits, negative_some, negative_zero}
+use Rattle.fields.specs.declared.Field.TheVariants.{Number}
+use mathlib.Core.Option.{none, some}
+use Prim.Native.Nat.{◌+◌, ◌<◌}
+use lib.ListN.{drop}
+use mir.Facts.{to_z-of_z}
+use Rattle.fields.proofs.field_of.Goals as goal
+
+pub returns-then-first-ge6 : goal.returns-then-first-ge6
+returns-then-first-ge6 c = ap field_answer (sym (field_blank (search rules) c.past_spaces-first.ensures c.if-first-ge6.true))
+
+pub returns-then-m-eq0 : goal.returns-then-m-eq0
+returns-then-m-eq0 c = let minus-here : field_of c.args.cs.now ≡ negative (decimal_of (drop (c.past_spaces-first.result + 1) c.args.cs.now)) = field_minus
+    c.requires
+    c.past_spaces-first.ensures
+    c.if-first-ge6.false
+    c.if-cs-first-eq45.true in let minus-known-here : decimal_of (drop (c.past_spaces-first.result + 1) c.args.cs.now) ≡ some c.in-Value.m = told_value (sym c.in-Value.is ∙ c.unsigned.ensures) in ap field_answer (sym (minus-here ∙ ap negative minus-known-here ∙ negative_zero _ c.if-m-eq0.true))
+
+pub overflow_cast-result : goal.overflow_cast-result
+overflow_cast-result c = let minus-known-here : decimal_of (drop (c.past_spaces-first.result + 1) c.args.cs.now) ≡ some c.in-Value.m = told_value (sym c.in-Value.is ∙ c.unsigned.ensures) in let minus-small-here : c.in-Value.m < 1000000 = decimal_six c.args.cs.now (c.past_spaces-first.result + 1) c.requires (minus-known-here) in record { sfits = omega (arith, minus-small-here) }
+
+pub overflow_sub-result : goal.overflow_sub-result
+overflow_sub-result c = let minus-known-here : decimal_of (drop (c.past_spaces-first.result + 1) c.args.cs.now) ≡ some c.in-Value.m = told_value (sym c.in-Value.is ∙ c.unsigned.ensures) in let minus-small-here : c.in-Value.m < 1000000 = decimal_six c.args.cs.now (c.past_spaces-first.result + 1) c.requires (minus-known-here) in minus_fits _ minus-small-here c.if-m-eq0.false
+
+pub returns-else-m-eq0 : goal.returns-else-m-eq0
+returns-else-m-eq0 c = let minus-here : field_of c.args.cs.now ≡ negative (decimal_of (drop (c.past_spaces-first.result + 1) c.args.cs.now)) = field_minus
+    c.requires
+    c.past_spaces-first.ensures
+    c.if-first-ge6.false
+    c.if-cs-first-eq45.true in let minus-known-here : decimal_of (drop (c.past_spaces-first.result + 1) c.args.cs.now) ≡ some c.in-Value.m = told_value (sym c.in-Value.is ∙ c.unsigned.ensures) in let minus-small-here : c.in-Value.m < 1000000 = decimal_six c.args.cs.now (c.past_spaces-first.result + 1) c.requires (minus-known-here) in
+    ap Number (to_z-of_z (minus_fits _ minus-small-here c.if-m-eq0.false) ∙ word_minus _ minus-small-here c.if-m-eq0.false)
+    ∙ ap field_answer (sym (minus-here ∙ ap negative minus-known-here ∙ negative_some _ c.if-m-eq0.false))
+
+pub returns-in-Bad : goal.returns-in-Bad
+returns-in-Bad c = let minus-here : field_of c.args.cs.now ≡ negative (decimal_of (drop (c.past_spaces-first.result + 1) c.args.cs.now)) = field_minus
+    c.requires
+    c.past_spaces-first.ensures
+    c.if-first-ge6.false
+    c.if-cs-first-eq45.true in let minus-bad-here : decimal_of (drop (c.past_spaces-first.result + 1) c.args.cs.now) ≡ none = told_bad (sym c.in-Bad.is ∙ c.unsigned.ensures) in ap field_answer (sym (minus-here ∙ ap negative minus-bad-here))
+
+pub overflow_cast-result-in-Value-unsigned : goal.overflow_cast-result-in-Value-unsigned
+overflow_cast-result-in-Value-unsigned c = let plus-known-here : decimal_of (drop c.past_spaces-first.result c.args.cs.now) ≡ some c.in-Value-unsigned.m = told_value (sym c.in-Value-unsigned.is ∙ c.unsigned-2.ensures) in let plus-small-here : c.in-Value-unsigned.m < 1000000 = decimal_six c.args.cs.now c.past_spaces-first.result c.requires (plus-known-here) in record { sfits = omega (arith, plus-small-here) }
+
+pub returns-in-Value-unsigned : goal.returns-in-Value-unsigned
+returns-in-Value-unsigned c = let plus-here : field_of c.args.cs.now ≡ positive (decimal_of (drop c.past_spaces-first.result c.args.cs.now)) = field_plus
+    c.requires
+    c.past_spaces-first.ensures
+    c.if-first-ge6.false
+    c.if-cs-first-eq45.false in let plus-known-here : decimal_of (drop c.past_spaces-first.result c.args.cs.now) ≡ some c.in-Value-unsigned.m = told_value (sym c.in-Value-unsigned.is ∙ c.unsigned-2.ensures) in let plus-small-here : c.in-Value-unsigned.m < 1000000 = decimal_six c.args.cs.now c.past_spaces-first.result c.requires (plus-known-here) in
+    ap Number (word_plus _ plus-small-here)
+    ∙ ap field_answer (sym (plus-here ∙ ap positive plus-known-here))
+
+pub returns-in-Bad-unsigned : goal.returns-in-Bad-unsigned
+returns-in-Bad-unsigned c = let plus-here : field_of c.args.cs.now ≡ positive (decimal_of (drop c.past_spaces-first.result c.args.cs.now)) = field_plus
+    c.requires
+    c.past_spaces-first.ensures
+    c.if-first-ge6.false
+    c.if-cs-first-eq45.false in let plus-bad-here : decimal_of (drop c.past_spaces-first.result c.args.cs.now) ≡ none = told_bad (sym c.in-Bad-unsigned.is ∙ c.unsigned-2.ensures) in ap field_answer (sym (plus-here ∙ ap positive plus-bad-here))

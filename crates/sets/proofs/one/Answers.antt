@@ -1,0 +1,13 @@
+-- `sets::one` meets its contract. Assumes nothing.
+use Rattle.sets.proofs.Shift.{shifted}
+use Rattle.sets.specs.SetLaws.{one_is, one_none}
+use borrow.Author.Rules.{rules}
+use mathlib.Core.Path.{sym, ◌∙◌}
+use native.Mathlib.Omega.{arith}
+use Rattle.sets.proofs.one.Goals as goal
+
+pub returns-then-i-lt64 : goal.returns-then-i-lt64
+returns-then-i-lt64 c = shifted c.args.i (omega arith) ∙ sym (one_is c.args.i (omega arith))
+
+pub returns : goal.returns
+returns c = sym (one_none c.args.i (omega arith))
