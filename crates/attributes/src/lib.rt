@@ -1,3 +1,4 @@
+#![tactic(auto)]
 // A statement by its attributes, out of its line in a table's numbers: each by equality with that of its view.
 ghost use Rattle.std.specs.Prelude.{◌≡◌, get_or};
 ghost use Rattle.table.specs.Fields.{field};

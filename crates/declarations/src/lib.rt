@@ -1,3 +1,4 @@
+#![tactic(auto)]
 // Where each routine's statements and handles begin, and how many parameters it has; and the rules of the lines that say it.
 pub mod handles;
 pub mod header;

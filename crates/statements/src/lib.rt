@@ -1,3 +1,4 @@
+#![tactic(auto)]
 // The statement lines: their rule, and that of a routine's end. `first`, `handle` and `counts` are the lists of crate declarations.
 ghost use Rattle.std.specs.Prelude.{◌≡◌, ◌&&◌, ◌<◌, ◌^◌, ◌+◌, ◌-◌, leb, ltb, get_or};
 ghost use Rattle.table.specs.Until.{until};

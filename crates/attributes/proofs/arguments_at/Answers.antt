@@ -1,0 +1,9 @@
+-- `attributes::arguments_at` meets its contract. Assumes nothing.
+use mathlib.Core.Path.{sym, ap}
+use Rattle.table.specs.declared.View.{View}
+use Rattle.table.specs.ViewLaws.{view_in_lem}
+use borrow.Author.Rules.{rules}
+use Rattle.attributes.proofs.arguments_at.Goals as goal
+
+pub returns : goal.returns
+returns c = rw (c.arguments_if.ensures, c.field_of-op.ensures.is) (sym (ap (λ (v : View). v.arguments) (view_in_lem _ _ _)))

@@ -1,0 +1,13 @@
+-- `declarations::first_handles` meets its contract. Assumes nothing.
+use borrow.Author.Rules.{rules}
+use native.Mathlib.Omega.{arith}
+use Prim.Native.Nat.{◌-◌, ◌<◌, ◌≤◌, zero-le}
+use Rattle.declarations.specs.ListLaws.{Skipping, skipping_start, skipping_next}
+use Rattle.table.specs.TabulateLaws.{begun_below}
+use Rattle.declarations.proofs.first_handles.Given as goal
+
+abbrev pub invariant-loop-r : goal.invariant-loop-r
+invariant-loop-r l = (l.r ≤ l.count) × Skipping l.numbers l.from l.h l.r
+
+abbrev pub decreases-loop-r : goal.decreases-loop-r
+decreases-loop-r l = l.count - l.r

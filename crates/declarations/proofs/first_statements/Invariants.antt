@@ -1,0 +1,13 @@
+-- `declarations::first_statements` meets its contract. Assumes nothing.
+use borrow.Author.Rules.{rules}
+use native.Mathlib.Omega.{arith}
+use Prim.Native.Nat.{◌-◌, ◌<◌, ◌≤◌, zero-le}
+use Rattle.declarations.specs.ListLaws.{Summing, summing_start, summing_next}
+use Rattle.table.specs.TabulateLaws.{begun_below}
+use Rattle.declarations.proofs.first_statements.Given as goal
+
+abbrev pub invariant-loop-r : goal.invariant-loop-r
+invariant-loop-r l = (l.r ≤ l.count) × Summing l.numbers l.first l.sum l.r
+
+abbrev pub decreases-loop-r : goal.decreases-loop-r
+decreases-loop-r l = l.count - l.r

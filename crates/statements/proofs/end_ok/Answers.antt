@@ -1,0 +1,28 @@
+-- `statements::end_ok` meets its contract. Assumes nothing.
+use native.Mathlib.Omega.{arith}
+use mathlib.Core.Path.{ap, ap₂, ◌∙◌}
+use Prim.Native.Nat.{ℕ, ◌+◌, ◌-◌}
+use Rattle.table.specs.HeaderLaws.{statement_line_lem}
+use Rattle.table.specs.Lists.{statements_begin, begin_early}
+use Rattle.table.specs.Statements.{end_ok, last_of}
+use borrow.Author.Rules.{rules}
+use Rattle.statements.proofs.end_ok.Goals as goal
+
+pub first_line-requires : goal.first_line-requires
+first_line-requires c = tt
+
+pub overflow_add-first_line : goal.overflow_add-first_line
+overflow_add-first_line c =
+    record { fits = omega (arith, c.last_of.ensures, begin_early c.requires.statements_begin (c.args.r + 1), c.first_line.ensures.small) }
+
+pub field_of-op-requires : goal.field_of-op-requires
+field_of-op-requires c = tt
+
+pub returns : goal.returns
+unfolding end_ok
+returns c =
+    let f = c.args.numbers.now in
+    let r = c.args.r in
+    let last = c.last_of.ensures ∙ ap (λ (n : ℕ). n - 1) (statements_begin c.requires.statements_begin (r + 1) (omega (arith, c.requires.r_bound))) in
+    let line = ap₂ (λ (m n : ℕ). m + n) c.first_line.ensures.is last ∙ statement_line_lem f (last_of f r) in
+    rw (c.field_of-op.ensures.is, line)

@@ -1,0 +1,22 @@
+-- `statements::naming_ok` meets its contract. Assumes nothing.
+use borrow.Author.Tests.{le-ltb, lt-ltb}
+use Rattle.table.specs.Statements.{naming_ok}
+use native.Mathlib.Omega.{arith}
+use Rattle.statements.proofs.naming_ok.Goals as goal
+
+pub field_of-q-requires : goal.field_of-q-requires
+field_of-q-requires c = tt
+
+pub field_of-requires : goal.field_of-requires
+field_of-requires c = tt
+
+pub returns-then-field_of-q : goal.returns-then-field_of-q
+unfolding naming_ok
+returns-then-field_of-q c = rw (le-ltb _ _ (rw (c.field_of-q.ensures.is, c.field_of.ensures.is) at c.if-field_of-q.true))
+
+pub arguments_ok-requires : goal.arguments_ok-requires
+arguments_ok-requires c = record { handles_begin = c.requires.handles_begin; parameters_counted = c.requires.parameters_counted; q_bound = omega (arith, c.field_of.ensures.is) }
+
+pub returns : goal.returns
+unfolding naming_ok
+returns c = rw (lt-ltb _ _ (rw (c.field_of-q.ensures.is, c.field_of.ensures.is) at c.if-field_of-q.false)) (rw (← c.field_of-q.ensures.is) c.arguments_ok.ensures)

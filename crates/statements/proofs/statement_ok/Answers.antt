@@ -1,0 +1,20 @@
+-- `statements::statement_ok` meets its contract. Assumes nothing.
+use mathlib.Core.Path.{ap, ◌∙◌}
+use Prim.Native.Nat.{ℕ, ◌+◌}
+use Rattle.table.specs.HeaderLaws.{statement_line_lem}
+use Rattle.table.specs.Statements.{statement_ok}
+use borrow.Author.Rules.{rules}
+use Rattle.statements.proofs.statement_ok.Goals as goal
+
+pub first_line-requires : goal.first_line-requires
+first_line-requires c = tt
+
+pub field_of-requires : goal.field_of-requires
+field_of-requires c = tt
+
+pub returns : goal.returns
+unfolding statement_ok
+returns c =
+    let s = c.args.s in
+    let line = ap (λ (n : ℕ). n + s) c.first_line.ensures.is ∙ statement_line_lem c.args.numbers.now s in
+    rw (c.operation_ok.ensures, c.field_of.ensures.is, line)
