@@ -1,3 +1,4 @@
+#![tactic(auto)]
 // Which routines name which, by CALL or START, and which reach themselves so. A set of routines is a number.
 ghost use Rattle.std.specs.Prelude.{◌≡◌, ℕ, ◌<◌, ◌^◌, ◌-◌, get_or};
 ghost use Rattle.table.specs.Header.{routines};

@@ -1,3 +1,4 @@
+#![tactic(auto)]
 // The reader: a table text, or the first refusal of document 01.
 mod checks;
 mod rules;

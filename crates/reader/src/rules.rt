@@ -8,7 +8,7 @@ use naming::is_acyclic;
 use statements::end_ok;
 
 // A rule that is tested at one routine after another: its end (10), whether the set of all that are named has it (11), whether it reaches itself (12).
-#[derive(Drop)]
+#[derive(Clone, Copy)]
 pub enum Rule {
     End,
     Named { all: u64 },

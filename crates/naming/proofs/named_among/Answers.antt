@@ -1,0 +1,23 @@
+-- `naming::named_among` meets its contract. Assumes nothing.
+use borrow.Author.Rules.{rules}
+use native.Mathlib.Omega.{arith}
+use Prim.Native.Nat.{◌-◌}
+use Rattle.sets.specs.Set.{union}
+use Rattle.table.specs.Naming.{named_by}
+use Rattle.naming.specs.GatherLaws.{Gathering, gathering_start, gathering_next, gathering_done}
+use Rattle.naming.proofs.named_among.Goals as goal
+
+pub loop-s-init : goal.loop-s-init
+loop-s-init c = gathering_start _ _ _
+
+pub named_by-requires : goal.named_by-requires
+named_by-requires c = omega arith
+
+pub union-named-requires : goal.union-named-requires
+union-named-requires c = tt
+
+pub loop-s-preserved : goal.loop-s-preserved
+loop-s-preserved c = rw (c.union-named.ensures, c.named_by.ensures) (gathering_next _ _ _ _ _ c.loop-s.invariant c.loop-s-test.true)
+
+pub returns : goal.returns
+returns c = gathering_done _ _ _ _ _ c.loop-s.invariant c.loop-s-test.false

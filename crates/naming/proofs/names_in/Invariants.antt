@@ -1,0 +1,14 @@
+-- `naming::names_in` meets its contract. Assumes nothing.
+use borrow.Author.Rules.{rules}
+use native.Mathlib.Omega.{arith}
+use Prim.Native.Nat.{◌-◌, ◌<◌, ◌≤◌, zero-le}
+use Rattle.naming.specs.GatherLaws.{none_named}
+use Rattle.table.specs.Naming.{names_of, names_in}
+use Rattle.table.specs.TabulateLaws.{Begun, begun_none, begun_next, begun_rest}
+use Rattle.naming.proofs.names_in.Given as goal
+
+abbrev pub invariant-loop-r : goal.invariant-loop-r
+invariant-loop-r l = (l.r ≤ l.count) × Begun (names_of l.numbers) l.names 32 l.r
+
+abbrev pub decreases-loop-r : goal.decreases-loop-r
+decreases-loop-r l = l.count - l.r

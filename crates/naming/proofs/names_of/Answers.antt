@@ -1,0 +1,28 @@
+-- `naming::names_of` meets its contract. Assumes nothing.
+use native.Mathlib.Omega.{arith}
+use borrow.Author.Tests.{lt-ltb}
+use mathlib.Core.Path.{ap₂, ◌∙◌}
+use Prim.Native.Nat.{ℕ, ◌+◌, ◌-◌}
+use Rattle.table.specs.Naming.{names_of, named_by, gather}
+use Rattle.table.specs.Lists.{statements_begin, begin_early}
+use borrow.Author.Rules.{rules}
+use Rattle.naming.proofs.names_of.Goals as goal
+
+pub number_at-requires : goal.number_at-requires
+number_at-requires c = tt
+
+pub number_at-requires-2 : goal.number_at-requires-2
+number_at-requires-2 c = tt
+
+pub named_among-requires : goal.named_among-requires
+named_among-requires c = omega (arith, c.number_at-2.ensures, begin_early c.requires.statements_begin (c.args.r + 1))
+
+pub returns : goal.returns
+unfolding names_of
+returns c =
+    let f = c.args.numbers.now in
+    let r = c.args.r in
+    rw (lt-ltb _ _ c.requires.r_bound)
+    (c.named_among.ensures
+    ∙ ap₂ (λ (p q : ℕ). gather (named_by f) 0 p (q - p)) (c.number_at.ensures ∙ statements_begin c.requires.statements_begin r (omega (arith, c.requires.r_bound)))
+    (c.number_at-2.ensures ∙ statements_begin c.requires.statements_begin (r + 1) (omega (arith, c.requires.r_bound))))
