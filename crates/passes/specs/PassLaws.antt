@@ -1,7 +1,7 @@
 -- The solver's steps: an edge, a pass over the edges in any order, and passes until nothing changes. Assumes nothing.
 use Rattle.std.proofs.Math.Path.{◌≡◌, refl, ap, subst}
 use Rattle.std.proofs.Common.{sym, ◌∙◌, inl, ⊎_elim, le_of_suc-le-suc, lt_of_lt_of_le, lt_of_le_of_lt, get_or-set_same, eqb-true}
-use Rattle.std.specs.Prelude.{Bool, ◌⊎◌, ℕ, zero, suc, ◌+◌, ◌-◌, ◌*◌, ◌%◌, ◌^◌, ◌≤◌, ◌<◌, eqb, length}
+use Rattle.std.specs.Prelude.{Bool, ℕ, zero, suc, ◌+◌, ◌-◌, ◌^◌, ◌≤◌, ◌<◌, eqb, length}
 use Rattle.std.proofs.Math.Bool.{true, false}
 use mathlib.Core.List.{List, [], ◌∷◌}
 use Rattle.std.proofs.Math.Logic.{inr}

@@ -1,3 +1,4 @@
+#![tactic(auto)]
 // Passes over the edges of a list of sets: an edge puts what is in both sets that it comes from into the set that it leads to. Its ends are one
 // number: 65,536 times the place that it comes from, and the place that it leads to. A second list has the place whose set is met; past its end an edge
 // is plain, and puts the whole set that it comes from.
