@@ -1,3 +1,4 @@
+#![tactic(auto)]
 // The solver: makes a list of sets the least one that holds it and is closed under the edges. The ends of an edge are one number: 65,536 times the place
 // that it comes from, and the place that it leads to. A second list has the place whose set each edge meets; past its end edges are plain.
 mod worklist;
@@ -9,7 +10,7 @@ ghost use Rattle.passes.specs.Pass.{Stepped};
 use crate::worklist::follow;
 
 // Which way a pass goes over the edges.
-#[derive(Drop)]
+#[derive(Clone, Copy)]
 pub enum Order {
     FirstToLast,
     LastToFirst,
