@@ -1,3 +1,4 @@
+#![tactic(auto)]
 // Round-robin passes over the plain edges of a list of sets, from the last edge to the first, until a pass changes nothing. The ends of an edge are one
 // number: 65,536 times the place that it comes from, and the place that it leads to.
 ghost use Rattle.std.specs.Prelude.{◌≡◌, not, map, ◌-◌, ◌<◌, ◌≤◌, length};
