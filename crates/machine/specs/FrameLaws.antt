@@ -7,7 +7,7 @@ use Rattle.std.proofs.Common.{sym, arith}
 use Rattle.std.proofs.Math.Bool.{true, false}
 use mathlib.Core.List.{List, [], ◌∷◌, ◌++◌}
 use Rattle.std.proofs.Math.ListN.{replicate}
-use Rattle.table.specs.Table.{Table, routine, statement, InRoutine}
+use Rattle.table.specs.Table.{Table, statement, InRoutine}
 use Rattle.table.specs.Accepted.{Accepted, GoesOn, Operands, Names}
 use Rattle.table.specs.View.{no_arguments, view, On, calls}
 use Rattle.table.specs.ViewLaws.{calls_names}

@@ -12,7 +12,7 @@ use Rattle.table.specs.declared.Arguments.{Arguments}
 use Rattle.table.specs.declared.Handle.{Handle}
 use Rattle.table.specs.declared.Statement.{Statement}
 use Rattle.table.specs.declared.Statement.TheVariants.{Read, Write, Set, Add, Take, Give, Point, Call, Start, Jump, JumpZero, Return, TakeRead}
-use Rattle.machine.specs.State.{State, Frame, Holder, writer, readers, free, holds_in, ended, thread, holder, refers, opened}
+use Rattle.machine.specs.State.{State, Frame, Holder, free, holds_in, ended, thread, holder, refers, opened}
 use Rattle.machine.specs.Step.{Answer, moved, refused, Turn, passes, stops, taking, reading, giving, going, pointing, turned, operate, stepped, step, after}
 use Rattle.machine.specs.Words.{HoldsIn, Holds}
 use Rattle.machine.specs.LockLaws.{Stops, OnPass, held_stops_taking, writer_stops_reading, own_hold_stops_reading, not_held_stops_giving}
