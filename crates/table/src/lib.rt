@@ -30,19 +30,19 @@ pub struct Counts {
 }
 
 // A handle that a statement names, by its number through the whole table.
-#[derive(Drop)]
+#[derive(Clone, Copy)]
 pub struct Handle {
     pub number: usize,
 }
 
 // A statement that a jump goes to, by its number through the whole table.
-#[derive(Drop)]
+#[derive(Clone, Copy)]
 pub struct Target {
     pub statement: usize,
 }
 
 // The handles that a CALL or START passes, by their numbers; those past the named routine's parameters are 0.
-#[derive(Drop)]
+#[derive(Clone, Copy)]
 pub struct Arguments {
     pub first: usize,
     pub second: usize,
@@ -51,7 +51,7 @@ pub struct Arguments {
 }
 
 // A statement of the table: document 01's operations 1 to 12 in their order, and document 02's operation 13, TAKER.
-#[derive(Drop)]
+#[derive(Clone, Copy)]
 pub enum Statement {
     Read(Handle),
     Write(Handle),
