@@ -1,7 +1,7 @@
 -- How the lists of a run show a state of the machine. Nothing that a promise of `engine::run` says rests on it. Assumes nothing.
 use Rattle.std.specs.Prelude.{ℕ, ◌+◌, ◌-◌, ◌*◌, ◌%◌, ◌<◌, ◌≤◌, ◌≡◌, cond, List, [], ◌∷◌, map, eqb, ℤ, pos, length, get_or}
 use Rattle.table.specs.Header.{statements, statement_line}
-use Rattle.table.specs.Table.{Table, table_of, declaration, routine, passed, OwnHandle}
+use Rattle.table.specs.Table.{Table, table_of, declaration, passed, OwnHandle}
 use Rattle.table.specs.Extents.{first_statements, first_handles}
 use Rattle.table.specs.Accepted.{Accepted}
 use Rattle.table.specs.declared.Arguments.{Arguments}

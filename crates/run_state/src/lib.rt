@@ -1,3 +1,4 @@
+#![tactic(auto)]
 // The state of a run in three lists, lent by the caller of a step: `words`, `values` and `registers`. `words` has each slot's next statement, each
 // thread's frame count, how many threads are started, and each lock's word; `values` each slot's handle values; `registers` each thread's
 // accumulator, and the cells. Places past the table's locks and cells are never read.
@@ -16,7 +17,7 @@ ghost use Rattle.run_state.specs.Shown.{ListsShow, Sized};
 use table::Arguments;
 
 // What a step asks of the table's header: the line of statement 0, and how many cells and locks there are.
-#[derive(Drop)]
+#[derive(Clone, Copy)]
 pub struct Sizes {
     pub base: usize,
     pub cells: usize,
