@@ -1,3 +1,4 @@
+#![tactic(auto)]
 // The operations of document 01 on the lists of a run, but for those on locks, one function each, and what a step is answered with.
 mod numbers;
 
@@ -27,7 +28,7 @@ pub enum Step {
 }
 
 // Where a thread stands: its number, the slot of its newest frame, and that frame's next statement.
-#[derive(Drop)]
+#[derive(Clone, Copy)]
 pub struct Place {
     pub thread: usize,
     pub slot: usize,
