@@ -1,3 +1,4 @@
+#![tactic(auto)]
 // The edges of a dataflow equation, in the order of its definition. An edge is one number: 65,536 times the place that it comes from, and the place
 // that it leads to. Each function appends to a list that the caller lends; four places a statement are room enough.
 ghost use Rattle.std.specs.Prelude.{◌≡◌, [], ◌∷◌, ◌<◌, ◌≤◌, ◌+◌, ◌^◌};

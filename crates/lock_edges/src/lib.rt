@@ -1,3 +1,4 @@
+#![tactic(auto)]
 // The edges along which what is left out of the held sets goes, those of one statement. An edge is a number and a place, as the solver takes them; each
 // function appends to two lists that the caller lends.
 ghost use Rattle.std.specs.Prelude.{◌≡◌, [], ◌∷◌, map, ◌<◌};
@@ -9,7 +10,7 @@ use table::{Reference, View};
 
 // The first places behind the statements: what RETURNs leave out, what routines may give up, flow sets, all locks but the one that a TAKE adds, all
 // locks.
-#[derive(Drop)]
+#[derive(Clone, Copy)]
 pub struct Bases {
     pub back: usize,
     pub given: usize,
@@ -19,7 +20,7 @@ pub struct Bases {
 }
 
 // Where an edge comes from, and the place whose set it meets.
-#[derive(Drop)]
+#[derive(Clone, Copy)]
 pub struct Origin {
     pub from: usize,
     pub also: usize,

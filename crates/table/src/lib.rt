@@ -6,7 +6,7 @@ ghost use Rattle.table.specs.Header.{statement_line};
 ghost use Rattle.table.specs.Table.{counts_of, arguments_in, statement_in};
 
 // What is said of a text: a table, or the number of the first refusal that applies and the line that goes with it.
-#[derive(Drop)]
+#[derive(Clone, Copy)]
 pub enum Verdict {
     Accepted,
     Refused { number: u32, line: usize },
@@ -20,7 +20,7 @@ pub struct Reading {
 }
 
 // What the header says: how many there are of each.
-#[derive(Drop)]
+#[derive(Clone, Copy)]
 pub struct Counts {
     pub cells: usize,
     pub locks: usize,
@@ -78,14 +78,14 @@ pub enum Statement {
 }
 
 // A handle, statement or routine that a statement names in one way, by its number, or none.
-#[derive(Drop)]
+#[derive(Clone, Copy)]
 pub enum Reference {
     To(usize),
     Nothing,
 }
 
 // What a statement is to the rules, by attributes.
-#[derive(Drop)]
+#[derive(Clone, Copy)]
 pub struct View {
     // It may go on to the next statement; it closes its frame; the statement that it may jump to.
     pub onward: bool,

@@ -1,0 +1,26 @@
+-- `edges::append_all_callers` meets its contract. Assumes nothing.
+use Rattle.edges.specs.LineLaws.{lined, every_edge}
+use native.Mathlib.Omega.{arith}
+use Prim.Native.Nat.{◌-◌}
+use Rattle.table.specs.Table.{table_of}
+use Rattle.edges.specs.Equations.{Callers, edges_at}
+use Rattle.edges.specs.EdgeLaws.{Growing, growing_start, growing_next}
+use Rattle.edges.specs.RoutineLaws.{Near, near_start}
+use borrow.Author.Rules.{rules}
+use borrow.Author.Rules.{rules}
+use Rattle.edges.proofs.append_all_callers.Goals as goal
+
+pub loop-s-init : goal.loop-s-init
+loop-s-init c = (growing_start _ _, near_start _ c.requires.accepted)
+
+pub owner_of-c-requires : goal.owner_of-c-requires
+owner_of-c-requires c = record { first_value = c.requires.first_value; accepted = c.requires.accepted; s_bound = (omega (arith, c.field_of-end.ensures.is, c.loop-s-test.true), c.loop-s.invariant.1) }
+
+pub append_callers-n-requires : goal.append_callers-n-requires
+append_callers-n-requires c = record { lined = (lined _ c.requires.accepted c.first_line-base.ensures.is, omega (arith, c.field_of-end.ensures.is, c.loop-s-test.true)); end_value = (c.field_of-end.ensures.is, c.owner_of-c.ensures.is, omega (arith, c.owner_of-c.ensures.near.small)) }
+
+pub loop-s-preserved : goal.loop-s-preserved
+loop-s-preserved c = (growing_next c.loop-s.invariant.0 c.loop-s-test.true c.append_callers-n.ensures, c.owner_of-c.ensures.near)
+
+pub returns : goal.returns
+returns c = every_edge Callers _ c.field_of-end.ensures.is c.loop-s.invariant.0 c.loop-s-test.false

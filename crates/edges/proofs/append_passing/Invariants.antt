@@ -1,0 +1,19 @@
+-- `edges::append_passing` meets its contract. Assumes nothing.
+use Rattle.edges.specs.LineLaws.{passing_from}
+use Rattle.sets.specs.Least.{Edge}
+use mathlib.Core.Path.{ap}
+use Prim.Native.Nat.{ℕ, ◌+◌, ◌-◌}
+use mathlib.Core.List.{List, [], ◌∷◌}
+use lib.ListN.{get_or}
+use Rattle.table.specs.Table.{passed}
+use Rattle.edges.specs.Equations.{edge}
+use Rattle.sets.specs.AppendLaws.{appended_same}
+use Rattle.edges.specs.EdgeLaws.{Growing, growing_start, growing_next, growing_done}
+use borrow.Author.Rules.{rules}
+use Rattle.edges.proofs.append_passing.Given as goal
+
+abbrev pub invariant-loop-j : goal.invariant-loop-j
+invariant-loop-j l = Growing (λ (i : ℕ). edge (get_or (passed l.arguments) i 0) (l.begin + i) ∷ []) l.count l.initial.edges l.n l.edges l.m l.j
+
+abbrev pub decreases-loop-j : goal.decreases-loop-j
+decreases-loop-j l = l.count - l.j

@@ -1,0 +1,18 @@
+-- `edges::fill_naming` meets its contract. Assumes nothing.
+use Rattle.sets.specs.AppendLaws.{appended_same}
+use Rattle.edges.specs.LineLaws.{lined, every_edge, up_at}
+use native.Mathlib.Omega.{arith}
+use Prim.Native.Nat.{◌-◌}
+use Rattle.table.specs.Table.{table_of}
+use Rattle.edges.specs.Equations.{upwards, edges_at}
+use Rattle.edges.specs.EdgeLaws.{Growing, growing_start, growing_next}
+use Rattle.edges.specs.RoutineLaws.{Near, near_start}
+use borrow.Author.Rules.{rules}
+use borrow.Author.Rules.{rules}
+use Rattle.edges.proofs.fill_naming.Given as goal
+
+abbrev pub invariant-loop-s : goal.invariant-loop-s
+invariant-loop-s l = Growing (edges_at (upwards l.starts) (table_of l.numbers)) l.end l.initial.edges 0 l.edges l.n l.s × Near l.numbers l.c l.s
+
+abbrev pub decreases-loop-s : goal.decreases-loop-s
+decreases-loop-s l = l.end - l.s
