@@ -1,3 +1,4 @@
+#![tactic(auto)]
 // Flow, effects and given-up locks of an accepted table, each the least sets along the edges of its equation: flow by passes over the statements from the
 // highest number down, the others by the solver.
 // `first`, `handle` and `counts` are the lists of declarations::first_statements, first_handles and parameter_counts. `edges` lends the room for the edges,

@@ -44,7 +44,7 @@ module _ {t : Table} (accepted : Accepted t) (copies : Copies t) where
     pub does_in_effect : {c s : ℕ} {w : Bool} {x : ℕ} → Place copies c s → Does copies f.flow f.effect c s (statement t s) w x → f.effect c w x
     does_in_effect {c} {s} {w} {x} p d = rules.effect_rules.of_statement c s w x p d
 
-    pub inside_in_effect : {c s : ℕ} {w : Bool} {x : ℕ} → Inside copies f c w x s → f.effect c w x
+    pub inside_in_effect : {c : ℕ} {w : Bool} {x s : ℕ} → Inside copies f c w x s → f.effect c w x
     inside_in_effect (next p g d) = does_in_effect p d
     inside_in_effect (later p g i) = inside_in_effect i
 
@@ -54,9 +54,9 @@ module _ {t : Table} (accepted : Accepted t) (copies : Copies t) where
 
     -- ---- futures
 
-    pub inside_in_future : {c s : ℕ} {w : Bool} {x : ℕ} → Place copies c s → Inside copies f c w x s → f.future c s w x
-    inside_in_future {c} {s} {w} {x} p (next {s' = z} q g d) = rules.future_rules.next c s z w x p q g d
-    inside_in_future {c} {s} {w} {x} p (later {s' = z} q g i) = rules.future_rules.later c s z w x p q g (inside_in_future q i)
+    pub inside_in_future : {c : ℕ} {w : Bool} {x s : ℕ} → Place copies c s → Inside copies f c w x s → f.future c s w x
+    inside_in_future {c} {w} {x} {s} p (next {s' = z} q g d) = rules.future_rules.next c s z w x p q g d
+    inside_in_future {c} {w} {x} {s} p (later {s' = z} q g i) = rules.future_rules.later c s z w x p q g (inside_in_future q i)
 
     -- what waits below a frame lies in the future of each of its statements
     pub left_in_future : (locks : List Holder) (n d z : ℕ) (ms : List Mark) (w : Bool) (x : ℕ) → Place copies d z → AllWait copies f locks n d ms

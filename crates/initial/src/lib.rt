@@ -1,3 +1,4 @@
+#![tactic(auto)]
 // The sets that each dataflow equation begins with, in lists that the caller lends.
 ghost use Rattle.std.specs.Prelude.{◌≡◌, ◌<◌, ◌≤◌, length};
 ghost use Rattle.table.specs.Header.{handles, routines, statements};

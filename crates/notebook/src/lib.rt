@@ -1,1 +1,2 @@
+#![tactic(auto)]
 // The trainer's notebook: see specs/. No code runs here.

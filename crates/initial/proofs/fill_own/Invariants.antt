@@ -1,0 +1,18 @@
+-- `initial::fill_own` meets its contract. Assumes nothing.
+use Prim.Native.Nat.{◌-◌}
+use mathlib.Core.Path.{refl}
+use native.Mathlib.Omega.{arith}
+use lib.ListN.{length}
+use Rattle.table.specs.Table.{table_of}
+use Rattle.table.specs.TabulateLaws.{Filled, filled_none, filled_next, filled_all}
+use Rattle.edges.specs.Equations.{in_routine}
+use borrow.Author.Rules.{rules}
+use Rattle.edges.specs.LineLaws.{lined}
+use borrow.Author.Rules.{rules}
+use Rattle.initial.proofs.fill_own.Given as goal
+
+abbrev pub invariant-loop-r : goal.invariant-loop-r
+invariant-loop-r l = Filled (in_routine l.locks l.writes l.flow (table_of l.numbers)) l.out (length l.initial.out) l.r
+
+abbrev pub decreases-loop-r : goal.decreases-loop-r
+decreases-loop-r l = length l.initial.out - l.r
