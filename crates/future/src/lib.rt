@@ -1,3 +1,4 @@
+#![tactic(auto)]
 // The futures of an accepted table, by the one solver, in two stages: what may follow in the routine, then what comes from its CALLs. `first` is the list
 // of declarations::first_statements. `edges` lends the room for the edges, four a statement; what stands in it before does not matter, and what is left in it
 // says nothing.

@@ -1,3 +1,4 @@
+#![tactic(auto)]
 // The edges by which C-13's two equations go, in the order of their definitions: which routines hold a START or reach one by CALLs, and which statements a
 // START can precede. A set has the element 0 where it is so, and nothing elsewhere. With one copy of each routine, the place of a routine is its number in the
 // first equation, and in the second that behind the statements; last stands "a START". `first` is the list of declarations::first_statements; four places a

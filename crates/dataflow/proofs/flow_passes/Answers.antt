@@ -16,3 +16,19 @@ pub solve-requires : goal.solve-requires
 solve-requires c =
     rw (flow_places _ c.requires.accepted c.requires.numbers_in_bounds c.fill_flow-n.ensures c.requires.flow_len c.fill_flow.ensures)
     (flow_ends _ c.requires.accepted c.requires.numbers_in_bounds c.fill_flow-n.ensures c.requires.flow_len)
+
+pub returns-clause-sets : goal.returns-clause-sets
+returns-clause-sets c =
+    flow_answer _ c.requires.accepted c.requires.numbers_in_bounds c.fill_flow-n.ensures c.requires.flow_len c.fill_flow.ensures c.solve.ensures.sets
+
+pub returns-clause-made : goal.returns-clause-made
+returns-clause-made c =
+    (made_answer _ c.requires.accepted c.requires.numbers_in_bounds c.fill_flow-n.ensures c.requires.flow_len c.fill_flow.ensures c.solve.ensures.made).0
+
+pub returns-clause-most : goal.returns-clause-most
+returns-clause-most c =
+    (made_answer _ c.requires.accepted c.requires.numbers_in_bounds c.fill_flow-n.ensures c.requires.flow_len c.fill_flow.ensures c.solve.ensures.made).1.0
+
+pub returns-clause-few : goal.returns-clause-few
+returns-clause-few c =
+    (made_answer _ c.requires.accepted c.requires.numbers_in_bounds c.fill_flow-n.ensures c.requires.flow_len c.fill_flow.ensures c.solve.ensures.made).1.1

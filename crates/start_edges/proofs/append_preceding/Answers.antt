@@ -1,0 +1,8 @@
+-- `start_edges::append_preceding` meets its contract. Assumes nothing.
+use Rattle.sets.specs.AppendLaws.{appended_same, appended_both}
+use Rattle.start_edges.specs.StartLaws.{preceding_parts}
+use borrow.Author.Rules.{rules}
+use Rattle.start_edges.proofs.append_preceding.Goals as goal
+
+pub returns : goal.returns
+returns c = appended_same _ _ (preceding_parts _ _ _ c.origin_of-origin.ensures c.requires.last_value) (appended_both c.append_following-m.ensures c.append_entering.ensures)
