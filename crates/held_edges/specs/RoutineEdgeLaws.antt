@@ -64,10 +64,10 @@ module _ (f : List ℤ) (first : List ℕ) (acc : Accepted (table_of f)) (first_
       where
         go : (r : Reference) → (view (statement t s)).names ≡ r → (b : Bool) → (view (statement t s)).starting ≡ b
             → view_edges (bases_of f) first s c (in_mode mode (view (statement t s))) ≡ edges_at t (one_each t) mode s c s (statement t s)
-        go (To q) e true j = rw (e, j, handles_length f, routines_length f, statements_length f, first_statement_lem q ((acc.operands c s l i).passes q e).there)
-        go (To q) e false j = rw (e, j, handles_length f, routines_length f, statements_length f, first_statement_lem q ((acc.operands c s l i).passes q e).there)
-        go Nothing e true j = rw (e, j, handles_length f, routines_length f, statements_length f)
-        go Nothing e false j = rw (e, j, handles_length f, routines_length f, statements_length f)
+        go (To q) e true j = rw (e, j, first_statement_lem q ((acc.operands c s l i).passes q e).there) (simp (handles_length f, routines_length f, statements_length f))
+        go (To q) e false j = rw (e, j, first_statement_lem q ((acc.operands c s l i).passes q e).there) (simp (handles_length f, routines_length f, statements_length f))
+        go Nothing e true j = rw (e, j) (simp (handles_length f, routines_length f, statements_length f))
+        go Nothing e false j = rw (e, j) (simp (handles_length f, routines_length f, statements_length f))
 
     pub edges_are : (mode : Bool) → view_edges (bases_of f) first s c (in_mode mode (view (statement t s))) ≡ part_of mode f s
     edges_are mode = edges_of_lem mode ∙ ap {B = List Edge} (λ (d : ℕ). edges_at t (one_each t) mode s d s (statement t s)) (sym (copy_is t acc c s l i))

@@ -1,3 +1,4 @@
+#![tactic(auto)]
 // The edges of all statements of a table, along which what is left out of the held sets goes: those of each routine after those of the one before. The held
 // sets are those of locks held for writing, or those held in either way.
 ghost use Rattle.std.specs.Prelude.{◌≡◌, ◌+◌, ◌*◌, ◌≤◌, ◌<◌, length, get_or};

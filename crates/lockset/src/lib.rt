@@ -1,3 +1,4 @@
+#![tactic(auto)]
 // The held sets of a table, of locks held for writing or in either way: all locks but what is left out of them, which the solver finds.
 ghost use Rattle.std.specs.Prelude.{◌≡◌, ◌+◌, ◌*◌, ◌≤◌, length, replicate, take};
 ghost use Rattle.sets.specs.Least.{edges_of, least};

@@ -1,3 +1,4 @@
+#![tactic(auto)]
 // The two modes of a hold (C-18), for writing and in either way: whether a table has two, and the held sets of both put together in the way of each access.
 ghost use Rattle.std.specs.Prelude.{◌≡◌, ◌+◌, ◌≤◌, length, replicate, take, drop};
 ghost use Rattle.table.specs.Fields.{field};

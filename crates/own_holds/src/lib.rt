@@ -1,3 +1,4 @@
+#![tactic(auto)]
 // What is held at each statement of a table, in the way of its access (C-18): for writing at a WRITE, in either way at any other statement. It comes from the
 // held sets of both modes, which are the same where nothing is taken for reading. `first` is the list of declarations::first_statements; `edges` lends the
 // room for edges.

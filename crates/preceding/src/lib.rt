@@ -1,3 +1,4 @@
+#![tactic(auto)]
 // C-13: the routines that hold a START or reach one by CALLs, the statements that a START can precede, and the held sets with the others left out. `first` is
 // the list of declarations::first_statements. `edges` lends the room for the edges, four a statement; what stands in it before does not matter, and what is
 // left in it says nothing.

@@ -1,0 +1,6 @@
+-- `held_edges::bases_of` meets its contract. Assumes nothing.
+use borrow.Author.Rules.{rules}
+use Rattle.held_edges.proofs.bases_of.Goals as goal
+
+pub returns : goal.returns
+returns c = cc

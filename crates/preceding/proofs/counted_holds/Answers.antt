@@ -1,0 +1,9 @@
+-- `preceding::counted_holds` meets its contract. Assumes nothing.
+use mathlib.Core.Path.{◌∙◌}
+use native.Mathlib.Omega.{arith}
+use Rattle.preceding.specs.LeaveLaws.{places_long, put_long, put_counted}
+use borrow.Author.Rules.{rules}
+use Rattle.preceding.proofs.counted_holds.Goals as goal
+
+pub find_preceded-requires : goal.find_preceded-requires
+find_preceded-requires c = record { accepted = c.requires.accepted; first_value = c.requires.first_value; numbers_in_bounds = c.requires.numbers_in_bounds; out_len = places_long c.args.numbers.now c.args.work.now _ _ c.field_of-count.ensures.is c.field_of.ensures.is c.requires.numbers_in_bounds_2 }

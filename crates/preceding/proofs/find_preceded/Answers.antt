@@ -1,0 +1,25 @@
+-- `preceding::find_preceded` meets its contract. Assumes nothing.
+use mathlib.Core.Path.{sym, ap, ◌∙◌}
+use Prim.Native.Nat.{ℕ, ◌+◌, ◌≤◌}
+use native.Mathlib.Omega.{arith}
+use mathlib.Core.List.{List}
+use Rattle.table.specs.Table.{table_of}
+use Rattle.table.specs.CutLaws.{cut_long}
+use Rattle.table.specs.LookupLaws.{routines_length}
+use Rattle.report.specs.Layout.{one_each}
+use Rattle.report.specs.Preceded.{preceded_sets}
+use Rattle.table.specs.FrontLaws.{front_fits, front_is, front_long}
+use borrow.Author.Rules.{rules}
+use Rattle.preceding.proofs.find_preceded.Goals as goal
+
+pub slice_bounds-reach-end : goal.slice_bounds-reach-end
+slice_bounds-reach-end c = let r : c.field_of-many.result + 1 ≤ 33 = omega (arith, c.field_of-many.ensures.is, c.requires.accepted.routines_most, routines_length c.args.numbers.now) in
+    r
+
+pub slice_bounds-reach_sets-end : goal.slice_bounds-reach_sets-end
+slice_bounds-reach_sets-end c = let r : c.field_of-many.result + 1 ≤ 33 = omega (arith, c.field_of-many.ensures.is, c.requires.accepted.routines_most, routines_length c.args.numbers.now) in
+    cut_long {A = ℕ} _ 33 0 r
+
+pub reach_sets-requires : goal.reach_sets-requires
+reach_sets-requires c = let r : c.field_of-many.result + 1 ≤ 33 = omega (arith, c.field_of-many.ensures.is, c.requires.accepted.routines_most, routines_length c.args.numbers.now) in
+    record { accepted = c.requires.accepted; first_value = c.requires.first_value; numbers_in_bounds = c.requires.numbers_in_bounds; reach_len = sym (cut_long {A = ℕ} _ 33 0 r) ∙ ap (λ (n : ℕ). n + 1) c.field_of-many.ensures.is }
