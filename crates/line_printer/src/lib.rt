@@ -1,3 +1,4 @@
+#![tactic(auto)]
 // A line of a table text, printed: eight numbers as fields of six characters and a line feed, into a lent buffer.
 ghost use Rattle.std.specs.Prelude.{◌≡◌, true, ◌+◌, ◌≤◌, nat_abs, length, replicate};
 ghost use Rattle.std.proofs.Math.Seq.{paste};
