@@ -1,3 +1,4 @@
+#![tactic(auto)]
 // Line 50: the number and the line of a refusal, as every program prints it.
 ghost use Rattle.std.specs.Prelude.{◌≡◌, length};
 ghost use Rattle.refusal.specs.Refusal.{refusal_in, over};
