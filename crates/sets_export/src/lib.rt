@@ -1,3 +1,4 @@
+#![tactic(auto)]
 // The solver under C names, for programs in C and for the benchmark. Each slice is a pointer and a count.
 ghost use Rattle.std.specs.Prelude.{◌≡◌, map};
 ghost use Rattle.sets.specs.Least.{edge_of, least};
