@@ -1,3 +1,4 @@
+#![tactic(auto)]
 // TAKE, TAKER and GIVE. A lock's word is a set: reader n is element n, writer n is element 16 + n; 0 is nobody.
 ghost use Rattle.std.specs.Prelude.{◌≡◌, ◌<◌, ◌≤◌, get_or};
 ghost use Rattle.run_state.specs.Shown.{value_place};
