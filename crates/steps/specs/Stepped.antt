@@ -1,5 +1,5 @@
 -- What a step of the engine asks and leaves. Assumes nothing.
-use Rattle.std.specs.Prelude.{ℕ, ◌+◌, ◌<◌, ◌≡◌, List, ◌++◌, ℤ, length, get_or, set, drop}
+use Rattle.std.specs.Prelude.{ℕ, ◌<◌, ◌≡◌, List, ◌++◌, ℤ, length, get_or, set, drop}
 use Rattle.table.specs.Table.{Table, statement_of}
 use Rattle.table.specs.declared.Statement.{Statement}
 use Rattle.machine.specs.State.{State}

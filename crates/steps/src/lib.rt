@@ -1,3 +1,4 @@
+#![tactic(auto)]
 // One step of a thread on the lists of a run, and the steps of a schedule. Between steps the lists are the caller's.
 ghost use Rattle.std.specs.Prelude.{◌≡◌, ◌<◌, ◌≤◌, length};
 ghost use Rattle.table.specs.Table.{table_of};
