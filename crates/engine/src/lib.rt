@@ -1,3 +1,4 @@
+#![tactic(auto)]
 // The stepping engine: runs a schedule over a table text and leaves the answers and the cells.
 ghost use Rattle.std.specs.Prelude.{◌≡◌, ◌++◌, ◌*◌, ◌≤◌, length, drop};
 ghost use Rattle.lines.specs.Line.{line_count};
