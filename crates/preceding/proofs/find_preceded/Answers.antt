@@ -23,3 +23,22 @@ slice_bounds-reach_sets-end c = let r : c.field_of-many.result + 1 ≤ 33 = omeg
 pub reach_sets-requires : goal.reach_sets-requires
 reach_sets-requires c = let r : c.field_of-many.result + 1 ≤ 33 = omega (arith, c.field_of-many.ensures.is, c.requires.accepted.routines_most, routines_length c.args.numbers.now) in
     record { accepted = c.requires.accepted; first_value = c.requires.first_value; numbers_in_bounds = c.requires.numbers_in_bounds; reach_len = sym (cut_long {A = ℕ} _ 33 0 r) ∙ ap (λ (n : ℕ). n + 1) c.field_of-many.ensures.is }
+
+pub slice_bounds-reach-end-2 : goal.slice_bounds-reach-end-2
+slice_bounds-reach-end-2 c = let r : c.field_of-many.result + 1 ≤ 33 = omega (arith, c.field_of-many.ensures.is, c.requires.accepted.routines_most, routines_length c.args.numbers.now) in
+    let long = c.reach_sets.auto.reach ∙ sym (cut_long {A = ℕ} _ 33 0 r) in
+    front_fits 33 c.reach_sets.new.reach long
+
+pub slice_bounds-preceded_sets-end : goal.slice_bounds-preceded_sets-end
+slice_bounds-preceded_sets-end c = let r : c.field_of-many.result + 1 ≤ 33 = omega (arith, c.field_of-many.ensures.is, c.requires.accepted.routines_most, routines_length c.args.numbers.now) in
+    let long = c.reach_sets.auto.reach ∙ sym (cut_long {A = ℕ} _ 33 0 r) in
+    front_long 33 c.reach_sets.new.reach long
+
+pub preceded_sets-requires : goal.preceded_sets-requires
+preceded_sets-requires c = record { accepted = c.requires.accepted; first_value = c.requires.first_value; numbers_in_bounds = omega (arith, c.requires.numbers_in_bounds, c.reach_sets.auto.edges); out_len = c.requires.out_len }
+
+pub returns : goal.returns
+returns c = let t = table_of c.args.numbers.now in
+    let r : c.field_of-many.result + 1 ≤ 33 = omega (arith, c.field_of-many.ensures.is, c.requires.accepted.routines_most, routines_length c.args.numbers.now) in
+    let long = c.reach_sets.auto.reach ∙ sym (cut_long {A = ℕ} _ 33 0 r) in
+    c.preceded_sets.ensures ∙ ap {B = List ℕ} (preceded_sets t (one_each t)) (front_is 33 c.reach_sets.new.reach long ∙ c.reach_sets.ensures)
