@@ -1,3 +1,4 @@
+#![tactic(auto)]
 // What the report says of cells and GIVEs, from the sets of a table. A statement is seen by its view.
 ghost use Rattle.std.specs.Prelude.{◌≡◌, true, ℕ, ◌+◌, ◌≤◌, ◌<◌, ◌^◌, length, get_or, replicate};
 ghost use Rattle.sets.specs.Set.{has};

@@ -1,3 +1,4 @@
+#![tactic(auto)]
 // The report's lines, written one behind the other into a lent buffer, from what is found of a table.
 ghost use Rattle.std.specs.Prelude.{◌≡◌, map, ◌+◌, ◌≤◌, ◌<◌, pos, length};
 ghost use Rattle.lines.specs.Line.{line_text};

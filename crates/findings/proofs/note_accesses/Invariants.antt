@@ -1,0 +1,16 @@
+-- `findings::note_accesses` meets its contract. Assumes nothing.
+use mathlib.Core.Path.{◌≡◌}
+use native.Mathlib.Omega.{arith}
+use Prim.Native.Nat.{◌≤◌, ◌<◌, ◌^◌}
+use Rattle.sets.specs.Set.{firsts}
+use Rattle.table.specs.Header.{statements, statement_line}
+use Rattle.findings.specs.NoteLaws.{Noting, noting_start, noting_next, noting_done, noting_few}
+use Rattle.findings.specs.FoundLaws.{statements_few}
+use borrow.Author.Rules.{rules}
+use Rattle.findings.proofs.note_accesses.Given as goal
+
+abbrev pub invariant-loop-s : goal.invariant-loop-s
+invariant-loop-s l = Noting l.numbers l.flow l.held l.noted l.s × (statements l.numbers ≤ 512) × (l.base ≡ statement_line l.numbers 0) × (l.base < 2 ^ 33)
+
+abbrev pub decreases-loop-s : goal.decreases-loop-s
+decreases-loop-s l = l.s
