@@ -31,3 +31,10 @@ loop-s-preserved c = let inv = c.loop-s.invariant in
 
 pub returns : goal.returns
 returns c = folding_done _ _ _ _ _ c.loop-s.invariant.0 c.loop-s-test.false ∙ fold_union _ _ _
+
+pub loop-s-init : goal.loop-s-init
+loop-s-init c =
+    let few = statements_few c.args.numbers.now c.requires in
+    let a = c.field_of-count.ensures in
+    let b = c.field_of.ensures in
+    (rw a.is (folding_start _ _ _), few, c.first_line-base.ensures.is, c.first_line-base.ensures.small, omega (arith, a.is, b.is), omega (arith, a.small, b.small))
