@@ -1,3 +1,4 @@
+#![tactic(auto)]
 // The report of an accepted table: its sets, each out of those before it, what is found with them, and its lines. Flow and held sets stay as they
 // are found.
 ghost use Rattle.std.specs.Prelude.{◌≡◌, ◌+◌, ◌*◌, ◌≤◌, length, take, drop};
