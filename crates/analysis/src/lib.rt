@@ -1,3 +1,4 @@
+#![tactic(auto)]
 // The report of a table text, and whether its totals are 0.
 ghost use Rattle.std.specs.Prelude.{◌≡◌, ◌*◌, ◌≤◌, length};
 ghost use Rattle.lines.specs.Line.{line_count};

@@ -1,3 +1,4 @@
+#![tactic(auto)]
 // What the program `check` prints for a text: its report, or line 50 with the number and the line of its refusal.
 ghost use Rattle.std.specs.Prelude.{◌≡◌, ◌≤◌, length};
 ghost use Rattle.refusal.specs.Refusal.{over};

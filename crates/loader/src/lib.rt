@@ -1,3 +1,4 @@
+#![tactic(auto)]
 // The loader's question: whether a table may be loaded, with what a yes promises.
 ghost use Rattle.std.specs.Prelude.{◌≡◌, true, List, ℕ};
 ghost use Rattle.machine.specs.State.{start};

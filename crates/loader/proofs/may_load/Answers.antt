@@ -1,0 +1,9 @@
+-- `loader::may_load` meets its contract. Assumes nothing.
+use mathlib.Core.Path.{sym, ◌∙◌}
+use Rattle.loader.specs.LoadLaws.{loadable_safe, loadable_steady}
+use borrow.Author.Rules.{rules}
+use Rattle.loader.proofs.may_load.Goals as goal
+
+pub returns : goal.returns
+returns c =
+    record { answer = c.is_clean.ensures; safe = (λ allowed. loadable_safe c.args.text.now (sym c.is_clean.ensures ∙ allowed)); steady = λ allowed. loadable_steady c.args.text.now (sym c.is_clean.ensures ∙ allowed) }
