@@ -6,22 +6,22 @@ use Rattle.lines.specs.Line.{numbers_of, line_count}
 use Rattle.table.specs.Header.{handles, routines, statements, statement_line}
 use Rattle.table.specs.Table.{table_of}
 use Rattle.table.specs.Accepted as Facts
-use Rattle.table.specs.AcceptedLaws.{accepted}
-use Rattle.table.specs.CutLaws.{cut_long}
-use Rattle.table.specs.CheckLaws.{text_long}
+use Rattle.table.proofs.AcceptedLaws.{accepted}
+use Rattle.table.proofs.CutLaws.{cut_long}
+use Rattle.table.proofs.CheckLaws.{text_long}
 use Rattle.table.specs.Verdict.{text_ok, verdict}
-use Rattle.table.specs.VerdictLaws.{bad_length}
+use Rattle.table.proofs.VerdictLaws.{bad_length}
 use Rattle.table.specs.declared.Verdict.{Verdict}
 use Rattle.table.specs.declared.Verdict.TheVariants.{Accepted, Refused}
 use Rattle.report.specs.Report.{report_text}
-use Rattle.report.specs.ReportTextLaws.{report_length}
+use Rattle.report.proofs.ReportTextLaws.{report_length}
 use Rattle.report_printer.specs.Printed.{bytes_in, printed_over, counts_nothing}
 use Rattle.analysis.specs.Reported.{table_in, turned_down, answer_of, report_answer, reported_into, loadable, with_clean, examined_in}
 use Rattle.analysis.specs.declared.Answer.{Answer}
 use Rattle.analysis.specs.declared.Examined.{Examined}
 use Rattle.stages.specs.Lent.{Lent}
 use Rattle.findings.specs.FoundLaws.{statements_few}
-use Rattle.table.specs.AcceptedLaws.{handles_few, routines_few}
+use Rattle.table.proofs.AcceptedLaws.{handles_few, routines_few}
 
 -- ---- what was printed: a report is never empty, so no byte means no room
 

@@ -4,16 +4,17 @@ use Rattle.std.proofs.Math.Option.{Option, none, some}
 use Rattle.std.proofs.Common.{arith}
 use borrow.Author.Tests.{ltb-true, leb-true, eqb-true}
 use Rattle.lines.specs.Line.{first_bad, numbers_of}
-use Rattle.lines.specs.LineLaws.{first_bad_line}
+use Rattle.lines.proofs.LineLaws.{first_bad_line}
 use Rattle.table.specs.Header.{header_ok, length_ok, leading_ok, handles, routines, statements, routine_line, handle_line, statement_line}
-use Rattle.table.specs.HeaderLaws.{Sized, header_sized, both}
+use Rattle.table.specs.HeaderLaws.{Sized}
+use Rattle.table.proofs.HeaderLaws.{header_sized, both}
 use Rattle.table.specs.Until.{until}
 use Rattle.table.specs.Handles.{handle_ok}
 use Rattle.table.specs.Routines.{first_statement, routine_ok, sum_ok}
-use Rattle.table.specs.RoutineLaws.{ends_before}
+use Rattle.table.proofs.RoutineLaws.{ends_before}
 use Rattle.table.specs.Statements.{bad_statement, end_ok, last_of}
 use Rattle.table.specs.Naming.{names_in, is_named, is_acyclic}
-use Rattle.table.specs.AcceptedLaws.{accepted}
+use Rattle.table.proofs.AcceptedLaws.{accepted}
 use Rattle.table.specs.Verdict.{naming_verdict, statement_verdict, declaration_verdict, numbers_verdict, text_ok, unless_bad, verdict}
 use Rattle.table.specs.declared.Verdict.{Verdict}
 use Rattle.table.specs.declared.Verdict.TheVariants.{Accepted, Refused}
@@ -21,7 +22,7 @@ use Rattle.report.specs.Over.{count_from}
 use Rattle.report.specs.Layout.{one_each}
 use Rattle.report.specs.Findings.{sets_of, is_stray}
 use Rattle.report.specs.Report.{report_text}
-use Rattle.report.specs.ReportTextLaws.{report_length, count_most}
+use Rattle.report.proofs.ReportTextLaws.{report_length, count_most}
 use Rattle.analysis.specs.Reported.{table_in, answer_by, turned_down, report_answer}
 use Rattle.analysis.specs.declared.Answer.{Answer}
 

@@ -6,21 +6,21 @@ use Rattle.std.proofs.Math.Bool.{true, false}
 use mathlib.Core.List.{List, map}
 use Rattle.sets.specs.Least.{Edge, edge_of, least, settled}
 use Rattle.round_robin.specs.RoundRobin.{pass_down, passes_made, Among}
-use Rattle.round_robin.specs.PassLaws.{settled_down}
+use Rattle.round_robin.proofs.PassLaws.{settled_down}
 use Rattle.table.specs.Header.{handles, routines, statements}
-use Rattle.table.specs.LookupLaws.{handles_length, routines_length}
+use Rattle.table.proofs.LookupLaws.{handles_length, routines_length}
 use Rattle.table.specs.Table.{Table, table_of, statement}
 use Rattle.table.specs.Accepted.{Accepted}
 use Rattle.table.specs.Tabulate.{tabulate}
-use Rattle.table.specs.TabulateLaws.{length_tabulate}
+use Rattle.table.proofs.TabulateLaws.{length_tabulate}
 use Rattle.table.specs.declared.Statement.{Statement}
-use Rattle.report.specs.OverLaws.{within_below}
+use Rattle.report.proofs.OverLaws.{within_below}
 use Rattle.report.specs.Layout.{one_each}
 use Rattle.report.specs.Operations.{accessed, given}
 use Rattle.report.specs.Flow.{start_of, passing, flow_edges, all_flow_edges, flow_initials, flow_sets}
-use Rattle.report.specs.FlowLaws.{initials_sets}
+use Rattle.report.proofs.FlowLaws.{initials_sets}
 use Rattle.report.specs.FlowPasses.{flow_passes, HelpersFirst}
-use Rattle.report.specs.FlowPassesLaws.{flow_among, passes_by_edges, passes_at_most_handles, three_passes_at_most}
+use Rattle.report.proofs.FlowPassesLaws.{flow_among, passes_by_edges, passes_at_most_handles, three_passes_at_most}
 use Rattle.report.specs.Effect.{over_copy, up_from, naming_edges, call_edges as up_call_edges, effects, gives}
 use Rattle.edges.specs.Equations.{Equation, Flow, Effects, Gives, up_edges, edges_at, edges_for, own_set, in_routine}
 use Rattle.edges.specs.EdgeLaws.{joined_same, Appended}

@@ -7,8 +7,9 @@ use Rattle.table.specs.Fields.{field}
 use Rattle.table.specs.Header.{handles, handle_line}
 use Rattle.table.specs.Handles.{routine_of, origin_of, handles_from, parameters}
 use Rattle.table.specs.Routines.{count_of, first_statement}
-use Rattle.table.specs.ExtentLaws.{first_next, handles_next}
-use Rattle.table.specs.TabulateLaws.{Begun, begun_next, zeros_at}
+use Rattle.table.proofs.ExtentLaws.{first_next, handles_next}
+use Rattle.table.specs.TabulateLaws.{Begun}
+use Rattle.table.proofs.TabulateLaws.{begun_next, zeros_at}
 
 -- ---- the first statements
 

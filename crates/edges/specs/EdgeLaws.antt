@@ -4,11 +4,11 @@ use Rattle.std.proofs.Common.{sym, ap, ap₂, ◌∙◌, add-one, arith, length-
 use Rattle.std.proofs.lemmas.List.{map-append, length-map}
 use Rattle.std.proofs.Math.Seq.{take-append-add, take-append_seam, drop-append_seam}
 use Rattle.sets.specs.Least.{Edge, edge_of}
-use Rattle.sets.specs.LeastLaws.{edge_packed}
-use Rattle.sets.specs.AppendLaws.{Small, Room, Kind, room_left, appended_same, appended_none, appended_both, appended_not}
-use Rattle.sets.specs.AppendLaws as A
+use Rattle.sets.proofs.LeastLaws.{edge_packed}
+use Rattle.sets.proofs.AppendLaws.{Small, Room, Kind, room_left, appended_same, appended_none, appended_both, appended_not}
+use Rattle.sets.proofs.AppendLaws as A
 use Rattle.report.specs.Over.{joined_from}
-use Rattle.report.specs.OverLaws.{Within, joined_next}
+use Rattle.report.proofs.OverLaws.{Within, joined_next}
 use Rattle.edges.specs.Equations.{edge}
 
 -- a list and how many edges are in it

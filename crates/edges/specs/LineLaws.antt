@@ -8,10 +8,10 @@ use Rattle.table.specs.Fields.{field}
 use Rattle.table.specs.Header.{handles, routines, statements, statement_line}
 use Rattle.table.specs.Table.{Table, table_of, routine, statement, passed, InRoutine, statement_in}
 use Rattle.table.specs.Accepted.{Accepted}
-use Rattle.table.specs.LookupLaws.{handles_length, routines_length, statements_length}
-use Rattle.table.specs.OperationLaws.{view_here}
+use Rattle.table.proofs.LookupLaws.{handles_length, routines_length, statements_length}
+use Rattle.table.proofs.OperationLaws.{view_here}
 use Rattle.table.specs.View.{view, list_on, when, calls}
-use Rattle.table.specs.ViewLaws.{on_number, on_called, list_same, list_map, when_map}
+use Rattle.table.proofs.ViewLaws.{on_number, on_called, list_same, list_map, when_map}
 use Rattle.table.specs.declared.Arguments.{Arguments}
 use Rattle.table.specs.declared.Reference.{Reference}
 use Rattle.table.specs.declared.Reference.TheVariants.{To, Nothing}
@@ -20,10 +20,10 @@ use Rattle.table.specs.declared.Statement.{Statement}
 use Rattle.report.specs.Over.{joined_from}
 use Rattle.report.specs.Layout.{named, owner_of, one_each}
 use Rattle.report.specs.Operations.{nexts}
-use Rattle.report.specs.OneEach.{names_there}
+use Rattle.report.proofs.OneEach.{names_there}
 use Rattle.report.specs.Flow.{passing, flow_edges}
 use Rattle.edges.specs.Equations.{Equation, Nexts, Callers, upwards, edge, edges_at, edges_for, up_edges, next_edges, call_edges}
-use Rattle.sets.specs.AppendLaws.{appended_same}
+use Rattle.sets.proofs.AppendLaws.{appended_same}
 use Rattle.edges.specs.EdgeLaws.{Appended, Growing, growing_done}
 
 -- `base` is the line of statement 0, and there are few lines

@@ -5,22 +5,22 @@ use Rattle.std.proofs.Math.Bool.{true, false, not}
 use mathlib.Core.List.{List, [], ◌∷◌, ◌++◌, Memᴰ}
 use Rattle.std.proofs.Math.ListN.{length}
 use Rattle.sets.specs.Least.{Edge}
-use Rattle.sets.specs.AppendLaws.{Room, room_none, room_one, room_both, room_more}
+use Rattle.sets.proofs.AppendLaws.{Room, room_none, room_one, room_both, room_more}
 use Rattle.table.specs.Header.{statements}
 use Rattle.table.specs.Table.{Table, table_of, routine, statement, passed, InRoutine}
 use Rattle.table.specs.Accepted.{Accepted, Operands, Passes, RoutineFacts}
-use Rattle.table.specs.LookupLaws.{statements_length}
-use Rattle.table.specs.UntilLaws.{until_range}
+use Rattle.table.proofs.LookupLaws.{statements_length}
+use Rattle.table.proofs.UntilLaws.{until_range}
 use Rattle.table.specs.declared.Arguments.{Arguments}
 use Rattle.table.specs.declared.Statement.{Statement}
 use Rattle.table.specs.View.{view, list_on, when, calls}
-use Rattle.table.specs.ViewLaws.{on_or_lem, points_or_names}
+use Rattle.table.proofs.ViewLaws.{on_or_lem, points_or_names}
 use Rattle.table.specs.declared.Reference.{Reference}
 use Rattle.table.specs.declared.Reference.TheVariants.{To, Nothing}
 use Rattle.report.specs.Over.{joined_from}
-use Rattle.report.specs.OverLaws.{Within, joined_from_lem, within_below}
+use Rattle.report.proofs.OverLaws.{Within, joined_from_lem, within_below}
 use Rattle.report.specs.Layout.{named, is_in, owner_of, one_each}
-use Rattle.report.specs.OneEach.{statement_below}
+use Rattle.report.proofs.OneEach.{statement_below}
 use Rattle.report.specs.Flow.{passing, flow_edges}
 use Rattle.edges.specs.Equations.{Equation, Flow, Effects, Gives, Nexts, Callers, edge, up_edges, next_edges, call_edges, edges_at, edges_for}
 use Rattle.edges.specs.EdgeLaws.{Appended, Ready, ready, Parts, parts}

@@ -8,10 +8,10 @@ use Rattle.table.specs.Header.{routines, statements}
 use Rattle.table.specs.Routines.{first_statement}
 use Rattle.table.specs.Table.{Table, table_of, routine, statement, InRoutine}
 use Rattle.table.specs.Extents.{first_statements, first_handles, parameter_counts}
-use Rattle.table.specs.ExtentLaws as L
-use Rattle.table.specs.TabulateLaws.{get_d_tabulate}
-use Rattle.table.specs.LookupLaws.{routines_length, statements_length, routine_says, in_routine_lem, routine_in}
-use Rattle.table.specs.RoutineLaws.{ends_before}
+use Rattle.table.proofs.ExtentLaws as L
+use Rattle.table.proofs.TabulateLaws.{get_d_tabulate}
+use Rattle.table.proofs.LookupLaws.{routines_length, statements_length, routine_says, in_routine_lem, routine_in}
+use Rattle.table.proofs.RoutineLaws.{ends_before}
 use Rattle.sets.specs.Least.{Edge}
 use Rattle.table.specs.View.{view, list_on}
 use Rattle.table.specs.declared.Arguments.{Arguments}
@@ -20,7 +20,7 @@ use Rattle.table.specs.declared.View.{View}
 use Rattle.table.specs.Accepted.{Accepted, RoutineFacts}
 use Rattle.report.specs.Layout.{owner_of, one_each}
 use Rattle.report.specs.Flow.{passing}
-use Rattle.report.specs.OneEach.{copy_is}
+use Rattle.report.proofs.OneEach.{copy_is}
 use Rattle.edges.specs.Equations.{Flow, edge, edges_at}
 use Rattle.edges.specs.LineLaws.{passing_from, passing_is, flow_naming}
 

@@ -4,7 +4,7 @@ use mathlib.Core.Path.{◌≡◌, sym, ap, ◌∙◌, subst}
 use mathlib.Core.List.{List}
 use lib.IntN.{ℤ, pos}
 use lib.ListN.{length, take, replicate}
-use Rattle.table.specs.CutLaws.{cut_long}
+use Rattle.table.proofs.CutLaws.{cut_long}
 use Rattle.table.specs.Table.{Table}
 use Rattle.machine.specs.State.{State}
 use Rattle.run_state.specs.Lists.{cells_in}

@@ -10,14 +10,14 @@ use Rattle.table.specs.Header.{statements, statement_line}
 use Rattle.table.specs.Table.{table_of, counts_of}
 use Rattle.table.specs.Verdict.{verdict}
 use Rattle.table.specs.Accepted.{Accepted}
-use Rattle.table.specs.AcceptedLaws.{accepted}
-use Rattle.table.specs.CheckLaws.{text_long}
+use Rattle.table.proofs.AcceptedLaws.{accepted}
+use Rattle.table.proofs.CheckLaws.{text_long}
 use Rattle.table.specs.declared.Verdict.{Verdict}
 use Rattle.table.specs.declared.Verdict as Declared
 use Rattle.table.specs.declared.Counts.{Counts}
 use Rattle.machine.specs.State.{State, start}
 use Rattle.machine.specs.Step.{run}
-use Rattle.machine.specs.EngineLaws.{unlimited, engine_runs_as_machine, Answered, answers_answered, answers_long}
+use Rattle.machine.proofs.EngineLaws.{unlimited, engine_runs_as_machine, Answered, answers_answered, answers_long}
 use Rattle.machine.specs.Engine.{engine_run, answers}
 use Rattle.engine.specs.declared.Outcome.{Outcome}
 use Rattle.engine.specs.Run.{table_in, has_room, outcome_of, answers_left, cells_left}

@@ -9,28 +9,28 @@ use Rattle.std.proofs.Math.ListN.{get_or, get_or-append}
 use Rattle.sets.specs.Set.{has, firsts, union, inter}
 use Rattle.table.specs.Header.{cells, locks, routines, statements}
 use Rattle.table.specs.Table.{Table, table_of, statement, statement_of}
-use Rattle.table.specs.TabulateLaws.{tabulate_same, get_d_tabulate}
+use Rattle.table.proofs.TabulateLaws.{tabulate_same, get_d_tabulate}
 use Rattle.table.specs.Accepted.{Accepted}
-use Rattle.table.specs.LookupLaws.{statement_is, statements_length, routines_length, cells_is, locks_is}
+use Rattle.table.proofs.LookupLaws.{statement_is, statements_length, routines_length, cells_is, locks_is}
 use Rattle.report.specs.Over.{union_from, inter_from, count_from}
 use Rattle.report.specs.Layout.{one_each}
-use Rattle.report.specs.OneEach.{one_each_fits}
+use Rattle.report.proofs.OneEach.{one_each_fits}
 use Rattle.report.specs.Operations.{reading, writing}
 use Rattle.report.specs.Flow.{flow_sets}
-use Rattle.report.specs.FlowLaws.{flow_sets_lem}
+use Rattle.report.proofs.FlowLaws.{flow_sets_lem}
 use Rattle.report.specs.Effect.{effects}
-use Rattle.report.specs.EffectLaws.{effects_sets}
-use Rattle.report.specs.FutureLaws.{futures_sets}
+use Rattle.report.proofs.EffectLaws.{effects_sets}
+use Rattle.report.proofs.FutureLaws.{futures_sets}
 use Rattle.report.specs.Held.{all_locks}
 use Rattle.report.specs.Preceded.{is_preceded}
 use Rattle.report.specs.Findings.{sets_of, shared_at, shared_cells, own_access, touches_at, counted_at, own_held, own_holds, common_locks, stray_by, stray_at, statement_access, access_count, is_stray, is_unguarded}
 use Rattle.report.specs.Counts.{Counts, no_counts, add_access, walk_from, walked, cell_by_cell}
-use Rattle.report.specs.CountsLaws.{walk_is_cell_by_cell}
+use Rattle.report.proofs.CountsLaws.{walk_is_cell_by_cell}
 use Rattle.report.specs.Report.{bit}
-use Rattle.report.specs.OneCopy.{access_one_copy, stray_one_copy}
-use Rattle.report.specs.FindingsLaws.{stray_own}
+use Rattle.report.proofs.OneCopy.{access_one_copy, stray_one_copy}
+use Rattle.report.proofs.FindingsLaws.{stray_own}
 use Rattle.table.specs.declared.Statement.{Statement}
-use Rattle.report.specs.ReportLaws.{unguarded_cell}
+use Rattle.report.proofs.ReportLaws.{unguarded_cell}
 use Rattle.findings.specs.Steps.{own_by, accesses, held_at, common_by, walk_by, noted_by, shared_by, stray_in, unguarded_in}
 use Rattle.findings.specs.FoldLaws.{fold_same, fold_union, fold_inter, fold_count, fold_walk}
 use Rattle.findings.specs.PartLaws.{three_parts, first_part, second_part, third_part}

@@ -7,9 +7,9 @@ use Rattle.sets.specs.Set.{one, subset, is_single}
 use Rattle.table.specs.Fields.{field}
 use Rattle.table.specs.Header.{statement_line}
 use Rattle.table.specs.Table.{statement_in, statement_of}
-use Rattle.table.specs.OperationLaws.{view_line}
+use Rattle.table.proofs.OperationLaws.{view_line}
 use Rattle.table.specs.View.{view, set_on, test_on, starts, accesses}
-use Rattle.table.specs.ViewLaws.{starts_names, set_is}
+use Rattle.table.proofs.ViewLaws.{starts_names, set_is}
 use Rattle.table.specs.declared.Reference.{Reference}
 use Rattle.table.specs.declared.Reference.TheVariants.{To, Nothing}
 use Rattle.table.specs.declared.Statement.{Statement}

@@ -9,14 +9,15 @@ use Rattle.std.proofs.Math.ListN.{get_or-eq_default}
 use Rattle.std.proofs.lemmas.Bool.{eqb-false}
 use Rattle.sets.specs.Set.{has, inter, minus, one, count, lowest, firsts}
 use Rattle.sets.specs.declared.Which.TheVariants.{Element}
-use Rattle.sets.specs.SetLaws.{has_minus, has_one, has_empty, has_inter, same_elements, minus_below, count_inside_less, has_beyond, lowest_is}
+use Rattle.sets.proofs.SetLaws.{has_minus, has_one, has_empty, has_inter, same_elements, minus_below, count_inside_less, has_beyond, lowest_is}
 use Rattle.table.specs.Header.{locks, statements}
 use Rattle.table.specs.Tabulate.{tabulate}
-use Rattle.table.specs.TabulateLaws.{Begun, get_d_tabulate, tabulate_same}
+use Rattle.table.specs.TabulateLaws.{Begun}
+use Rattle.table.proofs.TabulateLaws.{get_d_tabulate, tabulate_same}
 use Rattle.report.specs.Operations.{reading, writing}
 use Rattle.report.specs.Report.{bit}
 use Rattle.report.specs.Counts.{Counts, no_counts, add_each, add_access, walk_from}
-use Rattle.report.specs.CountsLaws.{add_tabulate, walk_counts, walk_few}
+use Rattle.report.proofs.CountsLaws.{add_tabulate, walk_counts, walk_few}
 use Rattle.findings.specs.Steps.{fold_from, own_by, accesses, held_at, common_by, walk_by, noted_by}
 use Rattle.findings.specs.PartLaws.{parts_long, in_three_parts}
 use Rattle.findings.specs.FoldLaws.{Folding, folding_start, folding_next, folding_done, fold_inter, fold_walk}

@@ -3,7 +3,7 @@ use Rattle.std.specs.Prelude.{◌≡◌, List, ◌++◌, ℕ, ◌+◌, ◌-◌, 
 use Rattle.std.proofs.Common.{sym, ap, ap₂, ◌∙◌, arith, length-append, ext_get_or}
 use Rattle.std.proofs.Math.Decide.{dec_lt}
 use Rattle.table.specs.Tabulate.{tabulate}
-use Rattle.table.specs.TabulateLaws.{length_tabulate, get_d_tabulate, get_d_front, get_d_behind}
+use Rattle.table.proofs.TabulateLaws.{length_tabulate, get_d_tabulate, get_d_front, get_d_behind}
 
 module _ (a b c : ℕ → ℕ) where
   abbrev pub three_parts : List ℕ

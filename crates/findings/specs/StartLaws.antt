@@ -6,19 +6,19 @@ use Rattle.std.proofs.Math.Bool.{true}
 use Rattle.std.proofs.Math.ListN.{length}
 use borrow.Author.Tests.{eq-eqb}
 use Rattle.sets.specs.Set.{has, one}
-use Rattle.sets.specs.SetLaws.{has_one, inside_both}
+use Rattle.sets.proofs.SetLaws.{has_one, inside_both}
 use Rattle.table.specs.Header.{statements}
-use Rattle.table.specs.LookupLaws.{statements_length, statement_is}
+use Rattle.table.proofs.LookupLaws.{statements_length, statement_is}
 use Rattle.table.specs.Table.{Table, table_of, statement, statement_of, InRoutine}
 use Rattle.table.specs.View.{view, set_on, starts}
-use Rattle.table.specs.ViewLaws.{set_from, set_has, starts_names}
+use Rattle.table.proofs.ViewLaws.{set_from, set_has, starts_names}
 use Rattle.table.specs.declared.Reference.TheVariants.{To}
 use Rattle.table.specs.declared.Statement.{Statement}
 use Rattle.table.specs.Accepted.{Accepted}
 use Rattle.report.specs.Over.{union_from}
-use Rattle.report.specs.OverLaws.{none_in, union_has, union_from_lem, below_within, within_below}
+use Rattle.report.proofs.OverLaws.{none_in, union_has, union_from_lem, below_within, within_below}
 use Rattle.report.specs.Layout.{one_each}
-use Rattle.report.specs.OneEach.{names_there}
+use Rattle.report.proofs.OneEach.{names_there}
 use Rattle.report.specs.Findings.{Sets, clash, shared_at, shared_cells}
 use Rattle.findings.specs.Steps.{started_by}
 

@@ -5,8 +5,8 @@ use Rattle.lines.specs.Line.{numbers_of}
 use Rattle.table.specs.Header.{handles, statements}
 use Rattle.table.specs.Table.{table_of}
 use Rattle.table.specs.Accepted as Facts
-use Rattle.table.specs.AcceptedLaws.{accepted}
-use Rattle.table.specs.LookupLaws.{handles_length, statements_length}
+use Rattle.table.proofs.AcceptedLaws.{accepted}
+use Rattle.table.proofs.LookupLaws.{handles_length, statements_length}
 use Rattle.table.specs.Verdict.{verdict}
 use Rattle.table.specs.declared.Verdict.{Verdict}
 use Rattle.table.specs.declared.Verdict.TheVariants.{Accepted, Refused}

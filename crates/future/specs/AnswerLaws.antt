@@ -10,14 +10,14 @@ use borrow.Author.Tests.{ltb-true}
 use Rattle.sets.specs.Set.{union}
 use Rattle.sets.specs.Least.{Edge, edge_of, least}
 use Rattle.table.specs.Header.{routines, statements}
-use Rattle.table.specs.LookupLaws.{routines_length, statements_length}
+use Rattle.table.proofs.LookupLaws.{routines_length, statements_length}
 use Rattle.table.specs.Table.{Table, table_of, statement}
 use Rattle.table.specs.Accepted.{Accepted}
 use Rattle.table.specs.Tabulate.{tabulate}
-use Rattle.table.specs.TabulateLaws.{length_tabulate, get_d_tabulate, is_tabulate}
-use Rattle.report.specs.OverLaws.{within_below}
+use Rattle.table.proofs.TabulateLaws.{length_tabulate, get_d_tabulate, is_tabulate}
+use Rattle.report.proofs.OverLaws.{within_below}
 use Rattle.report.specs.Layout.{owner_of, one_each}
-use Rattle.report.specs.OneEach.{one_each_fits}
+use Rattle.report.proofs.OneEach.{one_each_fits}
 use Rattle.report.specs.Operations.{accessed}
 use Rattle.report.specs.Effect.{effect_of}
 use Rattle.report.specs.Future.{callers, next_effects, future_initials, futures}

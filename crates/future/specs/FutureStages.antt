@@ -8,17 +8,17 @@ use mathlib.Core.List.{List, [], ◌∷◌, ◌++◌, map, Memᴰ}
 use Rattle.sets.specs.Least.{Edge, plain, least}
 use Rattle.table.specs.Table.{Table, statement}
 use Rattle.table.specs.View.{view, On, list_on, calls}
-use Rattle.table.specs.ViewLaws.{list_has, list_from, calls_names}
+use Rattle.table.proofs.ViewLaws.{list_has, list_from, calls_names}
 use Rattle.table.specs.Accepted.{Accepted}
 use Rattle.report.specs.Over.{joined_from}
-use Rattle.report.specs.OverLaws.{joined_has, joined_from_lem, below_within, within_below}
+use Rattle.report.proofs.OverLaws.{joined_has, joined_from_lem, below_within, within_below}
 use Rattle.report.specs.Layout.{Layout}
 use Rattle.report.specs.Fits.{Fits, StatementPlaced, copies_of}
 use Rattle.report.specs.Operations.{nexts}
 use Rattle.report.specs.Future.{callers, future_edges, future_initials, futures}
-use Rattle.report.specs.FutureLaws.{starts_sets}
-use Rattle.report.specs.NextLaws.{next_goes, goes_placed, map_from}
-use Rattle.report.specs.PlaceLaws.{placed, place_at}
+use Rattle.report.proofs.FutureLaws.{starts_sets}
+use Rattle.report.proofs.NextLaws.{next_goes, goes_placed, map_from}
+use Rattle.report.proofs.PlaceLaws.{placed, place_at}
 use Rattle.report.specs.Rules.{Place, Goes}
 use Rattle.future.specs.StageLaws.{Groups, staged, staged_least}
 

@@ -7,7 +7,7 @@ use Rattle.table.specs.Header.{routines, statements}
 use Rattle.table.specs.Table.{table_of}
 use Rattle.table.specs.Accepted.{Accepted}
 use Rattle.table.specs.Tabulate.{tabulate}
-use Rattle.table.specs.TabulateLaws.{Rewritten, rewritten_none, rewritten_next, rewritten_all}
+use Rattle.table.proofs.TabulateLaws.{Rewritten, rewritten_none, rewritten_next, rewritten_all}
 use Rattle.report.specs.Layout.{owner_of}
 use Rattle.edges.specs.RoutineLaws.{Near, near_start}
 use Rattle.future.specs.StageLaws.{with_group, spread}

@@ -9,12 +9,12 @@ use mathlib.Core.List.{List, Memᴰ}
 use native.Mathlib.Omega.{arith}
 use Rattle.std.proofs.Math.Dec.{ltb}
 use Rattle.sets.specs.Set.{has, union}
-use Rattle.sets.specs.SetLaws.{has_union_left, has_union_right, union_cases, union_below}
+use Rattle.sets.proofs.SetLaws.{has_union_left, has_union_right, union_cases, union_below}
 use Rattle.sets.specs.Least.{SetList, Inside, Edge, plain, least, Held, Closed}
-use Rattle.sets.specs.InsideLaws.{inside_trans}
-use Rattle.sets.specs.LeastLaws.{least_sets, least_holds_start, least_closed, least_edge, least_inside, least_is, least_induction}
+use Rattle.sets.proofs.InsideLaws.{inside_trans}
+use Rattle.sets.proofs.LeastLaws.{least_sets, least_holds_start, least_closed, least_edge, least_inside, least_is, least_induction}
 use Rattle.table.specs.Tabulate.{tabulate}
-use Rattle.report.specs.OverLaws.{has_place, tabulate_sets, tabulate_has, tabulate_from_lem}
+use Rattle.report.proofs.OverLaws.{has_place, tabulate_sets, tabulate_has, tabulate_from_lem}
 
 -- n places in m groups, whose own places stand behind them; a call is from a place to a group
 pub record Groups (n m : ℕ) (owner : ℕ → ℕ) (call : ℕ → ℕ → Type 0) (all inner outer : List Edge) : Type 0 where

@@ -1,11 +1,3 @@
-pub mod Lists
 pub mod Invariant
-pub mod Shrink
-pub mod Frames
-pub mod Threads
-pub mod Operations
-pub mod Runs
-pub mod Theorem
-pub mod StaysPut
 pub mod Demand
 pub mod Reading

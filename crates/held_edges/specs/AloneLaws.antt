@@ -2,7 +2,7 @@
 use Rattle.std.specs.Prelude.{◌≡◌, refl, ℕ}
 use Rattle.std.proofs.Common.{sym, ap, ◌∙◌}
 use Rattle.table.specs.View.{view, calls}
-use Rattle.table.specs.ViewLaws.{nothing_to, Form, on, read, written, taken, given, pointed, called, started, to, either, back, forms}
+use Rattle.table.proofs.ViewLaws.{nothing_to, Form, on, read, written, taken, given, pointed, called, started, to, either, back, forms}
 use Rattle.table.specs.declared.View.{View}
 use Rattle.table.specs.declared.Reference.{Reference}
 use Rattle.table.specs.declared.Reference.TheVariants.{To, Nothing}

@@ -5,15 +5,15 @@ use Rattle.std.proofs.Common.{sym}
 use native.Mathlib.Omega.{arith}
 use Rattle.table.specs.Table.{Table, routine, statement, OwnHandle}
 use Rattle.table.specs.View.{view, on_or, calls, takes_in}
-use Rattle.table.specs.ViewLaws.{calls_names, taken_takes}
+use Rattle.table.proofs.ViewLaws.{calls_names, taken_takes}
 use Rattle.table.specs.Accepted.{Accepted, Names, Operands}
 use Rattle.table.specs.declared.Reference.{Reference}
 use Rattle.table.specs.declared.Reference.TheVariants.{To, Nothing}
 use Rattle.report.specs.Layout.{Layout}
 use Rattle.report.specs.Fits.{Fits, copies_of}
 use Rattle.report.specs.Held.{entry}
-use Rattle.report.specs.NextLaws.{goes_placed}
-use Rattle.report.specs.PlaceLaws.{placed}
+use Rattle.report.proofs.NextLaws.{goes_placed}
+use Rattle.report.proofs.PlaceLaws.{placed}
 use Rattle.report.specs.Rules.{Place, Goes}
 use Rattle.held_edges.specs.HeldEdges.{back_place, other_place, every_place, place_count, met_place}
 

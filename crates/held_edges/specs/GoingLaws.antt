@@ -3,8 +3,8 @@ use Rattle.std.specs.Prelude.{ℕ, ◌+◌, ◌≤◌, ◌≡◌, refl, List, []
 use Rattle.std.proofs.Common.{subst, arith}
 use Rattle.sets.specs.Least.{Edge, edges_of}
 use Rattle.report.specs.Over.{joined_from}
-use Rattle.report.specs.OverLaws.{joined_next}
-use Rattle.sets.specs.AppendLaws.{Room, appended_same, appended_none, appended_both}
+use Rattle.report.proofs.OverLaws.{joined_next}
+use Rattle.sets.proofs.AppendLaws.{Room, appended_same, appended_none, appended_both}
 use Rattle.lock_edges.specs.StoreLaws.{Store, store, Same, two_lists, Appended}
 
 -- ---- a loop that appends a part for each number

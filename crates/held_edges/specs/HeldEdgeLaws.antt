@@ -8,31 +8,31 @@ use mathlib.Core.List.Memᴰ
 use mathlib.Core.List.{List, [], ◌∷◌, ◌++◌, map, Memᴰ}
 use borrow.Author.Tests.{ltb-true, lt-ltb}
 use Rattle.sets.specs.Set.{has, minus}
-use Rattle.sets.specs.SetLaws.{has_firsts, inside_both}
+use Rattle.sets.proofs.SetLaws.{has_firsts, inside_both}
 use Rattle.sets.specs.Least.{SetList, Edge, plain}
-use Rattle.sets.specs.LeastLaws.{least_sets, least_holds_start, least_edge, least_induction}
+use Rattle.sets.proofs.LeastLaws.{least_sets, least_holds_start, least_edge, least_induction}
 use Rattle.table.specs.Table.{Table, routine, statement, OwnHandle}
 use Rattle.table.specs.Tabulate.{tabulate}
-use Rattle.table.specs.TabulateLaws.{length_tabulate, is_tabulate}
+use Rattle.table.proofs.TabulateLaws.{length_tabulate, is_tabulate}
 use Rattle.table.specs.View.{view, On, on_or, set_on, list_on, when, calls, starts, takes_in}
-use Rattle.table.specs.ViewLaws.{nothing_to, set_from, set_has, list_has, list_from, when_has, when_from, calls_names, starts_names, taken_takes}
+use Rattle.table.proofs.ViewLaws.{nothing_to, set_from, set_has, list_has, list_from, when_has, when_from, calls_names, starts_names, taken_takes}
 use Rattle.table.specs.Accepted.{Accepted, Names}
 use Rattle.table.specs.declared.Reference.{Reference}
 use Rattle.table.specs.declared.Reference.TheVariants.{To, Nothing}
 use Rattle.table.specs.declared.Statement.{Statement}
-use Rattle.report.specs.OverLaws.{never, none_in, not_has, tabulate_sets, tabulate_has, tabulate_from_lem}
+use Rattle.report.proofs.OverLaws.{never, none_in, not_has, tabulate_sets, tabulate_has, tabulate_from_lem}
 use Rattle.report.specs.Greatest.{leaving, greatest}
-use Rattle.report.specs.GreatestLaws.{minus_has, minus_from}
+use Rattle.report.proofs.GreatestLaws.{minus_has, minus_from}
 use Rattle.report.specs.Layout.{Layout}
 use Rattle.report.specs.Fits.{Fits, StatementPlaced, copies_of}
 use Rattle.report.specs.Operations.{nexts}
 use Rattle.report.specs.Flow.{flow_at}
-use Rattle.report.specs.FlowLaws.{FlowHas}
-use Rattle.report.specs.EffectLaws.{GivesHas}
+use Rattle.report.proofs.FlowLaws.{FlowHas}
+use Rattle.report.proofs.EffectLaws.{GivesHas}
 use Rattle.report.specs.Held.{all_locks, entry, only_lock, held_sets}
-use Rattle.report.specs.HeldLaws.{HeldHas, only_from, only_has, held_rules, held_greatest}
-use Rattle.report.specs.NextLaws.{goes_next, next_goes, goes_placed, map_has, map_from}
-use Rattle.report.specs.PlaceLaws.{placed, place_at, among_all, of_some}
+use Rattle.report.proofs.HeldLaws.{HeldHas, only_from, only_has, held_rules, held_greatest}
+use Rattle.report.proofs.NextLaws.{goes_next, next_goes, goes_placed, map_has, map_from}
+use Rattle.report.proofs.PlaceLaws.{placed, place_at, among_all, of_some}
 use Rattle.report.specs.Rules.{Copies, Place, Goes, After, AtReturns, HeldRules}
 use Rattle.held_edges.specs.HeldEdges.{back_place, given_place, flow_place, other_place, every_place, place_count, start_at, met_place, edges_at, held_edges, held_out}
 use Rattle.held_edges.specs.StartLaws.{start_early, start_given, start_flow, start_other, start_every, start_below}

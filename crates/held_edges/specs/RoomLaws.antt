@@ -10,26 +10,26 @@ use Rattle.sets.specs.Least.{Edge, plain}
 use Rattle.table.specs.Header.{statements}
 use Rattle.table.specs.Table.{Table, table_of, routine, statement, InRoutine}
 use Rattle.table.specs.Extents.{first_statements}
-use Rattle.table.specs.LookupLaws.{handles_length, routines_length, statements_length}
+use Rattle.table.proofs.LookupLaws.{handles_length, routines_length, statements_length}
 use Rattle.table.specs.View.{view, list_on, when, calls, starts}
-use Rattle.table.specs.ViewLaws.{list_from, when_from, calls_names, starts_names, Form, on, read, written, taken, given, pointed, called, started, to, either, back, forms}
+use Rattle.table.proofs.ViewLaws.{list_from, when_from, calls_names, starts_names, Form, on, read, written, taken, given, pointed, called, started, to, either, back, forms}
 use Rattle.table.specs.Accepted.{Accepted}
 use Rattle.table.specs.declared.Reference.{Reference}
 use Rattle.table.specs.declared.Reference.TheVariants.{To, Nothing}
 use Rattle.table.specs.declared.View.{View}
 use Rattle.table.specs.declared.Statement.{Statement}
 use Rattle.report.specs.Over.{joined_from}
-use Rattle.report.specs.OverLaws.{Within, joined_from_lem, within_below}
+use Rattle.report.proofs.OverLaws.{Within, joined_from_lem, within_below}
 use Rattle.report.specs.Layout.{Layout, one_each}
 use Rattle.report.specs.Fits.{Fits, copies_of}
-use Rattle.report.specs.OneEach.{one_each_fits}
+use Rattle.report.proofs.OneEach.{one_each_fits}
 use Rattle.report.specs.Operations.{nexts}
-use Rattle.report.specs.NextLaws.{next_goes, goes_placed, map_from}
-use Rattle.report.specs.PlaceLaws.{place_at, of_some}
+use Rattle.report.proofs.NextLaws.{next_goes, goes_placed, map_from}
+use Rattle.report.proofs.PlaceLaws.{place_at, of_some}
 use Rattle.report.specs.Rules.{Place}
 use Rattle.report.specs.Held.{entry}
 use Rattle.held_edges.specs.HeldEdges.{back_place, given_place, flow_place, other_place, every_place, place_count, met_place, edges_at, held_edges}
-use Rattle.sets.specs.AppendLaws.{Room}
+use Rattle.sets.proofs.AppendLaws.{Room}
 use Rattle.lock_edges.specs.StoreLaws.{store, Appended}
 use Rattle.held_edges.specs.GoingLaws.{Ready, ready}
 use Rattle.held_edges.specs.EdgePlaceLaws.{place_there, entry_there, handle_there, operands_of, next_there, leads_there, met_there}

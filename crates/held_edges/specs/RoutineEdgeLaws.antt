@@ -9,20 +9,20 @@ use Rattle.sets.specs.Least.{Edge, plain}
 use Rattle.table.specs.Header.{handles, routines, statements, statement_line}
 use Rattle.table.specs.Fields.{field}
 use Rattle.table.specs.Routines.{first_statement}
-use Rattle.table.specs.RoutineLaws.{ends_before}
-use Rattle.table.specs.OperationLaws.{statement_in_lem}
+use Rattle.table.proofs.RoutineLaws.{ends_before}
+use Rattle.table.proofs.OperationLaws.{statement_in_lem}
 use Rattle.table.specs.Table.{Table, table_of, routine, statement, statement_in, InRoutine}
 use Rattle.table.specs.Extents.{first_statements}
-use Rattle.table.specs.ExtentLaws as L
-use Rattle.table.specs.LookupLaws.{handles_length, routines_length, statements_length, routine_says, in_routine_lem, routine_in}
+use Rattle.table.proofs.ExtentLaws as L
+use Rattle.table.proofs.LookupLaws.{handles_length, routines_length, statements_length, routine_says, in_routine_lem, routine_in}
 use Rattle.table.specs.View.{view, in_mode}
-use Rattle.table.specs.ViewLaws.{taken_takes}
+use Rattle.table.proofs.ViewLaws.{taken_takes}
 use Rattle.table.specs.Accepted.{Accepted}
 use Rattle.table.specs.declared.Reference.{Reference}
 use Rattle.table.specs.declared.Reference.TheVariants.{To, Nothing}
 use Rattle.table.specs.declared.Statement.{Statement}
 use Rattle.report.specs.Layout.{named, one_each}
-use Rattle.report.specs.OneEach.{copy_is, statement_below}
+use Rattle.report.proofs.OneEach.{copy_is, statement_below}
 use Rattle.report.specs.Over.{joined_from}
 use Rattle.report.specs.Operations.{nexts}
 use Rattle.report.specs.Held.{entry}

@@ -3,7 +3,7 @@ use Rattle.std.specs.Prelude.{ℕ, ◌-◌, ◌^◌, ◌<◌, ◌≡◌, Bool, t
 use native.Mathlib.Omega.{arith}
 use borrow.Author.Tests.{lt-ltb, le-ltb}
 use Rattle.sets.specs.Set.{minus}
-use Rattle.sets.specs.SetLaws.{firsts_below, minus_below}
+use Rattle.sets.proofs.SetLaws.{firsts_below, minus_below}
 use Rattle.table.specs.Table.{Table}
 use Rattle.report.specs.Layout.{Layout}
 use Rattle.report.specs.Held.{all_locks, only_lock}

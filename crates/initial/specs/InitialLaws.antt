@@ -10,9 +10,9 @@ use Rattle.sets.specs.Set.{one, union}
 use Rattle.table.specs.Fields.{field}
 use Rattle.table.specs.Header.{handles, statements}
 use Rattle.table.specs.Table.{Table, table_of, statement}
-use Rattle.table.specs.LookupLaws.{statements_length, declaration_says}
+use Rattle.table.proofs.LookupLaws.{statements_length, declaration_says}
 use Rattle.table.specs.View.{view, set_on, list_on, when}
-use Rattle.table.specs.ViewLaws.{on_number}
+use Rattle.table.proofs.ViewLaws.{on_number}
 use Rattle.table.specs.declared.Reference.{Reference}
 use Rattle.table.specs.declared.Reference.TheVariants.{To, Nothing}
 use Rattle.table.specs.declared.View.{View}

@@ -11,7 +11,7 @@ use Rattle.std.proofs.lemmas.Bool.{lt-leb}
 use Rattle.fields.specs.Field.{in_field, decimal_text, field_text}
 use Rattle.fields.specs.FieldLaws.{text_last, text_more, text_width, field_text_lem, field_text_length, signed_pos, signed_negsuc}
 use Rattle.lines.specs.Line.{all_in_field, line_text}
-use Rattle.lines.specs.LineLaws.{all_none, all_good, all_bad, text_end, text_cons, line_text_length}
+use Rattle.lines.proofs.LineLaws.{all_none, all_good, all_bad, text_end, text_cons, line_text_length}
 use Rattle.line_printer.specs.Print.{print_answer, printed_at}
 use Rattle.line_printer.specs.declared.Printed as P
 

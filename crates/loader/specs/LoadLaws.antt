@@ -1,7 +1,7 @@
 -- A table that may be loaded is safe after every list of thread numbers, and its common locks guard readings: demand 3 and C-22, as the loader asks them. Assumes nothing.
 use Rattle.std.specs.Prelude.{◌≡◌, refl, true, List, ℕ, ℤ, pos, negsuc}
 use Rattle.std.proofs.Common.{sym, ap, eqb-true}
-use Rattle.table.specs.AcceptedLaws.{accepted}
+use Rattle.table.proofs.AcceptedLaws.{accepted}
 use Rattle.table.specs.Verdict.{verdict}
 use Rattle.table.specs.declared.Verdict.{Verdict}
 use Rattle.table.specs.declared.Verdict.TheVariants.{Accepted, Refused}
@@ -9,10 +9,11 @@ use Rattle.machine.specs.State.{start}
 use Rattle.machine.specs.Step.{step, run}
 use Rattle.machine.specs.Engine.{engine_step}
 use Rattle.machine.specs.Words.{Safe}
-use Rattle.report.specs.OverLaws.{never, both_true}
+use Rattle.report.proofs.OverLaws.{never, both_true}
 use Rattle.report.specs.Report.{unguarded_total, stray_total}
-use Rattle.guarantee.specs.Demand.{clean_table_safe}
-use Rattle.guarantee.specs.Reading.{EachCommon, Steady, reading_stays_put, reading_stays_put_engine}
+use Rattle.guarantee.proofs.Demand.{clean_table_safe}
+use Rattle.guarantee.specs.Reading.{EachCommon, Steady}
+use Rattle.guarantee.proofs.Reading.{reading_stays_put, reading_stays_put_engine}
 use Rattle.report_printer.specs.Printed.{is_none, counts_nothing}
 use Rattle.analysis.specs.Reported.{table_in, loadable_by, loadable}
 

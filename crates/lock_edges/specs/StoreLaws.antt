@@ -3,9 +3,9 @@ use Rattle.std.specs.Prelude.{ℕ, ◌+◌, ◌*◌, ◌≤◌, ◌<◌, ◌≡�
 use Rattle.std.proofs.Common.{sym, ap, ap₂, ◌∙◌, add-one, arith, length-append, length-set, take-suc-set, length-take-le}
 use Rattle.std.proofs.Math.Nat.{suc_inj}
 use Rattle.sets.specs.Least.{Edge, edge_of, edges_of}
-use Rattle.sets.specs.LeastLaws.{edge_packed}
-use Rattle.sets.specs.AppendLaws.{Small, Kind, appended_not}
-use Rattle.sets.specs.AppendLaws as A
+use Rattle.sets.proofs.LeastLaws.{edge_packed}
+use Rattle.sets.proofs.AppendLaws.{Small, Kind, appended_not}
+use Rattle.sets.proofs.AppendLaws as A
 use Rattle.lock_edges.specs.ViewEdges.{edge_from}
 use Rattle.lock_edges.specs.declared.Origin.{Origin}
 

@@ -4,10 +4,10 @@ use Rattle.std.proofs.Common.{◌∙◌, arith, eq-eqb, ne_eqb, lt-ltb, le-ltb, 
 use Rattle.std.proofs.Math.Decide.{ℕ_discrete}
 use Rattle.std.proofs.Math.Pow.{pow-lt}
 use Rattle.sets.specs.Set.{has, one, with, minus, union}
-use Rattle.sets.specs.SetLaws.{has_one, has_beyond, has_positive, one_is, union_below, minus_below}
+use Rattle.sets.proofs.SetLaws.{has_one, has_beyond, has_positive, one_is, union_below, minus_below}
 use Rattle.machine.specs.State.{Holder, writer, readers, free, among, without}
 use Rattle.machine.specs.Step.{Turn, passes, stops, taking, reading, giving}
-use Rattle.machine.specs.LockLaws.{OnPass, Stops, taking_stops, reading_stops, giving_stops}
+use Rattle.machine.proofs.LockLaws.{OnPass, Stops, taking_stops, reading_stops, giving_stops}
 use Rattle.run_state.specs.Shown.{readers_word, word_of, Low}
 use Rattle.run_state.specs.LockWordLaws.{readers_has, readers_below, without_low, without_word}
 use Rattle.locks.specs.declared.LockTurn.{LockTurn}

@@ -13,12 +13,13 @@ use Rattle.sets.specs.Least.{Edge, edges_of, least}
 use Rattle.table.specs.Header.{locks, handles, routines, statements}
 use Rattle.table.specs.Table.{Table, table_of}
 use Rattle.table.specs.Tabulate.{tabulate}
-use Rattle.table.specs.TabulateLaws.{Filled, Rewritten, rewritten_next, rewritten_all, zeros_at, filled_none, filled_next, filled_all, length_tabulate, get_d_tabulate, is_tabulate}
-use Rattle.table.specs.LookupLaws.{handles_length, routines_length, statements_length}
+use Rattle.table.specs.TabulateLaws.{Filled}
+use Rattle.table.proofs.TabulateLaws.{Rewritten, rewritten_next, rewritten_all, zeros_at, filled_none, filled_next, filled_all, length_tabulate, get_d_tabulate, is_tabulate}
+use Rattle.table.proofs.LookupLaws.{handles_length, routines_length, statements_length}
 use Rattle.table.specs.Accepted.{Accepted}
 use Rattle.report.specs.Greatest.{leaving}
 use Rattle.report.specs.Layout.{one_each}
-use Rattle.report.specs.OneEach.{one_each_fits}
+use Rattle.report.proofs.OneEach.{one_each_fits}
 use Rattle.report.specs.Held.{all_locks, only_lock, held_sets}
 use Rattle.lock_edges.specs.declared.Bases.{Bases}
 use Rattle.held_edges.specs.TableEdges.{bases_of}

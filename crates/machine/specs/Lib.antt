@@ -1,13 +1,6 @@
-pub mod Lists
 pub mod State
 pub mod Step
-pub mod SumLaws
 pub mod Words
 pub mod Engine
 pub mod Notebook
-pub mod LockLaws
-pub mod Laws
 pub mod Stretch
-pub mod StretchLaws
-pub mod EngineLaws
-pub mod FrameLaws

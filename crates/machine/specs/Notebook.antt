@@ -3,7 +3,7 @@ use Rattle.std.specs.Prelude.{ℕ, ◌+◌, ◌*◌, ◌/◌, ◌%◌, ◌≡◌
 use Rattle.std.proofs.Common.{inl, arith}
 use Rattle.table.specs.Table.{Table}
 use Rattle.table.specs.Tabulate.{tabulate_from, tabulate}
-use Rattle.table.specs.ViewLaws.{nothing_to}
+use Rattle.table.proofs.ViewLaws.{nothing_to}
 use Rattle.table.specs.declared.Arguments.{Arguments}
 use Rattle.table.specs.declared.Statement.{Statement}
 use Rattle.table.specs.declared.Statement.TheVariants.{Read, Write, Set, Add, Take, Give, Call, Start, JumpZero, Return, TakeRead}

@@ -7,8 +7,9 @@ use Rattle.std.proofs.Math.Seq.{get_or-take}
 use Rattle.table.specs.Header.{statements, statement_line}
 use Rattle.table.specs.Fields.{field}
 use Rattle.table.specs.Table.{statement_in, statement_of}
-use Rattle.table.specs.TabulateLaws.{Filled, filled_all, Rewritten, rewritten_next, zeros_at, is_tabulate}
-use Rattle.table.specs.OperationLaws.{view_line}
+use Rattle.table.specs.TabulateLaws.{Filled}
+use Rattle.table.proofs.TabulateLaws.{filled_all, Rewritten, rewritten_next, zeros_at, is_tabulate}
+use Rattle.table.proofs.OperationLaws.{view_line}
 use Rattle.table.specs.View.{view, on_or, takes_to_read}
 use Rattle.table.specs.declared.View.{View}
 use Rattle.modes.specs.Modes.{takes_to_write_alone, held_by}

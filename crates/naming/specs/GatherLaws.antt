@@ -6,7 +6,7 @@ use Rattle.std.proofs.Math.ListN.{get_or-eq_default}
 use Rattle.sets.specs.Set.{union}
 use Rattle.table.specs.Header.{routines}
 use Rattle.table.specs.Naming.{gather, names_of, names_in}
-use Rattle.table.specs.TabulateLaws.{entry_tabulate, length_tabulate}
+use Rattle.table.proofs.TabulateLaws.{entry_tabulate, length_tabulate}
 
 -- the loop's invariant: what is gathered and what is left give the whole
 pub record Gathering (g : ℕ → ℕ) (end from acc i : ℕ) : Type 0 where

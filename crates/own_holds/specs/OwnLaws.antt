@@ -11,11 +11,11 @@ use borrow.Rule.Slice.PartMut.{put_mid, same_len_mid}
 use Rattle.table.specs.Header.{statements}
 use Rattle.table.specs.Table.{Table, table_of, statement, statement_of}
 use Rattle.table.specs.Tabulate.{tabulate}
-use Rattle.table.specs.TabulateLaws.{length_tabulate, is_tabulate, tabulate_same}
+use Rattle.table.proofs.TabulateLaws.{length_tabulate, is_tabulate, tabulate_same}
 use Rattle.table.specs.Accepted.{Accepted}
-use Rattle.table.specs.CheckLaws.{until_all}
-use Rattle.table.specs.FrontLaws.{part_long, put_first}
-use Rattle.table.specs.LookupLaws.{statement_is, statements_length}
+use Rattle.table.proofs.CheckLaws.{until_all}
+use Rattle.table.proofs.FrontLaws.{part_long, put_first}
+use Rattle.table.proofs.LookupLaws.{statement_is, statements_length}
 use Rattle.table.specs.Until.{until}
 use Rattle.table.specs.View.{view, on_or, takes_to_read}
 use Rattle.table.specs.declared.Reference.{Reference}
@@ -27,7 +27,7 @@ use Rattle.report.specs.Layout.{one_each}
 use Rattle.report.specs.Flow.{flow_sets}
 use Rattle.report.specs.Effect.{gives}
 use Rattle.report.specs.Held.{held_sets}
-use Rattle.report.specs.ModeLaws.{modes_same}
+use Rattle.report.proofs.ModeLaws.{modes_same}
 use Rattle.report.specs.Findings.{sets_of, own_held, own_holds}
 use Rattle.modes.specs.Modes.{takes_to_write_alone, held_by}
 

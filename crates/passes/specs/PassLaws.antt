@@ -13,8 +13,9 @@ use Rattle.std.proofs.Math.Seq.{set_out, set-get_or}
 use Rattle.std.proofs.lemmas.Bool.{eqb-false}
 use Rattle.sets.specs.Set.{union, inter}
 use Rattle.sets.specs.Least.{SetList, Inside, room, Edge, edges_of, put_into, along, least, Held, Closed}
-use Rattle.sets.specs.InsideLaws.{inside_refl, inside_trans, inside_at, room_le, room_less}
-use Rattle.sets.specs.LeastLaws.{edge_at, number_edge, numbers_closed, along_length, along_grows, along_sets, along_inside, still_held, least_sets, least_holds_start, least_closed, least_is}
+use Rattle.sets.proofs.InsideLaws.{inside_refl, inside_trans, inside_at, room_le, room_less}
+use Rattle.sets.specs.LeastLaws.{edge_at}
+use Rattle.sets.proofs.LeastLaws.{number_edge, numbers_closed, along_length, along_grows, along_sets, along_inside, still_held, least_sets, least_holds_start, least_closed, least_is}
 use Rattle.passes.specs.Pass.{Put, Passed, Solving, Stepped}
 
 -- ---- one edge

@@ -5,7 +5,7 @@ use Rattle.std.proofs.Common.{◌∙◌, arith}
 use mathlib.Core.List.{List, map}
 use Rattle.sets.specs.Least.{Edge, edge_of, least}
 use Rattle.table.specs.Header.{routines, statements}
-use Rattle.table.specs.LookupLaws.{routines_length, statements_length}
+use Rattle.table.proofs.LookupLaws.{routines_length, statements_length}
 use Rattle.table.specs.Table.{Table, table_of}
 use Rattle.report.specs.Layout.{one_each}
 use Rattle.report.specs.Preceded.{marked, reach_sets, preceded_sets}

@@ -8,16 +8,16 @@ use borrow.Rule.Slice.PartMut.{put_mid, same_len_mid}
 use Rattle.std.proofs.lemmas.Bool.{eqb-false}
 use Rattle.sets.specs.Set.{has, firsts}
 use Rattle.table.specs.Header.{locks, routines, statements}
-use Rattle.table.specs.LookupLaws.{locks_is, statements_length}
+use Rattle.table.proofs.LookupLaws.{locks_is, statements_length}
 use Rattle.table.specs.Table.{Table, table_of}
 use Rattle.table.specs.Accepted.{Accepted}
 use Rattle.table.specs.Tabulate.{tabulate}
-use Rattle.table.specs.TabulateLaws.{is_tabulate, tabulate_same}
+use Rattle.table.proofs.TabulateLaws.{is_tabulate, tabulate_same}
 use Rattle.report.specs.Layout.{owner_of, one_each}
 use Rattle.report.specs.Held.{all_locks}
 use Rattle.report.specs.Preceded.{is_marked, reach_sets, preceded_sets, entered, is_preceded}
 use Rattle.edges.specs.RoutineLaws.{Near, near_start, copy_of}
-use Rattle.table.specs.FrontLaws.{part_long, put_first}
+use Rattle.table.proofs.FrontLaws.{part_long, put_first}
 
 -- what statement s of a table has, where `sets` says what a START can precede
 abbrev pub counted_at : Table → List ℕ → List ℕ → ℕ → ℕ

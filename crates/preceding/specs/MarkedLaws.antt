@@ -1,7 +1,8 @@
 -- A list whose sets are made empty from the front, and then the last one marked. Assumes nothing.
 use Rattle.std.specs.Prelude.{ℕ, ◌+◌, ◌≤◌, ◌<◌, ◌≡◌, refl, cond, List, eqb, length, set}
 use Rattle.std.proofs.Common.{arith, ne_eqb, eq-eqb}
-use Rattle.table.specs.TabulateLaws.{Filled, filled_none, filled_next, filled_all}
+use Rattle.table.specs.TabulateLaws.{Filled}
+use Rattle.table.proofs.TabulateLaws.{filled_none, filled_next, filled_all}
 use Rattle.report.specs.Preceded.{marked}
 
 -- what stands at place p of n empty sets with the marked one behind

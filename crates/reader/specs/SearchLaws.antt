@@ -4,7 +4,7 @@ use Rattle.std.proofs.Common.{sym, ap, ap₂, ◌∙◌, arith, lt-ltb, le-ltb}
 use Rattle.std.proofs.Math.Nat.{sub-zero}
 use Rattle.table.specs.Until.{until}
 use Rattle.table.specs.Routines.{first_statement}
-use Rattle.table.specs.RoutineLaws.{bad_in, bad_step}
+use Rattle.table.proofs.RoutineLaws.{bad_in, bad_step}
 use Rattle.table.specs.Statements.{statement_ok, bad_statement}
 
 -- the loop's invariant: the routines left give the whole

@@ -9,7 +9,7 @@ use Rattle.std.proofs.Math.Dec.{leb}
 use Rattle.std.proofs.Math.IntN.{pos}
 use borrow.Author.Tests.{lt-ltb, le-ltb, le-leb, lt-leb, ltb-true, leb-true}
 use Rattle.lines.specs.Line.{all_in_field}
-use Rattle.lines.specs.LineLaws.{all_none, all_good, line_text_length}
+use Rattle.lines.proofs.LineLaws.{all_none, all_good, line_text_length}
 use Rattle.line_printer.specs.Print.{printed_at}
 use Rattle.refusal.specs.Refusal.{refusal_line, refusal_text, refusal_in, over}
 

@@ -8,7 +8,7 @@ use borrow.Author.Tests.{ltb-true}
 use mir.Syntax.{w32}
 use mir.Val.{to_z, of_z}
 use mir.Facts.{to_z_pos}
-use Rattle.lines.specs.LineLaws.{all_at}
+use Rattle.lines.proofs.LineLaws.{all_at}
 use Rattle.report.specs.Report.{bit, stray_line}
 use Rattle.report.specs.ReportTextLaws.{Line8}
 use Rattle.report_printer.specs.Lines.{cell_numbers, total_numbers}

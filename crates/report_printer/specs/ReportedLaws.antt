@@ -9,15 +9,16 @@ use Rattle.lines.specs.Line.{line_text}
 use Rattle.table.specs.Header.{cells, statements}
 use Rattle.table.specs.Table.{Table, table_of}
 use Rattle.table.specs.Accepted.{Accepted}
-use Rattle.table.specs.LookupLaws.{cells_is, statements_length}
+use Rattle.table.proofs.LookupLaws.{cells_is, statements_length}
 use Rattle.report.specs.Over.{joined_from, count_from}
-use Rattle.report.specs.OverLaws.{below_within, joined_has}
+use Rattle.report.proofs.OverLaws.{below_within, joined_has}
 use Rattle.report.specs.Layout.{one_each}
 use Rattle.report.specs.Operations.{reading, writing}
 use Rattle.report.specs.Findings.{Sets, shared_cells, is_stray}
 use Rattle.report.specs.Report.{cell_line, cell_lines, stray_line, stray_lines, total_line, finding_lines, lines_for, report_lines, text_of, report_text}
-use Rattle.report.specs.ReportLaws as Totals
-use Rattle.report.specs.ReportTextLaws.{Line8, lines_8, report_length}
+use Rattle.report.proofs.ReportLaws as Totals
+use Rattle.report.specs.ReportTextLaws.{Line8}
+use Rattle.report.proofs.ReportTextLaws.{lines_8, report_length}
 use Rattle.findings.specs.Steps.{stray_in, unguarded_in}
 use Rattle.findings.specs.Found.{sets_in, Found}
 use Rattle.findings.specs.FoundLaws.{stray_is, strays_counted, unguarded_counted}

@@ -10,7 +10,7 @@ use Rattle.std.proofs.lemmas.List.{length-map}
 use Rattle.std.proofs.Math.Seq.{take-length, paste}
 use Rattle.std.proofs.lemmas.List.Edits.{take-paste, drop-paste}
 use Rattle.lines.specs.Line.{line_text}
-use Rattle.lines.specs.LineLaws.{line_text_length}
+use Rattle.lines.proofs.LineLaws.{line_text_length}
 use Rattle.line_printer.specs.Print.{printed_at}
 use Rattle.report.specs.Over.{joined_from}
 use Rattle.report.specs.Report.{text_of, stray_line}

@@ -1,0 +1,4 @@
+pub mod PassLaws
+pub mod CountLaws
+pub mod OrderLaws
+pub mod SolveLaws

@@ -8,7 +8,7 @@ use Rattle.table.specs.Extents.{first_statements, first_handles}
 use Rattle.table.specs.Accepted.{Accepted}
 use Rattle.table.specs.declared.Arguments.{Arguments}
 use Rattle.machine.specs.State.{thread, start}
-use Rattle.machine.specs.FrameLaws.{start_bounded}
+use Rattle.machine.proofs.FrameLaws.{start_bounded}
 use Rattle.run_state.specs.ListLaws.{part_replicate, parts_count, parts_started}
 use Rattle.run_state.specs.LockWordLaws.{all_free}
 use Rattle.run_state.specs.Shown.{Arrays, arrays, parts_of, Shows, ListsShow, Entering, Entered}

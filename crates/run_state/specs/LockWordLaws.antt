@@ -7,8 +7,8 @@ use Rattle.std.proofs.Math.ListN.{get_or-map}
 use Rattle.std.proofs.Math.Pow.{pow-lt}
 use Rattle.std.proofs.Math.Seq.{set_out}
 use Rattle.sets.specs.Set.{has, one, with, minus}
-use Rattle.sets.specs.SetLaws.{has_empty, has_one, has_with, has_minus, same_elements, union_below, one_is}
-use Rattle.table.specs.TabulateLaws.{replicate_at}
+use Rattle.sets.proofs.SetLaws.{has_empty, has_one, has_with, has_minus, same_elements, union_below, one_is}
+use Rattle.table.proofs.TabulateLaws.{replicate_at}
 use Rattle.machine.specs.State.{Holder, free, among, without}
 use Rattle.run_state.specs.Shown.{readers_word, word_of, AllLow, Low, ShowsLocks}
 

@@ -8,7 +8,7 @@ use Rattle.table.specs.declared.Arguments.{Arguments}
 use Rattle.sets.specs.Set.{one, with}
 use Rattle.machine.specs.State.{State, Frame, Thread, Holder, writer, readers, free, thread, refers}
 use Rattle.machine.specs.Engine.{frame_slots}
-use Rattle.machine.specs.FrameLaws.{Bounded}
+use Rattle.machine.proofs.FrameLaws.{Bounded}
 use Rattle.run_state.specs.declared.Sizes.{Sizes}
 use Rattle.run_state.specs.Lists.{nexts_in, counts_in, started_in, locks_in, accumulators_in, cells_in}
 

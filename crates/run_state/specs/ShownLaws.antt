@@ -10,7 +10,7 @@ use Rattle.std.proofs.Math.ListN.{get_or, get_or-append}
 use Rattle.std.proofs.Math.Seq.{get_or-append_seam}
 use Rattle.table.specs.Table.{Table, declaration, routine, passed, OwnHandle}
 use Rattle.table.specs.Tabulate.{tabulate}
-use Rattle.table.specs.TabulateLaws.{length_tabulate, get_d_tabulate}
+use Rattle.table.proofs.TabulateLaws.{length_tabulate, get_d_tabulate}
 use Rattle.table.specs.Accepted.{Accepted}
 use Rattle.table.specs.declared.Arguments.{Arguments}
 use Rattle.machine.specs.State.{State, Frame, Thread, Holder, ended, thread, entered, opened}

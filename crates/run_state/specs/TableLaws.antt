@@ -6,10 +6,10 @@ use Rattle.table.specs.Fields.{field}
 use Rattle.table.specs.Header.{handles, routines, statements, statement_line}
 use Rattle.table.specs.Handles.{routine_of, handles_from}
 use Rattle.table.specs.Extents.{first_statements, first_handles}
-use Rattle.table.specs.TabulateLaws.{length_tabulate, get_d_tabulate}
-use Rattle.table.specs.ExtentLaws.{handles_next, first_at, handle_at_lem}
-use Rattle.table.specs.LookupLaws.{routines_length}
-use Rattle.table.specs.UntilLaws.{until_range}
+use Rattle.table.proofs.TabulateLaws.{length_tabulate, get_d_tabulate}
+use Rattle.table.proofs.ExtentLaws.{handles_next, first_at, handle_at_lem}
+use Rattle.table.proofs.LookupLaws.{routines_length}
+use Rattle.table.proofs.UntilLaws.{until_range}
 use Rattle.table.specs.Table.{Table, table_of, declaration, routine, statement, passed, declaration_of, routine_at, statement_of}
 use Rattle.table.specs.Accepted.{Accepted, HandleFacts}
 use Rattle.table.specs.declared.Arguments.{Arguments}

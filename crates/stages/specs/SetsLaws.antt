@@ -8,8 +8,8 @@ use Rattle.table.specs.Header.{routines, statements}
 use Rattle.table.specs.Table.{Table, table_of}
 use Rattle.table.specs.Accepted.{Accepted}
 use Rattle.table.specs.Tabulate.{tabulate}
-use Rattle.table.specs.TabulateLaws.{tabulate_same, get_d_tabulate}
-use Rattle.table.specs.LookupLaws.{statements_length}
+use Rattle.table.proofs.TabulateLaws.{tabulate_same, get_d_tabulate}
+use Rattle.table.proofs.LookupLaws.{statements_length}
 use Rattle.report.specs.Layout.{Layout, one_each}
 use Rattle.report.specs.Flow.{flow_sets}
 use Rattle.report.specs.Effect.{effects}
@@ -18,7 +18,7 @@ use Rattle.report.specs.Future.{futures}
 use Rattle.report.specs.Findings.{sets_of, own_held, own_holds}
 use Rattle.report.specs.Preceded.{is_preceded}
 use Rattle.findings.specs.Found.{sets_in, counted_holds}
-use Rattle.table.specs.FrontLaws.{part_long, put_first}
+use Rattle.table.proofs.FrontLaws.{part_long, put_first}
 use Rattle.preceding.specs.LeaveLaws.{counted_at, preceded_in}
 
 -- ---- the sets, each out of those before it

@@ -11,7 +11,7 @@ use Rattle.table.specs.declared.Reference.{Reference}
 use Rattle.table.specs.declared.Reference.TheVariants.{To, Nothing}
 use Rattle.table.specs.declared.Statement.{Statement}
 use Rattle.report.specs.Over.{joined_from}
-use Rattle.report.specs.OverLaws.{within_below}
+use Rattle.report.proofs.OverLaws.{within_below}
 use Rattle.report.specs.Layout.{named, owner_of, one_each}
 use Rattle.report.specs.Operations.{nexts}
 use Rattle.report.specs.Preceded.{reach_edges, brings_start, entered, preceding_edges}

@@ -6,10 +6,10 @@ use Rattle.std.proofs.Math.Bool.{cond}
 use mathlib.Core.List.{List, [], ◌∷◌, ◌++◌, map-append}
 use Rattle.sets.specs.Least.{Edge}
 use Rattle.table.specs.Header.{routines, statements}
-use Rattle.table.specs.LookupLaws.{routines_length, statements_length}
+use Rattle.table.proofs.LookupLaws.{routines_length, statements_length}
 use Rattle.table.specs.Table.{Table, table_of, statement}
 use Rattle.table.specs.View.{view, on_or, set_on, list_on, test_on, when, calls, starts}
-use Rattle.table.specs.ViewLaws.{on_number, on_called, list_same, list_map, when_map}
+use Rattle.table.proofs.ViewLaws.{on_number, on_called, list_same, list_map, when_map}
 use Rattle.table.specs.declared.Reference.{Reference}
 use Rattle.table.specs.declared.Reference.TheVariants.{To, Nothing}
 use Rattle.table.specs.declared.View.{View}

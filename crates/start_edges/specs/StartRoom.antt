@@ -8,17 +8,17 @@ use mathlib.Core.List.{List, [], ◌∷◌, ◌++◌}
 use native.Mathlib.Omega.{arith}
 use Rattle.std.proofs.Math.ListN.{length}
 use Rattle.sets.specs.Least.{Edge}
-use Rattle.sets.specs.AppendLaws.{Room, room_none, room_both, room_more, appended_same}
+use Rattle.sets.proofs.AppendLaws.{Room, room_none, room_both, room_more, appended_same}
 use Rattle.table.specs.Header.{statements}
 use Rattle.table.specs.Table.{Table, table_of, statement, InRoutine}
 use Rattle.table.specs.Accepted.{Accepted, Operands}
-use Rattle.table.specs.LookupLaws.{statements_length}
+use Rattle.table.proofs.LookupLaws.{statements_length}
 use Rattle.table.specs.View.{view, list_on, when, calls, starts}
 use Rattle.table.specs.declared.Reference.TheVariants.{Nothing}
 use Rattle.table.specs.declared.View.{View}
 use Rattle.table.specs.declared.Statement.{Statement}
 use Rattle.report.specs.Over.{joined_from}
-use Rattle.report.specs.OverLaws.{within_below}
+use Rattle.report.proofs.OverLaws.{within_below}
 use Rattle.report.specs.Layout.{named, owner_of, one_each}
 use Rattle.report.specs.Preceded.{brings_start, reach_edges}
 use Rattle.edges.specs.Equations.{edge, call_edges}

@@ -9,15 +9,15 @@
 use Rattle.std.specs.Prelude.{◌≡◌, true, List, ℕ, ◌≤◌, length}
 use Rattle.std.proofs.Common.{sym, subst}
 use Rattle.table.specs.Verdict.{verdict}
-use Rattle.table.specs.AcceptedLaws.{accepted}
+use Rattle.table.proofs.AcceptedLaws.{accepted}
 use Rattle.table.specs.declared.Verdict.TheVariants.{Accepted}
 use Rattle.machine.specs.State.{thread, start}
-use Rattle.machine.specs.FrameLaws.{frames_suffice}
+use Rattle.machine.proofs.FrameLaws.{frames_suffice}
 use Rattle.machine.specs.Step.{step, run}
 use Rattle.machine.specs.Engine.{engine_step, engine_run}
-use Rattle.machine.specs.EngineLaws.{unlimited, engine_runs_as_machine}
+use Rattle.machine.proofs.EngineLaws.{unlimited, engine_runs_as_machine}
 use Rattle.machine.specs.Words.{HoldsIn, Holds, Safe}
-use Rattle.machine.specs.LockLaws.{one_writer_or_readers}
+use Rattle.machine.proofs.LockLaws.{one_writer_or_readers}
 use Rattle.analysis.specs.Reported.{table_in, loadable}
 use Rattle.guarantee.specs.Reading.{EachCommon, Steady}
 use Rattle.loader.specs.LoadLaws.{loadable_safe, loadable_steady, loadable_steady_engine}

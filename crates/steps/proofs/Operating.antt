@@ -9,7 +9,7 @@ use lib.IntN.{ℤ, pos, ◌+ℤ◌}
 use lib.ListN.{length, get_or, set, length-set}
 use Rattle.table.specs.Fields.{field}
 use Rattle.table.specs.Header.{statements, statement_line}
-use Rattle.table.specs.TabulateLaws.{length_tabulate}
+use Rattle.table.proofs.TabulateLaws.{length_tabulate}
 use Rattle.table.specs.Table.{Table, table_of, statement, statement_in, statement_of, InRoutine}
 use Rattle.table.specs.Accepted.{Accepted, Operands}
 use Rattle.table.specs.declared.Arguments.{Arguments}

@@ -9,7 +9,7 @@ use Rattle.table.specs.Table.{Table, table_of, statement}
 use Rattle.machine.specs.State.{State, Frame, thread}
 use Rattle.machine.specs.Step.{after, run_by}
 use Rattle.machine.specs.Engine.{engine_step, answer, engine_run, answers}
-use Rattle.machine.specs.EngineLaws.{step_answered}
+use Rattle.machine.proofs.EngineLaws.{step_answered}
 use Rattle.operations.specs.declared.Step.{Step}
 use Rattle.operations.specs.declared.Step.TheVariants.{Ran, Refused}
 use Rattle.operations.specs.Step.{number_of, case_of, step_of}

@@ -22,8 +22,8 @@ use Rattle.table.specs.declared.Statement.TheVariants.{Read, Write, Set, Add, Ta
 use Rattle.machine.specs.State.{State, Frame, Holder, ended, thread, holder, refers, opened}
 use Rattle.machine.specs.Step.{moved, refused, Turn, passes, stops, saturate, is_zero, going, pointing, with_thread, turned, operate, stepped, step}
 use Rattle.machine.specs.Engine.{frame_slots, limit, engine_step}
-use Rattle.machine.specs.LockLaws.{OnPass, Stops}
-use Rattle.machine.specs.FrameLaws.{CallNext, Room, Rooms, call_has_room, engine_step_bounded}
+use Rattle.machine.proofs.LockLaws.{OnPass, Stops}
+use Rattle.machine.proofs.FrameLaws.{CallNext, Room, Rooms, call_has_room, engine_step_bounded}
 use Rattle.operations.specs.declared.Step.TheVariants.{Ran, Refused, Nothing}
 use Rattle.operations.specs.Step.{step_of}
 use Rattle.operations.specs.Operation.{Placed}

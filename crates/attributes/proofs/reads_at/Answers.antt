@@ -1,7 +1,7 @@
 -- `attributes::reads_at` meets its contract. Assumes nothing.
 use mathlib.Core.Path.{sym, ap}
 use Rattle.table.specs.declared.View.{View}
-use Rattle.table.specs.ViewLaws.{view_in_lem}
+use Rattle.table.proofs.ViewLaws.{view_in_lem}
 use borrow.Author.Rules.{rules}
 use Rattle.attributes.proofs.reads_at.Goals as goal
 

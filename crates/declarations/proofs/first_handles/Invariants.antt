@@ -3,7 +3,7 @@ use borrow.Author.Rules.{rules}
 use native.Mathlib.Omega.{arith}
 use Prim.Native.Nat.{◌-◌, ◌<◌, ◌≤◌, zero-le}
 use Rattle.declarations.specs.ListLaws.{Skipping, skipping_start, skipping_next}
-use Rattle.table.specs.TabulateLaws.{begun_below}
+use Rattle.table.proofs.TabulateLaws.{begun_below}
 use Rattle.declarations.proofs.first_handles.Given as goal
 
 abbrev pub invariant-loop-r : goal.invariant-loop-r

@@ -3,7 +3,7 @@ use borrow.Author.Rules.{rules}
 use native.Mathlib.Omega.{arith}
 use Prim.Native.Nat.{◌-◌, ◌<◌, ◌≤◌, zero-le}
 use Rattle.declarations.specs.ListLaws.{Summing, summing_start, summing_next}
-use Rattle.table.specs.TabulateLaws.{begun_below}
+use Rattle.table.proofs.TabulateLaws.{begun_below}
 use Rattle.declarations.proofs.first_statements.Goals as goal
 
 pub loop-r-init : goal.loop-r-init

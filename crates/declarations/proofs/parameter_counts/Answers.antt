@@ -6,8 +6,9 @@ use Prim.Native.Nat.{ℕ, ◌+◌, ◌-◌, ◌≤◌, ◌<◌, zero-le}
 use Rattle.table.specs.Header.{routines}
 use Rattle.table.specs.Handles.{parameters, handles_from}
 use Rattle.declarations.specs.ListLaws.{parameters_is}
-use Rattle.table.specs.UntilLaws.{until_range}
-use Rattle.table.specs.TabulateLaws.{Begun, begun_none, begun_next, begun_below, entry_below}
+use Rattle.table.proofs.UntilLaws.{until_range}
+use Rattle.table.specs.TabulateLaws.{Begun}
+use Rattle.table.proofs.TabulateLaws.{begun_none, begun_next, begun_below, entry_below}
 use Rattle.declarations.proofs.parameter_counts.Goals as goal
 
 pub loop-r-init : goal.loop-r-init

@@ -6,7 +6,7 @@ use Prim.Native.Nat.{◌-◌}
 use lib.Dec.{eqb}
 use Rattle.table.specs.Fields.{field}
 use Rattle.table.specs.Header.{handle_line}
-use Rattle.table.specs.UntilLaws.{Looking, looking_start, looking_next, looking_stop, looking_done}
+use Rattle.table.proofs.UntilLaws.{Looking, looking_start, looking_next, looking_stop, looking_done}
 use Rattle.declarations.proofs.skip.Given as goal
 
 abbrev pub invariant-loop-h : goal.invariant-loop-h

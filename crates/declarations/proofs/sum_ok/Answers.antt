@@ -6,7 +6,7 @@ use Prim.Native.Nat.{ℕ}
 use lib.ListN.{get_or}
 use Rattle.table.specs.Header.{routines}
 use Rattle.table.specs.Routines.{sum_ok}
-use Rattle.table.specs.ExtentLaws.{first_at}
+use Rattle.table.proofs.ExtentLaws.{first_at}
 use Rattle.declarations.proofs.sum_ok.Goals as goal
 
 pub field_of-requires : goal.field_of-requires

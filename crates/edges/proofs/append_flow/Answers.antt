@@ -1,9 +1,9 @@
 -- `edges::append_flow` meets its contract. Assumes nothing.
 use mathlib.Core.Path.{refl}
 use native.Mathlib.Omega.{arith}
-use Rattle.table.specs.ViewLaws.{flowing_is}
+use Rattle.table.proofs.ViewLaws.{flowing_is}
 use Rattle.edges.specs.Equations.{edges_at}
-use Rattle.sets.specs.AppendLaws.{appended_same, appended_both}
+use Rattle.sets.proofs.AppendLaws.{appended_same, appended_both}
 use Rattle.edges.specs.LineLaws.{viewed, names_routine, flow_plain}
 use Rattle.edges.specs.RoutineLaws.{passing_parts, flow_passing}
 use borrow.Author.Rules.{rules}

@@ -5,7 +5,7 @@ use Prim.Native.Nat.{ℕ}
 use Rattle.sets.specs.Least.{Edge}
 use Rattle.table.specs.View.{list_on}
 use Rattle.edges.specs.Equations.{edge}
-use Rattle.sets.specs.AppendLaws.{appended_same, appended_none}
+use Rattle.sets.proofs.AppendLaws.{appended_same, appended_none}
 use borrow.Author.Rules.{rules}
 use Rattle.edges.proofs.append_from.Goals as goal
 

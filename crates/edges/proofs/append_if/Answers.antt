@@ -4,7 +4,7 @@ use mathlib.Core.List.{List, [], ◌∷◌}
 use Rattle.sets.specs.Least.{Edge}
 use Rattle.table.specs.View.{when}
 use Rattle.edges.specs.Equations.{edge}
-use Rattle.sets.specs.AppendLaws.{appended_same, appended_none}
+use Rattle.sets.proofs.AppendLaws.{appended_same, appended_none}
 use mathlib.Core.Bool.{Bool}
 use borrow.Author.Rules.{rules}
 use Rattle.edges.proofs.append_if.Goals as goal

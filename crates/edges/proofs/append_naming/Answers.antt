@@ -1,7 +1,7 @@
 -- `edges::append_naming` meets its contract. Assumes nothing.
 use mathlib.Core.Path.{refl}
 use Rattle.table.specs.Table.{table_of}
-use Rattle.sets.specs.AppendLaws.{appended_same}
+use Rattle.sets.proofs.AppendLaws.{appended_same}
 use Rattle.edges.specs.LineLaws.{viewed, up_all, up_calls}
 use borrow.Author.Rules.{rules}
 use Rattle.edges.proofs.append_naming.Goals as goal

@@ -1,6 +1,6 @@
 -- `edges::append_nexts` meets its contract. Assumes nothing.
 use mathlib.Core.Path.{refl}
-use Rattle.sets.specs.AppendLaws.{appended_same, appended_both}
+use Rattle.sets.proofs.AppendLaws.{appended_same, appended_both}
 use Rattle.edges.specs.LineLaws.{viewed, next_at}
 use borrow.Author.Rules.{rules}
 use Rattle.edges.proofs.append_nexts.Goals as goal

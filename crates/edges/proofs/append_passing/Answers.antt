@@ -7,7 +7,7 @@ use mathlib.Core.List.{List, [], ◌∷◌}
 use lib.ListN.{get_or}
 use Rattle.table.specs.Table.{passed}
 use Rattle.edges.specs.Equations.{edge}
-use Rattle.sets.specs.AppendLaws.{appended_same}
+use Rattle.sets.proofs.AppendLaws.{appended_same}
 use Rattle.edges.specs.EdgeLaws.{Growing, growing_start, growing_next, growing_done}
 use borrow.Author.Rules.{rules}
 use Rattle.edges.proofs.append_passing.Goals as goal

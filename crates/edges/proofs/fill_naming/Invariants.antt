@@ -1,5 +1,5 @@
 -- `edges::fill_naming` meets its contract. Assumes nothing.
-use Rattle.sets.specs.AppendLaws.{appended_same}
+use Rattle.sets.proofs.AppendLaws.{appended_same}
 use Rattle.edges.specs.LineLaws.{lined, every_edge, up_at}
 use native.Mathlib.Omega.{arith}
 use Prim.Native.Nat.{◌-◌}

@@ -1,5 +1,6 @@
 -- `findings::fill_common` meets its contract. Assumes nothing.
-use Rattle.table.specs.TabulateLaws.{Begun, begun_none, begun_next}
+use Rattle.table.specs.TabulateLaws.{Begun}
+use Rattle.table.proofs.TabulateLaws.{begun_none, begun_next}
 use Prim.Native.Nat.{◌-◌, ◌≤◌, zero-le}
 use mathlib.Core.Path.{◌≡◌, refl}
 use native.Mathlib.Omega.{arith}

@@ -2,7 +2,7 @@
 use Prim.Native.Nat.{◌<◌, ◌^◌}
 use native.Mathlib.Omega.{arith}
 use Rattle.findings.specs.NoteLaws.{lowest_there}
-use Rattle.sets.specs.SetLaws.{lowest_nothing}
+use Rattle.sets.proofs.SetLaws.{lowest_nothing}
 use mathlib.Core.Path.{sym, ◌∙◌}
 use borrow.Author.Rules.{rules}
 use Rattle.findings.proofs.lowest_cell.Goals as goal

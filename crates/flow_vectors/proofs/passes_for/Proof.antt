@@ -3,7 +3,7 @@ use mathlib.Core.Path.{sym, ap, ◌∙◌}
 use Prim.Native.Nat.{ℕ, ◌*◌}
 use native.Mathlib.Omega.{arith}
 use lib.IntN.{ℤ, pos}
-use Rattle.table.specs.CutLaws.{cut_long}
+use Rattle.table.proofs.CutLaws.{cut_long}
 use borrow.Author.Rules.{rules}
 use Rattle.flow_vectors.proofs.passes_for.Statement.{statement}
 use Rattle.flow_vectors.proofs.passes_for.Tie as tie

@@ -4,7 +4,7 @@ use Prim.Native.Nat.{◌-◌, ◌≤◌}
 use lib.ListN.{get_or}
 use native.Mathlib.Omega.{arith}
 use Rattle.held_edges.specs.TableEdges.{part_of}
-use Rattle.sets.specs.AppendLaws.{appended_same}
+use Rattle.sets.proofs.AppendLaws.{appended_same}
 use Rattle.lock_edges.specs.StoreLaws.{store}
 use Rattle.held_edges.specs.GoingLaws.{Going, going_start, going_next, going_as}
 use Rattle.held_edges.specs.RoutineEdgeLaws.{few_routines, first_grows_at, small_here, fits_here, part_here}

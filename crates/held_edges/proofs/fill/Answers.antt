@@ -1,6 +1,6 @@
 -- `held_edges::fill` meets its contract. Assumes nothing.
 use mathlib.Core.Path.{◌∙◌}
-use Rattle.sets.specs.AppendLaws.{appended_same, appended_both}
+use Rattle.sets.proofs.AppendLaws.{appended_same, appended_both}
 use Rattle.held_edges.specs.RoomLaws.{held_ready}
 use Rattle.held_edges.specs.RoutineEdgeLaws.{all_edges}
 use borrow.Author.Rules.{rules}

@@ -4,7 +4,8 @@ use mathlib.Core.Path.{refl}
 use native.Mathlib.Omega.{arith}
 use lib.ListN.{length}
 use Rattle.table.specs.Table.{table_of}
-use Rattle.table.specs.TabulateLaws.{Filled, filled_none, filled_next, filled_all}
+use Rattle.table.specs.TabulateLaws.{Filled}
+use Rattle.table.proofs.TabulateLaws.{filled_none, filled_next, filled_all}
 use Rattle.edges.specs.Equations.{in_routine}
 use borrow.Author.Rules.{rules}
 use Rattle.edges.specs.LineLaws.{lined}

@@ -7,7 +7,7 @@ use lib.ListN.{get_or}
 use mir.Syntax.{w32}
 use mir.Val.{to_z, of_z}
 use mir.Facts.{to_z-of_z}
-use Rattle.lines.specs.LineLaws.{all_at}
+use Rattle.lines.proofs.LineLaws.{all_at}
 use Rattle.line_printer.specs.PrintLoops.{lining_start, lining_next, lining_done}
 use Rattle.line_printer.proofs.put_line.Goals as goal
 

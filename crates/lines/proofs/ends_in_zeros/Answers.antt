@@ -1,6 +1,6 @@
 -- `lines::ends_in_zeros` meets its contract: five zeros. Assumes nothing.
 use borrow.Author.Rules.{rules}
-use Rattle.lines.specs.LineLoops.{zero_tail}
+use Rattle.lines.proofs.LineLoops.{zero_tail}
 use Rattle.lines.proofs.ends_in_zeros.Goals as goal
 
 pub returns : goal.returns

@@ -3,7 +3,7 @@ use borrow.Author.Rules.{rules}
 use borrow.Author.Tests.{not-false}
 use native.Mathlib.Omega.{arith}
 use Rattle.fields.specs.FieldLoops.{word_plus}
-use Rattle.lines.specs.LineLoops.{putting_start, three_put}
+use Rattle.lines.proofs.LineLoops.{putting_start, three_put}
 use Rattle.lines.proofs.quick_fields.Goals as goal
 
 pub returns-then-not-ends_in_zeros : goal.returns-then-not-ends_in_zeros

@@ -1,5 +1,5 @@
 -- `lines::read_numbers` meets its contract: before line i every line is good and its numbers stand in their places. Assumes nothing.
-use Rattle.lines.specs.LineLoops.{Paging, InLine, Left, page_start, next_inside, page_in, page_few, line_inside, line_room, page_field, page_feed, page_bad_field, page_bad_feed, page_done, answer_bad, answer_good}
+use Rattle.lines.proofs.LineLoops.{Paging, InLine, Left, page_start, next_inside, page_in, page_few, line_inside, line_room, page_field, page_feed, page_bad_field, page_bad_feed, page_done, answer_bad, answer_good}
 use Rattle.fields.specs.FieldLoops.{told_number, told_no_field}
 use mir.Facts.{to_z-of_z}
 use mir.Syntax.{w32}

@@ -6,8 +6,8 @@ use Prim.Native.Nat.{ℕ, ◌*◌, ◌≤◌}
 use mathlib.Core.List.{List}
 use lib.IntN.{ℤ}
 use Rattle.lines.specs.Line.{first_bad}
-use Rattle.lines.specs.LineLoops.{zeros_part, answer_line, answer_none, page_few, page_padded}
-use Rattle.lines.specs.LineLaws.{page_good, page_bad}
+use Rattle.lines.proofs.LineLoops.{zeros_part, answer_line, answer_none, page_few, page_padded}
+use Rattle.lines.proofs.LineLaws.{page_good, page_bad}
 use Rattle.lines.specs.declared.FirstBad as B
 use Rattle.lines.specs.declared.Page as P
 use borrow.Author.Rules.{rules}

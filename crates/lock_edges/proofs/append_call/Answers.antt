@@ -1,6 +1,6 @@
 -- `lock_edges::append_call` meets its contract. Assumes nothing.
 use native.Mathlib.Omega.{arith}
-use Rattle.sets.specs.AppendLaws.{appended_same, appended_none, appended_both}
+use Rattle.sets.proofs.AppendLaws.{appended_same, appended_none, appended_both}
 use Rattle.lock_edges.specs.ViewEdgeLaws.{call_is, start_no_call, none_no_call}
 use borrow.Author.Rules.{rules}
 use Rattle.lock_edges.proofs.append_call.Goals as goal

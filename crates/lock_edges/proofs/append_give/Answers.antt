@@ -1,6 +1,6 @@
 -- `lock_edges::append_give` meets its contract. Assumes nothing.
 use native.Mathlib.Omega.{arith}
-use Rattle.sets.specs.AppendLaws.{appended_same, appended_none}
+use Rattle.sets.proofs.AppendLaws.{appended_same, appended_none}
 use Rattle.lock_edges.specs.ViewEdgeLaws.{give_is, none_no_give}
 use borrow.Author.Rules.{rules}
 use Rattle.lock_edges.proofs.append_give.Goals as goal

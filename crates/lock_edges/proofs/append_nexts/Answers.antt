@@ -1,5 +1,5 @@
 -- `lock_edges::append_nexts` meets its contract. Assumes nothing.
-use Rattle.sets.specs.AppendLaws.{appended_same, appended_both}
+use Rattle.sets.proofs.AppendLaws.{appended_same, appended_both}
 use Rattle.lock_edges.specs.ViewEdgeLaws.{nexts_onward, nexts_not_onward}
 use borrow.Author.Rules.{rules}
 use Rattle.lock_edges.proofs.append_nexts.Goals as goal

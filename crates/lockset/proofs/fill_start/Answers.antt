@@ -2,7 +2,8 @@
 use Prim.Native.Nat.{◌-◌, ◌≤◌}
 use lib.ListN.{length}
 use native.Mathlib.Omega.{arith}
-use Rattle.table.specs.TabulateLaws.{Filled, filled_next, filled_all}
+use Rattle.table.specs.TabulateLaws.{Filled}
+use Rattle.table.proofs.TabulateLaws.{filled_next, filled_all}
 use Rattle.lockset.specs.Start.{start_in}
 use Rattle.lockset.specs.SettleLaws.{start_filled}
 use borrow.Author.Rules.{rules}

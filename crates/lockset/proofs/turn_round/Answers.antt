@@ -3,7 +3,7 @@ use native.Mathlib.Omega.{arith}
 use borrow.Author.Rules.{rules}
 use lib.ListN.{length}
 use Prim.Native.Nat.{◌-◌}
-use Rattle.table.specs.TabulateLaws.{Rewritten, rewritten_none}
+use Rattle.table.proofs.TabulateLaws.{Rewritten, rewritten_none}
 use Rattle.report.specs.Greatest.{leaving}
 use Rattle.lockset.specs.SettleLaws.{turned_next, turned_done}
 use Rattle.lockset.proofs.turn_round.Goals as goal

@@ -3,7 +3,8 @@ use mathlib.Core.Path.{refl}
 use Prim.Native.Nat.{◌-◌}
 use native.Mathlib.Omega.{arith}
 use lib.ListN.{length}
-use Rattle.table.specs.TabulateLaws.{Filled, filled_none, filled_next}
+use Rattle.table.specs.TabulateLaws.{Filled}
+use Rattle.table.proofs.TabulateLaws.{filled_none, filled_next}
 use Rattle.modes.specs.ModeLoops.{cleared}
 use borrow.Author.Rules.{rules}
 use Rattle.modes.proofs.clear.Given as goal

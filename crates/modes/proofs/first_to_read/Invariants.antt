@@ -4,7 +4,7 @@ use mathlib.Core.Bool.{not}
 use Prim.Native.Nat.{◌-◌}
 use native.Mathlib.Omega.{arith}
 use Rattle.table.specs.Until.{until}
-use Rattle.table.specs.UntilLaws.{Looking, looking_start, looking_next, stop_from_zero, done_from_zero}
+use Rattle.table.proofs.UntilLaws.{Looking, looking_start, looking_next, stop_from_zero, done_from_zero}
 use Rattle.modes.specs.Modes.{takes_to_write_alone}
 use Rattle.modes.specs.ModeLoops.{to_write_alone}
 use borrow.Author.Rules.{rules}

@@ -6,9 +6,9 @@ use lib.IntN.{ℤ}
 use Rattle.sets.specs.Set.{one}
 use Rattle.table.specs.Fields.{field}
 use Rattle.table.specs.Header.{statement_line}
-use Rattle.table.specs.HeaderLaws.{statement_line_lem}
+use Rattle.table.proofs.HeaderLaws.{statement_line_lem}
 use Rattle.table.specs.Naming.{named_by}
-use Rattle.table.specs.OperationLaws.{view_line}
+use Rattle.table.proofs.OperationLaws.{view_line}
 use Rattle.table.specs.Table.{statement_in}
 use Rattle.table.specs.View.{view, set_on}
 use Rattle.table.specs.declared.Reference.{Reference}

@@ -4,7 +4,8 @@ use native.Mathlib.Omega.{arith}
 use Prim.Native.Nat.{◌-◌, ◌<◌, ◌≤◌, zero-le}
 use Rattle.naming.specs.GatherLaws.{none_named}
 use Rattle.table.specs.Naming.{names_of, names_in}
-use Rattle.table.specs.TabulateLaws.{Begun, begun_none, begun_next, begun_rest}
+use Rattle.table.specs.TabulateLaws.{Begun}
+use Rattle.table.proofs.TabulateLaws.{begun_none, begun_next, begun_rest}
 use Rattle.naming.proofs.names_in.Goals as goal
 
 pub field_of-count-requires : goal.field_of-count-requires

@@ -5,7 +5,7 @@ use native.Mathlib.Omega.{arith}
 use lib.ListN.{length, replicate, length-replicate}
 use lib.Seq.{length-take-le}
 use Rattle.table.specs.Header.{statements}
-use Rattle.table.specs.FrontLaws.{zeros_front, first_kept}
+use Rattle.table.proofs.FrontLaws.{zeros_front, first_kept}
 use Rattle.own_holds.specs.OwnLaws.{also_fits, edges_fit}
 use borrow.Author.Rules.{rules}
 use Rattle.own_holds.proofs.either_holds.Goals as goal

@@ -2,9 +2,9 @@
 use mathlib.Core.Path.{sym, ◌∙◌}
 use Prim.Native.Nat.{ℕ, ◌≤◌}
 use native.Mathlib.Omega.{arith}
-use Rattle.table.specs.CutLaws.{cut_long}
-use Rattle.table.specs.AcceptedLaws.{routines_few}
-use Rattle.table.specs.FrontLaws.{front_fits, front_is, front_long}
+use Rattle.table.proofs.CutLaws.{cut_long}
+use Rattle.table.proofs.AcceptedLaws.{routines_few}
+use Rattle.table.proofs.FrontLaws.{front_fits, front_is, front_long}
 use Rattle.own_holds.specs.OwnLaws.{own_known}
 use borrow.Author.Rules.{rules}
 use Rattle.own_holds.proofs.own_holds.Goals as goal

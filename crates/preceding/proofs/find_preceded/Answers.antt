@@ -4,11 +4,11 @@ use Prim.Native.Nat.{ℕ, ◌+◌, ◌≤◌}
 use native.Mathlib.Omega.{arith}
 use mathlib.Core.List.{List}
 use Rattle.table.specs.Table.{table_of}
-use Rattle.table.specs.CutLaws.{cut_long}
-use Rattle.table.specs.LookupLaws.{routines_length}
+use Rattle.table.proofs.CutLaws.{cut_long}
+use Rattle.table.proofs.LookupLaws.{routines_length}
 use Rattle.report.specs.Layout.{one_each}
 use Rattle.report.specs.Preceded.{preceded_sets}
-use Rattle.table.specs.FrontLaws.{front_fits, front_is, front_long}
+use Rattle.table.proofs.FrontLaws.{front_fits, front_is, front_long}
 use borrow.Author.Rules.{rules}
 use Rattle.preceding.proofs.find_preceded.Goals as goal
 

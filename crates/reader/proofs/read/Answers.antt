@@ -4,8 +4,8 @@ use mathlib.Core.Path.{ap, sym, ◌∙◌}
 use mathlib.Core.List.{List}
 use Prim.Native.Nat.{ℕ, ◌*◌, ◌≤◌}
 use lib.IntN.{ℤ}
-use Rattle.lines.specs.LineLoops.{zeros_part, page_few, page_padded}
-use Rattle.table.specs.VerdictLaws.{reading_refused, reading_accepted}
+use Rattle.lines.proofs.LineLoops.{zeros_part, page_few, page_padded}
+use Rattle.table.proofs.VerdictLaws.{reading_refused, reading_accepted}
 use Rattle.table.specs.declared.Verdict as Declared
 use Rattle.table.specs.declared.Reading.{Reading}
 use borrow.Author.Rules.{rules}

@@ -5,9 +5,9 @@ use mathlib.Core.Option.{none}
 use borrow.Author.Tests.{not-true, not-false}
 use lib.ListN.{length}
 use Rattle.lines.specs.Line.{first_bad}
-use Rattle.lines.specs.LineLoops.{answer_line, answer_none}
+use Rattle.lines.proofs.LineLoops.{answer_line, answer_none}
 use Rattle.table.specs.Verdict.{text_ok}
-use Rattle.table.specs.VerdictLaws.{bad_length, bad_line, into_refused, into_numbers}
+use Rattle.table.proofs.VerdictLaws.{bad_length, bad_line, into_refused, into_numbers}
 use borrow.Author.Rules.{rules}
 use Rattle.reader.proofs.read_into.Goals as goal
 

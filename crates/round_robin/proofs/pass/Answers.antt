@@ -1,7 +1,7 @@
 -- `round_robin::pass` meets its contract. Its loop has gone along the edges from k on. Assumes nothing.
 use native.Mathlib.Nat.{le_refl}
 use native.Mathlib.Omega.{arith}
-use Rattle.round_robin.specs.SolveLaws.{onward_none, onward_both, onward_done}
+use Rattle.round_robin.proofs.SolveLaws.{onward_none, onward_both, onward_done}
 use Rattle.round_robin.proofs.pass.Goals as goal
 
 pub loop-k-init : goal.loop-k-init

@@ -2,7 +2,7 @@
 use native.Mathlib.Omega.{arith}
 use Rattle.sets.specs.Least.{edge_of}
 use Rattle.passes.specs.PassLaws.{put_as}
-use Rattle.round_robin.specs.SolveLaws.{plain_nothing, plain_more}
+use Rattle.round_robin.proofs.SolveLaws.{plain_nothing, plain_more}
 use Rattle.round_robin.proofs.put.Goals as goal
 
 pub returns-then-new-old : goal.returns-then-new-old

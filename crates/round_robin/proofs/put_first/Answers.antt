@@ -2,7 +2,7 @@
 use Prim.Native.Nat.{◌-◌}
 use native.Mathlib.Nat.{le_refl}
 use native.Mathlib.Omega.{arith}
-use Rattle.round_robin.specs.SolveLaws.{ends_in_lem, onward_none, onward_to, onward_next}
+use Rattle.round_robin.proofs.SolveLaws.{ends_in_lem, onward_none, onward_to, onward_next}
 use Rattle.round_robin.proofs.put_first.Goals as goal
 
 pub loop-k-init : goal.loop-k-init

@@ -2,7 +2,7 @@
 use mathlib.Core.Path.{refl, ◌∙◌}
 use Prim.Native.Nat.{◌-◌}
 use native.Mathlib.Omega.{arith}
-use Rattle.round_robin.specs.SolveLaws.{ends_in_lem, put_places, onward_none, onward_next}
+use Rattle.round_robin.proofs.SolveLaws.{ends_in_lem, put_places, onward_none, onward_next}
 use Rattle.round_robin.proofs.put_four.Goals as goal
 
 pub returns : goal.returns

@@ -4,7 +4,7 @@ use mathlib.Core.Bool.{Bool, true}
 use mathlib.Core.List.{List}
 use Prim.Native.Nat.{ℕ, ◌<◌}
 use native.Mathlib.Omega.{arith}
-use Rattle.round_robin.specs.SolveLaws.{Made, made_start, made_below, made_next, made_less, left}
+use Rattle.round_robin.proofs.SolveLaws.{Made, made_start, made_below, made_next, made_less, left}
 use borrow.Author.Rules.{rules}
 use Rattle.round_robin.proofs.solve.Goals as goal
 

@@ -1,5 +1,5 @@
 -- `round_robin::solve` meets its contract. While it goes on, what is left to do gives the whole. Assumes nothing.
-use Rattle.round_robin.specs.SolveLaws.{Made, left}
+use Rattle.round_robin.proofs.SolveLaws.{Made, left}
 use Rattle.round_robin.proofs.solve.Given as goal
 
 abbrev pub invariant-loop-going : goal.invariant-loop-going

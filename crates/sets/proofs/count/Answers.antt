@@ -1,6 +1,6 @@
 -- `sets::count` meets its contract. Assumes nothing.
 use Prim.Native.Nat.{◌^◌, ◌<◌}
-use Rattle.sets.specs.SetLaws.{count_ones}
+use Rattle.sets.proofs.SetLaws.{count_ones}
 use native.Mathlib.Omega.{arith}
 use Rattle.sets.proofs.count.Goals as goal
 

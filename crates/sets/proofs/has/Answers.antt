@@ -1,7 +1,7 @@
 -- `sets::has` meets its contract. Past bit 63 there is no element. Assumes nothing.
 use Prim.Native.Nat.{◌^◌, ◌<◌}
 use Rattle.sets.specs.Set.{has}
-use Rattle.sets.specs.SetLaws.{has_beyond}
+use Rattle.sets.proofs.SetLaws.{has_beyond}
 use borrow.Author.Rules.{rules}
 use mathlib.Core.Path.{refl, sym}
 use native.Mathlib.Omega.{arith}

@@ -1,6 +1,6 @@
 -- `sets::lowest` meets its contract. Assumes nothing.
 use Rattle.sets.specs.Set.{is_empty}
-use Rattle.sets.specs.SetLaws.{lowest_none, lowest_some}
+use Rattle.sets.proofs.SetLaws.{lowest_none, lowest_some}
 use borrow.Author.Tests.{eq-eqb, ne_eqb}
 use lib.Count.{trailing_le}
 use mathlib.Core.Path.{sym}

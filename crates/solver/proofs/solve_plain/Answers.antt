@@ -1,6 +1,6 @@
 -- `solver::solve_plain` meets its contract. Assumes nothing.
 use mathlib.Core.Path.{◌∙◌}
-use Rattle.sets.specs.LeastLaws.{least_plain}
+use Rattle.sets.proofs.LeastLaws.{least_plain}
 use Rattle.solver.proofs.solve_plain.Goals as goal
 
 pub returns : goal.returns

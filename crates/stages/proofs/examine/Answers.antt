@@ -3,11 +3,11 @@ use mathlib.Core.Path.{sym, ◌∙◌}
 use Prim.Native.Nat.{ℕ, ◌≤◌}
 use native.Mathlib.Omega.{arith}
 use Rattle.table.specs.Table.{table_of}
-use Rattle.table.specs.CutLaws.{cut_long}
+use Rattle.table.proofs.CutLaws.{cut_long}
 use Rattle.stages.specs.Lent.{lent_edges}
 use Rattle.stages.specs.SetsLaws.{flow_known}
-use Rattle.table.specs.AcceptedLaws.{handles_few}
-use Rattle.table.specs.FrontLaws.{front_fits, front_is, front_long}
+use Rattle.table.proofs.AcceptedLaws.{handles_few}
+use Rattle.table.proofs.FrontLaws.{front_fits, front_is, front_long}
 use borrow.Author.Rules.{rules}
 use Rattle.stages.proofs.examine.Goals as goal
 

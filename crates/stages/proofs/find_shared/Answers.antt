@@ -3,10 +3,10 @@ use mathlib.Core.Path.{sym, ◌∙◌}
 use Prim.Native.Nat.{ℕ, ◌≤◌}
 use native.Mathlib.Omega.{arith}
 use Rattle.table.specs.Table.{table_of}
-use Rattle.table.specs.CutLaws.{cut_long}
+use Rattle.table.proofs.CutLaws.{cut_long}
 use Rattle.stages.specs.SetsLaws.{reads_known, writes_known}
-use Rattle.table.specs.AcceptedLaws.{routines_few}
-use Rattle.table.specs.FrontLaws.{front_fits, front_is, front_long}
+use Rattle.table.proofs.AcceptedLaws.{routines_few}
+use Rattle.table.proofs.FrontLaws.{front_fits, front_is, front_long}
 use borrow.Author.Rules.{rules}
 use Rattle.stages.proofs.find_shared.Goals as goal
 

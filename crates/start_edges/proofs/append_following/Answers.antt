@@ -1,6 +1,6 @@
 -- `start_edges::append_following` meets its contract. Assumes nothing.
 use mathlib.Core.Path.{refl}
-use Rattle.sets.specs.AppendLaws.{appended_same, appended_both}
+use Rattle.sets.proofs.AppendLaws.{appended_same, appended_both}
 use Rattle.edges.specs.LineLaws.{viewed}
 use Rattle.start_edges.specs.StartLaws.{following_parts}
 use borrow.Author.Rules.{rules}

@@ -2,7 +2,7 @@
 use native.Mathlib.Omega.{arith}
 use mathlib.Core.Path.{◌∙◌}
 use borrow.Author.Tests.{le-ltb, lt-ltb}
-use Rattle.table.specs.Lists.{handles_begin, handles_early, parameters_counted}
+use Rattle.table.proofs.Lists.{handles_begin, handles_early, parameters_counted}
 use Rattle.table.specs.Statements.{argument_ok}
 use borrow.Author.Rules.{rules}
 use Rattle.statements.proofs.argument_ok.Goals as goal

@@ -5,7 +5,7 @@ use native.Mathlib.Omega.{arith}
 use mathlib.Core.Path.{sym, ◌∙◌}
 use Prim.Native.Nat.{◌-◌}
 use Rattle.table.specs.Statements.{statement_ok}
-use Rattle.table.specs.UntilLaws.{Looking, looking_start, looking_next, looking_stop, looking_done}
+use Rattle.table.proofs.UntilLaws.{Looking, looking_start, looking_next, looking_stop, looking_done}
 use Rattle.statements.proofs.bad_among.Given as goal
 
 abbrev pub invariant-loop-s : goal.invariant-loop-s

@@ -2,8 +2,8 @@
 use native.Mathlib.Omega.{arith}
 use mathlib.Core.Path.{ap, ap₂, ◌∙◌}
 use Prim.Native.Nat.{ℕ, ◌+◌, ◌-◌}
-use Rattle.table.specs.HeaderLaws.{statement_line_lem}
-use Rattle.table.specs.Lists.{statements_begin, begin_early}
+use Rattle.table.proofs.HeaderLaws.{statement_line_lem}
+use Rattle.table.proofs.Lists.{statements_begin, begin_early}
 use Rattle.table.specs.Statements.{end_ok, last_of}
 use borrow.Author.Rules.{rules}
 use Rattle.statements.proofs.end_ok.Goals as goal

@@ -1,7 +1,7 @@
 -- `statements::statement_ok` meets its contract. Assumes nothing.
 use mathlib.Core.Path.{ap, ◌∙◌}
 use Prim.Native.Nat.{ℕ, ◌+◌}
-use Rattle.table.specs.HeaderLaws.{statement_line_lem}
+use Rattle.table.proofs.HeaderLaws.{statement_line_lem}
 use Rattle.table.specs.Statements.{statement_ok}
 use borrow.Author.Rules.{rules}
 use Rattle.statements.proofs.statement_ok.Goals as goal

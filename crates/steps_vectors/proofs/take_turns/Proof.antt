@@ -3,7 +3,7 @@ use Prim.Native.Nat.{◌-◌}
 use native.Mathlib.Omega.{arith}
 use lib.IntN.{ℤ, pos}
 use lib.ListN.{take, replicate}
-use Rattle.table.specs.CutLaws.{cut_long}
+use Rattle.table.proofs.CutLaws.{cut_long}
 use Rattle.steps_vectors.proofs.Turns.{Turns, begun, cells_few, cells_fit}
 use borrow.Author.Rules.{rules}
 use Rattle.steps_vectors.proofs.take_turns.Statement.{statement}

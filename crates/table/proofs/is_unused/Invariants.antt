@@ -5,7 +5,7 @@ use borrow.Author.Tests.{eq-eqb, ne_eqb, le-leb, lt-leb}
 use Prim.Native.Nat.{◌-◌}
 use lib.Dec.{leb}
 use Rattle.table.specs.Fields.{is_zero, unused}
-use Rattle.table.specs.UntilLaws.{Looking, looking_start, looking_next, looking_stop, looking_done}
+use Rattle.table.proofs.UntilLaws.{Looking, looking_start, looking_next, looking_stop, looking_done}
 use Rattle.table.proofs.is_unused.Given as goal
 
 abbrev pub invariant-loop-j : goal.invariant-loop-j

@@ -6,7 +6,7 @@ use mathlib.Core.Path.{sym, ap, ◌∙◌}
 use Prim.Native.Nat.{◌-◌}
 use Rattle.table.specs.Until.{until}
 use Rattle.table.specs.Routines.{routine_ok}
-use Rattle.table.specs.UntilLaws.{Looking, looking_start, looking_next, stop_from_zero, done_from_zero}
+use Rattle.table.proofs.UntilLaws.{Looking, looking_start, looking_next, stop_from_zero, done_from_zero}
 use Rattle.declarations.proofs.routines.bad_routine.Goals as goal
 
 pub field_of-count-requires : goal.field_of-count-requires

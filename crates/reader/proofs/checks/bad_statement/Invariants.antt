@@ -9,8 +9,8 @@ use Rattle.table.specs.Header.{routines}
 use Rattle.table.specs.Routines.{first_statement}
 use Rattle.table.specs.Statements.{bad_statement}
 use Rattle.reader.specs.SearchLaws.{Searching, searching_start, searching_next, searching_stop, searching_done, searched}
-use Rattle.table.specs.RoutineLaws.{bad_in}
-use Rattle.table.specs.Lists.{statements_begin, begin_early}
+use Rattle.table.proofs.RoutineLaws.{bad_in}
+use Rattle.table.proofs.Lists.{statements_begin, begin_early}
 use Rattle.reader.proofs.checks.bad_statement.Given as goal
 
 abbrev pub invariant-loop-r : goal.invariant-loop-r

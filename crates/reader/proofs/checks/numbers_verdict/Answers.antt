@@ -1,6 +1,6 @@
 -- `reader::checks::numbers_verdict` meets its contract. Assumes nothing.
 use borrow.Author.Tests.{lt-ltb, le-ltb, not-true, not-false}
-use Rattle.table.specs.HeaderLaws.{header_sized}
+use Rattle.table.proofs.HeaderLaws.{header_sized}
 use mathlib.Core.Path.{sym, ◌∙◌}
 use Rattle.table.specs.Verdict.{numbers_verdict}
 use borrow.Author.Rules.{rules}

@@ -6,8 +6,8 @@ use borrow.Author.Tests.{lt-ltb, le-ltb}
 use Rattle.table.specs.Until.{until}
 use native.Mathlib.Nat.{sub-zero}
 use Rattle.table.specs.Header.{routines}
-use Rattle.table.specs.HeaderLaws.{statement_line_lem}
-use Rattle.table.specs.Lists.{statements_begin, begin_early}
+use Rattle.table.proofs.HeaderLaws.{statement_line_lem}
+use Rattle.table.proofs.Lists.{statements_begin, begin_early}
 use Rattle.table.specs.Statements.{end_ok, last_of}
 use Rattle.table.specs.Verdict.{statement_verdict}
 use borrow.Author.Rules.{rules}

@@ -1,0 +1,10 @@
+pub mod Lists
+pub mod Shrink
+pub mod Frames
+pub mod Threads
+pub mod Operations
+pub mod Runs
+pub mod Theorem
+pub mod StaysPut
+pub mod Demand
+pub mod Reading
