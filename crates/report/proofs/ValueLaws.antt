@@ -1,13 +1,12 @@
 -- "the report does not depend on values": it looks at a table's statements by their views alone, so two tables that differ in the numbers of SET and ADD
 -- have the same report. Assumes nothing.
-use Rattle.std.specs.Prelude.{ℕ, ◌≡◌, Bool, List, ◌++◌, length, ℤ}
+use Rattle.std.specs.Prelude.{ℕ, ◌≡◌, Bool, List, ◌++◌}
 use Rattle.std.proofs.Common.{ap}
 use Rattle.std.proofs.Math.Path.{fun_ext}
 use Rattle.table.specs.Table.{Table, statement}
 use Rattle.table.specs.View.{view}
 use Rattle.table.specs.declared.Arguments.{Arguments}
 use Rattle.table.specs.declared.Statement.{Statement}
-use Rattle.table.specs.declared.Statement.TheVariants.{Set, Add}
 use Rattle.report.specs.Layout.{Layout, named, is_in, owner_of, one_each}
 use Rattle.report.specs.Operations.{nexts, reading, writing, accessed, given}
 use Rattle.report.specs.Flow.{start_of, passing, flow_edges, all_flow_edges, flow_initials, flow_sets}
@@ -17,19 +16,7 @@ use Rattle.report.specs.Preceded.{reach_edges, reach_sets, brings_start, precedi
 use Rattle.report.specs.Held.{entry, at_returns, taken_in, gained, lost, held_after, ways_from, all_ways, held_sets}
 use Rattle.report.specs.Findings.{Sets, sets_of, shared_at, shared_cells, own_access, touches_at, counted_at, own_held, common_locks, stray_by, stray_at, statement_access, access_count, is_stray}
 use Rattle.report.specs.Report.{cell_line, cell_lines, stray_lines, finding_lines, lines_for, report_lines, report_text}
-
--- the tables have the same parts, and their statements, one by one, what R says of two
-pub record SameBut (R : Statement → Statement → Type 0) (t u : Table) : Type 0 where
-  pub cells_same : t.cells ≡ u.cells
-  pub locks_same : t.locks ≡ u.locks
-  pub handles_same : t.handles ≡ u.handles
-  pub routines_same : t.routines ≡ u.routines
-  pub count_same : length t.statements ≡ length u.statements
-  pub each : (s : ℕ) → R (statement t s) (statement u s)
-
--- the tables are the same to the rules: so are the views of their statements
-abbrev pub Alike : Table → Table → Type 0
-Alike t u = SameBut (λ σ τ. view σ ≡ view τ) t u
+use Rattle.report.specs.ValueLaws.{Alike, SameButNumber, SameButNumbers, same, sets, adds}
 
 -- ---- such tables have the same report: in each definition, the parts and views of one may stand for those of the other
 
@@ -128,16 +115,6 @@ module _ (t u : Table) (alike : Alike t u) where
   report_by_view = simp (lines_by_view, layout_by_view)
 
 -- ---- two tables that differ in the numbers of SET and ADD are such tables
-
--- the statements are the same but for the number of a SET or of an ADD
-pub data SameButNumber (σ τ : Statement) : Type 0 where
-  same : σ ≡ τ → SameButNumber σ τ
-  sets : (m n : ℤ) → σ ≡ Set m → τ ≡ Set n → SameButNumber σ τ
-  adds : (m n : ℤ) → σ ≡ Add m → τ ≡ Add n → SameButNumber σ τ
-
--- the tables differ in the numbers of SET and ADD alone
-abbrev pub SameButNumbers : Table → Table → Type 0
-SameButNumbers t u = SameBut SameButNumber t u
 
 -- a view does not show the number of a SET or of an ADD
 same_view : (σ τ : Statement) → SameButNumber σ τ → view σ ≡ view τ

@@ -18,3 +18,4 @@ pub mod PassCases
 pub mod SetUpCases
 pub mod Fits
 pub mod ReportTextLaws
+pub mod ValueLaws
