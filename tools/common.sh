@@ -1,4 +1,4 @@
-# What check, steps, table and package share; sourced by them, with `here` set to the folder that has them. POSIX sh.
+# What check, steps, table, package and tools/build share; sourced by them, with `here` set to the folder that has them. POSIX sh.
 name=${0##*/}
 nl='
 '
@@ -37,9 +37,8 @@ crates_below() {
     awk -v wanted="$*" '
         { sub(/#.*/, "") }
         /:/ {
-            crate = $0
+            crate = $1
             sub(/:.*/, "", crate)
-            gsub(/[ \t]/, "", crate)
             sub(/^[^:]*:/, "")
             below[crate] = $0
             names[++count] = crate
@@ -78,16 +77,15 @@ progress() {
     seconds=0
     while sleep 1 && kill -0 "$$" 2> /dev/null; do
         seconds=$((seconds + 1))
-        done_crates=$(grep -c '^rt: [a-z0-9_]* proved' "$1" 2> /dev/null)
+        done_crates=$(grep -c '^logic=proved ' "$1" 2> /dev/null)
         printf '\r%s: building: crate %s of %s, %s s ' "$name" "$((done_crates < $2 ? done_crates + 1 : $2))" "$2" "$seconds" >&2
     done
 }
 
-# build FILE WORDS..: has rt make FILE, by `rt WORDS`, whose last word is the crate; stops where it cannot.
+# build FILE WHY CRATE WORDS..: has rt make FILE, by `rt WORDS` in the crate's folder, which leaves it in the crate's out/; stops where it cannot.
 build() {
-    product=$1 why=$2
-    shift 2
-    for crate; do :; done
+    product=$1 why=$2 crate=$3
+    shift 3
     command -v rt > /dev/null 2>&1 ||
         stop "$why, and rt is not on the path: it is the prover of the kit $(pinned KIT) (README, The kit)"
     log=$here/target/build.log
@@ -116,7 +114,7 @@ build() {
         monitor=$!
         trap 'kill "$monitor" 2> /dev/null; exit 3' INT TERM HUP
     fi
-    (cd "$here" && exec rt "$@") < /dev/null > "$log" 2>&1 9>&-
+    (cd "$here/crates/$crate" && exec rt "$@") < /dev/null > "$log" 2>&1 9>&-
     ended=$?
     if [ -n "$monitor" ]; then
         kill "$monitor" 2> /dev/null
@@ -124,27 +122,34 @@ build() {
         trap - INT TERM HUP
         printf '\r' >&2
     fi
-    [ "$ended" -eq 0 ] && [ -f "$product" ] ||
+    made=$here/crates/$crate/out/${product##*/}
+    [ "$ended" -eq 0 ] && [ -f "$made" ] ||
         stop "not built, after $(($(date +%s) - began)) s: $(tail -n 1 "$log"); log: $log"
+    mkdir -p "${product%/*}" 2> /dev/null
+    cp "$made" "$product.new" 2> /dev/null && mv -f "$product.new" "$product" || stop "$product cannot be written"
     # Not later than the sources were read: an edit made meanwhile counts as newer.
     touch -r "$here/target/build.began" "$product"
     exec 9>&-
     say "built in $(($(date +%s) - began)) s"
 }
 
-# made FILE WORDS..: FILE is there and no older than what it is made of, or is made by `rt WORDS`. In a package there are no sources. In a shell of its
-# own, so that no name of the caller's changes; its status is 3 where it stops.
+# made CRATE: the crate's program or static library is there, and no older than what it is made of, or is made. In a package there are no sources. In a
+# shell of its own, so that no name of the caller's changes; its status is 3 where it stops. rt builds a program by running it once.
 made() (
-    product=$here/$1
-    shift
-    for crate; do :; done
+    crate=$1
+    case $crate in
+    station_check) product=target/bin/$crate && set -- run ;;
+    station_steps) product=target/bin/$crate && set -- run -- ../../examples/smallest.table /dev/null ;;
+    *) product=target/staticlib/lib$crate.a && set -- lib ;;
+    esac
+    product=$here/$product
     if [ ! -f "$product" ]; then
         [ -f "$here/crates.txt" ] || stop "$product is missing"
-        build "$product" "${product#"$here/"} is not built" "$@"
+        build "$product" "${product#"$here/"} is not built" "$crate" "$@"
     elif [ -f "$here/crates.txt" ]; then
         newer=$(newer_than "$product" "$crate")
         newer=${newer%%"$nl"*}
-        [ -z "$newer" ] || build "$product" "${product#"$here/"} is older than ${newer#"$here/"}" "$@"
+        [ -z "$newer" ] || build "$product" "${product#"$here/"} is older than ${newer#"$here/"}" "$crate" "$@"
     fi
 )
 
