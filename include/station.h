@@ -1,6 +1,6 @@
 /* The check and the engine for station tables, as proved functions, for C and C++.
  *
- * Link libstation.a (`rt staticlib station` writes it to target/staticlib/). No function allocates, keeps a pointer or
+ * Link libstation.a (`tools/build station` writes it to target/staticlib/). No function allocates, keeps a pointer or
  * touches anything but what is lent to it. Each takes every text, schedule and buffer length; the buffers of one call
  * must not overlap. What each answers and leaves in each buffer is proved: docs/C_INTERFACE.md.
  */
