@@ -1,9 +1,15 @@
 // For the programs that run tables: numbers, answers and cells as words at the end of a lent buffer, and the bytes of a file. A text is put before the one that
 // begins at `start`, and the answer is where the whole then begins; what has no room before it is lost.
+#![tactic(auto)]
+
 ghost use Rattle.std.specs.Prelude.{◌≡◌, ◌≤◌};
 ghost use Rattle.fields.specs.Field.{decimal_text};
 ghost use Rattle.run_printer.specs.Words.{ending, put, puts, word_text, answers_text, values_text, cell_text, cells_text};
-ghost use Rattle.io.specs.Counts.{IsPrefixLen};
+ghost use Rattle.std.specs.Io.{ReadsAtMost};
+
+use std::io::Read;
+use std::rt::Files;
+use std::{fs, io};
 
 // One byte.
 fn put_byte(out: &mut [u8], start: usize, byte: u8) -> usize
@@ -109,16 +115,45 @@ pub fn put_cells(out: &mut [u8], start: usize, cells: &[i32]) -> usize
     at
 }
 
-// The bytes of a file, as many as the buffer takes; none where it cannot be opened, which is said on standard error.
-pub fn load(path: &[u8], buffer: &mut [u8]) -> usize
-    ensures { IsPrefixLen result buffer.new }
-{
-    let file = os::open_read(path);
-    if file < 0 {
-        os::fail(path);
-        return 0;
+// Opens a file to be read; none where it cannot be opened, which is said on standard error.
+pub fn open<R: Files + Eprint>(rt: &R, path: &str) -> io::Result<Option<R::File>> {
+    match fs::open(rt, path) {
+        Ok(file) => Ok(Some(file)),
+        Err(error) => {
+            eprintln!(rt; "{path}: {error}")?;
+            Ok(None)
+        }
     }
-    let n = io::read_full(file, buffer);
-    libc::close(file);
-    n
+}
+
+// Reads until the buffer is full or the input ends, and says how many bytes it put at the buffer's start.
+pub fn read_full<R: Read>(input: &mut R, buffer: &mut [u8]) -> io::Result<usize>
+    ensures { ReadsAtMost result buffer.new }
+{
+    let mut done = 0;
+    while done < buffer.len() {
+        let n = input.read(&mut buffer[done..])?;
+        if n == 0 {
+            break;
+        }
+        done += n;
+    }
+    Ok(done)
+}
+
+// The bytes of a file, as many as the buffer takes; none where it cannot be opened, which is said on standard error.
+pub fn load<R: Files + Eprint>(rt: &R, path: &[u8], buffer: &mut [u8]) -> io::Result<usize>
+    ensures { ReadsAtMost result buffer.new }
+{
+    let file = match str::from_utf8(path) {
+        Ok(name) => open(rt, name)?,
+        Err(error) => {
+            eprintln!(rt; "the name of a file: {error}")?;
+            None
+        }
+    };
+    match file {
+        Some(mut file) => read_full(&mut file, buffer),
+        None => Ok(0),
+    }
 }
