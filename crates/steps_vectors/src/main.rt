@@ -1,5 +1,7 @@
 // Steps called from a program: two tables of data/ are stepped in turn, each by its schedule and in lists of its own; then each is run by itself. What
 // both ways answer and leave is printed. Last a chain of 32 routines, with the frames that its threads have open behind each step: 32 at the deepest.
+#![tactic(auto)]
+
 ghost use Rattle.std.specs.Prelude.{◌≡◌, ◌*◌, ◌<◌, ◌≤◌, length};
 ghost use Rattle.lines.specs.Line.{line_count};
 ghost use Rattle.table.specs.Header.{statements, statement_line};
@@ -8,50 +10,52 @@ ghost use Rattle.table.specs.Accepted.{Accepted};
 ghost use Rattle.run_state.specs.Lists.{cells_in};
 ghost use Rattle.run_state.specs.Shown.{Standing};
 
-use libc::STDOUT_FILENO;
 use run_printer::load;
 use run_state::{Sizes, places};
+use std::io;
+use std::rt::Files;
 use table::Verdict;
 
-fn say(text: &[u8]) {
-    io::write_all(STDOUT_FILENO, text);
+fn say(rt: &impl Print, text: &[u8]) -> io::Result<()> {
+    rt.write_all(text)
 }
 
 // Numbers, a space before each.
-fn say_numbers(numbers: &[u8]) {
+fn say_numbers(rt: &impl Print, numbers: &[u8]) -> io::Result<()> {
     let mut out = [0u8; 2048];
     let start = run_printer::put_answers(&mut out, 2048, numbers);
-    say(&out[start..]);
+    say(rt, &out[start..])
 }
 
 // The first numbers, so many; none if there are fewer.
-fn say_some(numbers: &[u8], count: usize) {
+fn say_some(rt: &impl Print, numbers: &[u8], count: usize) -> io::Result<()> {
     if count <= numbers.len() {
-        say_numbers(&numbers[..count]);
+        say_numbers(rt, &numbers[..count])?;
     }
+    Ok(())
 }
 
 // `answers` and the first answers, so many.
-fn say_first(answers: &[u8; 300], count: usize) {
-    say(b"answers");
-    say_some(answers, count);
+fn say_first(rt: &impl Print, answers: &[u8; 300], count: usize) -> io::Result<()> {
+    say(rt, b"answers")?;
+    say_some(rt, answers, count)
 }
 
 // `, cells` and the values of the cells, a space before each; a line feed.
-fn say_left(cells: &[i32]) {
+fn say_left(rt: &impl Print, cells: &[i32]) -> io::Result<()> {
     let mut out = [0u8; 2048];
     let end = run_printer::put_text(&mut out, 2048, b"\n");
     let words = run_printer::put_values(&mut out, end, cells);
     let start = run_printer::put_text(&mut out, words, b", cells");
-    say(&out[start..]);
+    say(rt, &out[start..])
 }
 
 // The cells of a run, by a list that just fits them.
-fn show_left(registers: &[i32; 80], cells: &mut [i32])
+fn show_left(rt: &impl Print, registers: &[i32; 80], cells: &mut [i32]) -> io::Result<()>
     requires { (length (cells_in (length cells.old) registers.now) ≡ length cells.old) × (length cells.old ≤ 64) }
 {
     run_state::leave(registers, cells);
-    say_left(cells);
+    say_left(rt, cells)
 }
 
 // Step `i` of a schedule in the lists of a run, by the byte that answers it; 0 past the schedule's end.
@@ -78,7 +82,7 @@ fn step_at(
 }
 
 // Two accepted tables in turn: a step of the one by its schedule, a step of the other by its own.
-fn take_turns(a: &[i32], b: &[i32], one: &[u8], other: &[u8])
+fn take_turns(rt: &impl Print, a: &[i32], b: &[i32], one: &[u8], other: &[u8]) -> io::Result<()>
     requires { Accepted (table_of a.now) × (length a.now ≡ 8 * statement_line a.now (statements a.now)) × Accepted (table_of b.now) × (length b.now ≡ 8 * statement_line b.now (statements b.now)) }
 {
     let first_a = declarations::first_statements(a);
@@ -123,88 +127,113 @@ fn take_turns(a: &[i32], b: &[i32], one: &[u8], other: &[u8])
         );
         i += 1;
     }
-    say_first(&answers_a, one.len());
+    say_first(rt, &answers_a, one.len())?;
     let mut cells_a = [0i32; 64];
-    show_left(&registers_a, &mut cells_a[..sizes_a.cells]);
-    say_first(&answers_b, other.len());
+    show_left(rt, &registers_a, &mut cells_a[..sizes_a.cells])?;
+    say_first(rt, &answers_b, other.len())?;
     let mut cells_b = [0i32; 64];
-    show_left(&registers_b, &mut cells_b[..sizes_b.cells]);
+    show_left(rt, &registers_b, &mut cells_b[..sizes_b.cells])
 }
 
 // Two texts in turn, with lists that have room for their numbers; nothing where one is refused.
-fn in_turn(text: &[u8], a: &mut [i32], second: &[u8], b: &mut [i32], one: &[u8], other: &[u8])
+fn in_turn(
+    rt: &impl Print,
+    text: &[u8],
+    a: &mut [i32],
+    second: &[u8],
+    b: &mut [i32],
+    one: &[u8],
+    other: &[u8],
+) -> io::Result<()>
     requires { (length a.old ≡ 8 * line_count text.now) × (length b.old ≡ 8 * line_count second.now) }
 {
     match reader::read_into(text, a) {
-        Verdict::Refused { number: _, line: _ } => {}
+        Verdict::Refused { number: _, line: _ } => Ok(()),
         Verdict::Accepted => match reader::read_into(second, b) {
-            Verdict::Refused { number: _, line: _ } => {}
-            Verdict::Accepted => {
-                take_turns(a, b, one, other);
-            }
+            Verdict::Refused { number: _, line: _ } => Ok(()),
+            Verdict::Accepted => take_turns(rt, a, b, one, other),
         },
     }
 }
 
 // Two texts of at most 64 lines in turn.
-fn show_turns(text_a: &[u8], text_b: &[u8], one: &[u8], other: &[u8]) {
+fn show_turns(
+    rt: &impl Print,
+    text_a: &[u8],
+    text_b: &[u8],
+    one: &[u8],
+    other: &[u8],
+) -> io::Result<()> {
     let lines_a = lines::line_count(text_a);
     let lines_b = lines::line_count(text_b);
     if 64 < lines_a {
-        return;
+        return Ok(());
     }
     if 64 < lines_b {
-        return;
+        return Ok(());
     }
     let mut numbers_a = [0i32; 512];
     let mut numbers_b = [0i32; 512];
     let count_a = 8 * lines_a;
     let count_b = 8 * lines_b;
     in_turn(
+        rt,
         text_a,
         &mut numbers_a[..count_a],
         text_b,
         &mut numbers_b[..count_b],
         one,
         other,
-    );
+    )
 }
 
 // A run by itself: its answers, and as many cells as its header says.
-fn show_alone(text: &[u8], schedule: &[u8]) {
+fn show_alone(rt: &impl Print, text: &[u8], schedule: &[u8]) -> io::Result<()> {
     let mut answers = [0u8; 300];
     let mut cells = [0i32; 64];
     engine::run(text, schedule, &mut answers, &mut cells);
-    say_first(&answers, schedule.len());
+    say_first(rt, &answers, schedule.len())?;
     let header = lines::read_line(text, 0);
     let count = table::field_of(&header.numbers[..], 0, 1);
     if count <= 64 {
-        say_left(&cells[..count]);
+        say_left(rt, &cells[..count])?;
     }
+    Ok(())
 }
 
 // The tables and schedules of these names, in turn and by themselves.
-fn show_pair(table_a: &[u8], schedule_a: &[u8], table_b: &[u8], schedule_b: &[u8]) {
+fn show_pair(
+    rt: &(impl Files + Print + Eprint),
+    table_a: &[u8],
+    schedule_a: &[u8],
+    table_b: &[u8],
+    schedule_b: &[u8],
+) -> io::Result<()> {
     let mut text_a = [0u8; 3136];
     let mut text_b = [0u8; 3136];
     let mut one = [0u8; 300];
     let mut other = [0u8; 300];
-    let n = load(table_a, &mut text_a);
-    let m = load(table_b, &mut text_b);
-    let k = load(schedule_a, &mut one);
-    let l = load(schedule_b, &mut other);
-    show_turns(&text_a[..n], &text_b[..m], &one[..k], &other[..l]);
-    show_alone(&text_a[..n], &one[..k]);
-    show_alone(&text_b[..m], &other[..l]);
+    let n = load(rt, table_a, &mut text_a)?;
+    let m = load(rt, table_b, &mut text_b)?;
+    let k = load(rt, schedule_a, &mut one)?;
+    let l = load(rt, schedule_b, &mut other)?;
+    show_turns(rt, &text_a[..n], &text_b[..m], &one[..k], &other[..l])?;
+    show_alone(rt, &text_a[..n], &one[..k])?;
+    show_alone(rt, &text_b[..m], &other[..l])
 }
 
 // The frames open behind the first steps, so many: a line for each of two threads.
-fn say_frames(frames: &[u8; 300], others: &[u8; 300], count: usize) {
-    say(b"frames of thread 0:");
-    say_some(frames, count);
-    say(b"\nframes of thread 1:");
-    say_some(others, count);
-    say(b"\n");
+fn say_frames(
+    rt: &impl Print,
+    frames: &[u8; 300],
+    others: &[u8; 300],
+    count: usize,
+) -> io::Result<()> {
+    say(rt, b"frames of thread 0:")?;
+    say_some(rt, frames, count)?;
+    say(rt, b"\nframes of thread 1:")?;
+    say_some(rt, others, count)?;
+    say(rt, b"\n")
 }
 
 // How many frames thread `n` has open.
@@ -215,7 +244,7 @@ fn frames_of(words: &[u32; 545], n: usize) -> u8
 }
 
 // An accepted table by a schedule: the frames that threads 0 and 1 have open behind each step, the answers, and the cells.
-fn count_frames(numbers: &[i32], schedule: &[u8])
+fn count_frames(rt: &impl Print, numbers: &[i32], schedule: &[u8]) -> io::Result<()>
     requires { Accepted (table_of numbers.now) × (length numbers.now ≡ 8 * statement_line numbers.now (statements numbers.now)) }
 {
     let first = declarations::first_statements(numbers);
@@ -245,47 +274,69 @@ fn count_frames(numbers: &[i32], schedule: &[u8])
         others[i] = frames_of(&words, 1);
         i += 1;
     }
-    say_frames(&frames, &others, schedule.len());
-    say_first(&answers, schedule.len());
+    say_frames(rt, &frames, &others, schedule.len())?;
+    say_first(rt, &answers, schedule.len())?;
     let mut cells = [0i32; 64];
-    show_left(&registers, &mut cells[..sizes.cells]);
+    show_left(rt, &registers, &mut cells[..sizes.cells])
 }
 
 // A text, with a list that has room for its numbers; nothing where it is refused.
-fn count_in(text: &[u8], numbers: &mut [i32], schedule: &[u8])
+fn count_in(rt: &impl Print, text: &[u8], numbers: &mut [i32], schedule: &[u8]) -> io::Result<()>
     requires { length numbers.old ≡ 8 * line_count text.now }
 {
     match reader::read_into(text, numbers) {
-        Verdict::Refused { number: _, line: _ } => {}
-        Verdict::Accepted => {
-            count_frames(numbers, schedule);
-        }
+        Verdict::Refused { number: _, line: _ } => Ok(()),
+        Verdict::Accepted => count_frames(rt, numbers, schedule),
     }
 }
 
 // A text of at most 256 lines.
-fn show_frames(text: &[u8], schedule: &[u8]) {
+fn show_frames(rt: &impl Print, text: &[u8], schedule: &[u8]) -> io::Result<()> {
     let count = lines::line_count(text);
     if 256 < count {
-        return;
+        return Ok(());
     }
     let mut numbers = [0i32; 2048];
-    count_in(text, &mut numbers[..8 * count], schedule);
+    count_in(rt, text, &mut numbers[..8 * count], schedule)
 }
 
 // The chain of 32 routines: thread 0 comes to 32 frames, thread 1 to 31.
-fn show_deep() {
+fn show_deep(rt: &(impl Files + Print + Eprint)) -> io::Result<()> {
     let mut text = [0u8; 12544];
     let mut schedule = [0u8; 300];
-    let n = load(b"deep.table", &mut text);
-    let k = load(b"deep.schedule", &mut schedule);
-    show_frames(&text[..n], &schedule[..k]);
+    let n = load(rt, b"deep.table", &mut text)?;
+    let k = load(rt, b"deep.schedule", &mut schedule)?;
+    show_frames(rt, &text[..n], &schedule[..k])
 }
 
-fn main() {
-    show_pair(b"016.table", b"016.schedule", b"036.table", b"036.schedule");
-    show_pair(b"031.table", b"031.schedule", b"032.table", b"032.schedule");
-    show_pair(b"010.table", b"010.schedule", b"006.table", b"006.schedule");
-    show_pair(b"020.table", b"020.schedule", b"005.table", b"005.schedule");
-    show_deep();
+fn main(rt: HostRuntime) -> io::Result<()> {
+    show_pair(
+        &rt,
+        b"016.table",
+        b"016.schedule",
+        b"036.table",
+        b"036.schedule",
+    )?;
+    show_pair(
+        &rt,
+        b"031.table",
+        b"031.schedule",
+        b"032.table",
+        b"032.schedule",
+    )?;
+    show_pair(
+        &rt,
+        b"010.table",
+        b"010.schedule",
+        b"006.table",
+        b"006.schedule",
+    )?;
+    show_pair(
+        &rt,
+        b"020.table",
+        b"020.schedule",
+        b"005.table",
+        b"005.schedule",
+    )?;
+    show_deep(&rt)
 }
