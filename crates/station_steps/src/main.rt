@@ -1,92 +1,91 @@
 // Steps a table by a schedule and prints a line a step: 55, thread, answer, five zeros, and then each cell's value; or line 50 on refusal. The first argument names a file with the
 // table text, the second a file with the schedule, each byte a thread number.
-use libc::STDOUT_FILENO;
+#![tactic(auto)]
+
+use std::rt::{Env, Files};
+use std::{env, io};
 
 // One step: its thread and its answer.
-fn print_step(thread: u8, answer: u8) {
+fn print_step(rt: &impl Print, thread: u8, answer: u8) -> io::Result<()> {
     let mut out = [0u8; 49];
     line_printer::print_line(
         &mut out[..],
         0,
         [55, thread as i32, answer as i32, 0, 0, 0, 0, 0],
     );
-    io::write_all(STDOUT_FILENO, &out[..]);
+    rt.write_all(&out[..])
 }
 
-fn print_steps(schedule: &[u8], answers: &[u8]) {
+fn print_steps(rt: &impl Print, schedule: &[u8], answers: &[u8]) -> io::Result<()> {
     let mut i = 0;
     while i < schedule.len() {
         if i < answers.len() {
-            print_step(schedule[i], answers[i]);
+            print_step(rt, schedule[i], answers[i])?;
         }
         i += 1;
     }
+    Ok(())
 }
 
 // The lines of cells, 20 bytes each at most.
-fn print_cells(cells: &[i32]) {
+fn print_cells(rt: &impl Print, cells: &[i32]) -> io::Result<()> {
     let mut out = [0u8; 2048];
     let start = run_printer::put_cells(&mut out, 2048, cells);
-    io::write_all(STDOUT_FILENO, &out[start..]);
+    rt.write_all(&out[start..])
 }
 
 // The cells of an accepted text: as many as its header says.
-fn print_cells_of(text: &[u8], cells: &[i32]) {
+fn print_cells_of(rt: &impl Print, text: &[u8], cells: &[i32]) -> io::Result<()> {
     let header = lines::read_line(text, 0);
     let count = table::field_of(&header.numbers[..], 0, 1);
     if count <= cells.len() {
-        print_cells(&cells[..count]);
+        print_cells(rt, &cells[..count])?;
     }
+    Ok(())
 }
 
-fn print_refusal(number: u32, line: usize) {
+fn print_refusal(rt: &impl Print, number: u32, line: usize) -> io::Result<()> {
     let mut out = [0u8; 49];
     if refusal::print_refusal(&mut out[..], number, line) == 49 {
-        io::write_all(STDOUT_FILENO, &out[..]);
+        rt.write_all(&out[..])?;
     }
+    Ok(())
 }
 
-fn step_through(text: &[u8], schedule: &[u8]) {
-    let mut answers = io::large_buffer();
+fn step_through(rt: &impl Print, text: &[u8], schedule: &[u8]) -> io::Result<()> {
+    let mut answers = [0u8; 65536];
     let mut cells = [0i32; 64];
     let outcome = engine::run(text, schedule, &mut answers[..], &mut cells[..]);
     if outcome.number == 0 {
-        print_steps(schedule, &answers[..]);
-        print_cells_of(text, &cells[..]);
+        print_steps(rt, schedule, &answers[..])?;
+        print_cells_of(rt, text, &cells[..])
     } else {
-        print_refusal(outcome.number, outcome.line);
+        print_refusal(rt, outcome.number, outcome.line)
     }
 }
 
-// Opens the file that argument `i` names; below 0 if it cannot be opened, which is said on standard error.
-fn open_argument(i: usize) -> i32 {
-    let mut path = io::buffer();
-    let n = os::arg(i, &mut path);
-    let file = os::open_read(&path[..n]);
-    if file < 0 {
-        os::fail(&path[..n]);
-    }
-    file
+// Opens the file that argument `i` names; none where it cannot be opened, which is said on standard error.
+fn open_argument<R: Files + Eprint + Env + Alloc>(rt: &R, i: usize) -> io::Result<Option<R::File>> {
+    let Some(path) = env::args(rt)?.nth(i) else {
+        return run_printer::open(rt, "");
+    };
+    run_printer::open(rt, path.as_str())
 }
 
-fn with_table(text: &[u8]) {
-    let file = open_argument(2);
-    if file < 0 {
-        return;
-    }
-    let mut schedule = io::large_buffer();
-    let count = io::read_full(file, &mut schedule);
-    libc::close(file);
-    step_through(text, &schedule[..count]);
+fn with_table<R: Files + Print + Eprint + Env + Alloc>(rt: &R, text: &[u8]) -> io::Result<()> {
+    let Some(mut file) = open_argument(rt, 2)? else {
+        return Ok(());
+    };
+    let mut schedule = [0u8; 65536];
+    let count = run_printer::read_full(&mut file, &mut schedule)?;
+    step_through(rt, text, &schedule[..count])
 }
 
-fn main() {
-    let file = open_argument(1);
-    if file < 0 {
-        return;
-    }
-    let mut text = io::large_buffer();
-    let count = io::read_full(file, &mut text);
-    libc::close(file);
-    with_table(&text[..count]);
+fn main(rt: HostRuntime) -> io::Result<()> {
+    let Some(mut file) = open_argument(&rt, 1)? else {
+        return Ok(());
+    };
+    let mut text = [0u8; 65536];
+    let count = run_printer::read_full(&mut file, &mut text)?;
+    with_table(&rt, &text[..count])
 }
