@@ -1,4 +1,6 @@
 // Prints, for each table text that an argument names, a line: the name, and how many passes over the statements the flow sets of the text take.
+#![tactic(auto)]
+
 ghost use Rattle.std.specs.Prelude.{◌≡◌, ◌*◌, length};
 ghost use Rattle.lines.specs.Line.{line_count};
 ghost use Rattle.table.specs.Table.{table_of};
@@ -7,7 +9,8 @@ ghost use Rattle.report.specs.Layout.{one_each};
 ghost use Rattle.report.specs.FlowPasses.{flow_passes};
 ghost use Rattle.flow_vectors.specs.Passes.{passes_in};
 
-use libc::STDOUT_FILENO;
+use std::rt::Files;
+use std::{env, io};
 use table::Verdict;
 
 // How many passes the flow sets of an accepted table take.
@@ -50,34 +53,24 @@ fn passes_for(text: &[u8]) -> usize
 }
 
 // Prints the line of a text: its name, a space, how many passes it takes, and a line feed.
-fn print_line(name: &[u8], passes: usize) {
-    io::write_all(STDOUT_FILENO, name);
-    io::write_all(STDOUT_FILENO, b" ");
-    io::print_decimal(STDOUT_FILENO, passes as u64);
-    io::write_all(STDOUT_FILENO, b"\n");
+fn print_line(rt: &impl Print, name: &str, passes: usize) -> io::Result<()> {
+    println!(rt; "{name} {passes}")
 }
 
 // Prints the line of one argument: of the file that it names.
-fn try_argument(i: usize) {
-    let mut path = io::buffer();
-    let n = os::arg(i, &mut path);
-    let file = os::open_read(&path[..n]);
-    if file < 0 {
-        os::fail(&path[..n]);
-        return;
-    }
-    let mut text = io::large_buffer();
-    let count = io::read_full(file, &mut text);
-    libc::close(file);
+fn try_argument(rt: &(impl Files + Print + Eprint), path: &str) -> io::Result<()> {
+    let Some(mut file) = run_printer::open(rt, path)? else {
+        return Ok(());
+    };
+    let mut text = [0u8; 65536];
+    let count = run_printer::read_full(&mut file, &mut text)?;
     let passes = passes_for(&text[..count]);
-    print_line(&path[..n], passes);
+    print_line(rt, path, passes)
 }
 
-fn main() {
-    let count = os::arg_count();
-    let mut i = 1;
-    while i < count {
-        try_argument(i);
-        i += 1;
+fn main(rt: HostRuntime) -> io::Result<()> {
+    for path in env::args(&rt)?.skip(1) {
+        try_argument(&rt, path.as_str())?;
     }
+    Ok(())
 }
