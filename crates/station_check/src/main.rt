@@ -1,27 +1,24 @@
 // Reads a table text from standard input, or from the file that its first argument names, and prints its report; on refusal line 50.
-use libc::{STDIN_FILENO, STDOUT_FILENO};
+#![tactic(auto)]
+
+use std::io::Read;
+use std::{env, io};
 
 // Reads a file to its end, or past the longest text, and prints what is said of it.
-fn check_file(file: i32) {
-    let mut text = io::large_buffer();
-    let count = io::read_full(file, &mut text);
-    let mut out = io::large_buffer();
+fn check_file<R: Read>(rt: &impl Print, file: &mut R) -> io::Result<()> {
+    let mut text = [0u8; 65536];
+    let count = run_printer::read_full(file, &mut text)?;
+    let mut out = [0u8; 65536];
     let bytes = answer::print_answer(&text[..count], &mut out);
-    io::write_all(STDOUT_FILENO, &out[..bytes]);
+    rt.write_all(&out[..bytes])
 }
 
-fn main() {
-    if os::arg_count() < 2 {
-        check_file(STDIN_FILENO);
-        return;
-    }
-    let mut path = io::buffer();
-    let n = os::arg(1, &mut path);
-    let file = os::open_read(&path[..n]);
-    if file < 0 {
-        os::fail(&path[..n]);
-        return;
-    }
-    check_file(file);
-    libc::close(file);
+fn main(rt: HostRuntime) -> io::Result<()> {
+    let Some(path) = env::args(&rt)?.nth(1) else {
+        return check_file(&rt, &mut rt.reader());
+    };
+    let Some(mut file) = run_printer::open(&rt, path.as_str())? else {
+        return Ok(());
+    };
+    check_file(&rt, &mut file)
 }
