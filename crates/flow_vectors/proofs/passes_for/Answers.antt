@@ -3,7 +3,7 @@ use mathlib.Core.Path.{sym, ap, ◌∙◌}
 use Prim.Native.Nat.{ℕ, ◌*◌}
 use native.Mathlib.Omega.{arith}
 use lib.IntN.{ℤ, pos}
-use Rattle.table.specs.CutLaws.{cut_long}
+use Rattle.table.proofs.CutLaws.{cut_long}
 use Rattle.flow_vectors.proofs.passes_for.Goals as goal
 
 pub slice_bounds-passes_in-end : goal.slice_bounds-passes_in-end

@@ -2,7 +2,7 @@
 use mathlib.Core.Path.{sym, ◌∙◌}
 use Prim.Native.Nat.{ℕ}
 use native.Mathlib.Omega.{arith}
-use Rattle.table.specs.CutLaws.{cut_long}
+use Rattle.table.proofs.CutLaws.{cut_long}
 use Rattle.flow_vectors.specs.PassesLaws.{handles_few, edges_fit}
 use Rattle.flow_vectors.proofs.passes_of.Goals as goal
 

@@ -2,7 +2,7 @@
 use native.Mathlib.Omega.{arith}
 use lib.IntN.{ℤ, pos}
 use lib.ListN.{take, replicate}
-use Rattle.table.specs.CutLaws.{cut_long}
+use Rattle.table.proofs.CutLaws.{cut_long}
 use Rattle.steps_vectors.proofs.Turns.{begun, cells_few, cells_fit}
 use Rattle.steps_vectors.proofs.take_turns.Goals as goal
 
