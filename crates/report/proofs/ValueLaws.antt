@@ -16,7 +16,7 @@ use Rattle.report.specs.Preceded.{reach_edges, reach_sets, brings_start, precedi
 use Rattle.report.specs.Held.{entry, at_returns, taken_in, gained, lost, held_after, ways_from, all_ways, held_sets}
 use Rattle.report.specs.Findings.{Sets, sets_of, shared_at, shared_cells, own_access, touches_at, counted_at, own_held, common_locks, stray_by, stray_at, statement_access, access_count, is_stray}
 use Rattle.report.specs.Report.{cell_line, cell_lines, stray_lines, finding_lines, lines_for, report_lines, report_text}
-use Rattle.report.proofs.ValueLaws.{Alike, SameButNumber, SameButNumbers, same, sets, adds}
+use Rattle.report.specs.ValueLaws.{Alike, SameButNumber, SameButNumbers, same, sets, adds}
 
 -- ---- such tables have the same report: in each definition, the parts and views of one may stand for those of the other
 

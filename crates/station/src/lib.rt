@@ -1,3 +1,4 @@
+#![tactic(auto)]
 // The check and the engine under C names, for the gauge's firmware: include/station.h.
 ghost use Rattle.std.specs.Prelude.{◌≡◌, length};
 ghost use Rattle.analysis.specs.Reported.{report_answer, reported_into, loadable};

@@ -1,3 +1,4 @@
+#![tactic(auto)]
 // The reader under a C name, for programs in other languages.
 ghost use Rattle.std.specs.Prelude.{◌≡◌};
 ghost use Rattle.table.specs.Verdict.{verdict};
