@@ -1,7 +1,7 @@
 -- Fields of one, two or three digits, seen without a loop: six characters, three spaces or more and digits. Assumes nothing.
-use Rattle.std.specs.Prelude.{◌≡◌, refl, ℕ, zero, suc, ◌+◌, ◌*◌, ◌-◌, ◌/◌, ◌%◌, ◌≤◌, ◌<◌, Bool, true, false, ◌&&◌, List, [], ◌∷◌, eqb, pos, length, get_or, take, drop}
+use Rattle.std.specs.Prelude.{◌≡◌, refl, ℕ, suc, ◌+◌, ◌*◌, ◌-◌, ◌/◌, ◌%◌, ◌≤◌, ◌<◌, Bool, true, false, ◌&&◌, List, [], ◌∷◌, eqb, pos, length, get_or, take, drop}
 use Rattle.std.proofs.Common.{ap, ◌∙◌, arith, drop-cons, eqb-true}
-use Rattle.std.proofs.Math.Option.{Option, none, some}
+use Rattle.std.proofs.Math.Option.{Option, some}
 use Rattle.std.proofs.lemmas.Bool.{eqb-false}
 use Rattle.fields.specs.Field.{decimal_of, positive, spaced_of, field_of}
 use Rattle.fields.specs.FieldLoops.{spaced_space, spaced_other, is_digit_lem, digits_digit, digits_none, decimal_zero, decimal_digits, signed_other, field_six}

@@ -12,7 +12,7 @@ use Rattle.fields.specs.QuickFields.{ZeroField, both}
 use Rattle.lines.specs.Line.{end_of, joined, fields_of, line_of, line_at, or_zeros, good_line, line_count, first_bad, line_numbers, pieces, numbers_of, padded, bad_answer}
 use Rattle.lines.specs.declared.FirstBad as B
 use Rattle.lines.proofs.LowestLaws.{Passed, passed_start, passed_next, passed_stop, passed_done}
-use Rattle.lines.specs.LineLoops.{Putting, Reading, ZeroTail, field_number, first_fields, or_zero, prefixed, three}
+use Rattle.lines.specs.LineLoops.{Putting, Reading, ZeroTail, field_number, first_fields, prefixed, three}
 
 -- pieces, one after the other
 

@@ -1,5 +1,5 @@
 -- Lists of sets by inclusion: an order, and lists that grow have less room. Assumes nothing.
-use Rattle.std.specs.Prelude.{◌≡◌, refl, Bool, true, false, ◌&&◌, List, [], ◌∷◌, ℕ, suc, ◌-◌, ◌^◌, ◌≤◌, ◌<◌, eqb, leb, length, get_or}
+use Rattle.std.specs.Prelude.{◌≡◌, refl, Bool, true, false, ◌&&◌, List, [], ◌∷◌, ℕ, suc, ◌^◌, ◌≤◌, ◌<◌, eqb, leb, length, get_or}
 use Rattle.std.proofs.Common.{sym, ap, ◌∙◌, le_refl, arith, ext_get_or, eqb-true, eq-eqb, leb-true, leb-false}
 use Rattle.std.proofs.Math.Nat.{suc_inj}
 use Rattle.sets.proofs.SetLaws.{inside_both, inside_le}

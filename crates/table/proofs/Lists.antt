@@ -2,12 +2,10 @@
 use Rattle.std.specs.Prelude.{◌≡◌, refl, List, Bool, true, false, ℕ, ◌+◌, ◌-◌, ◌≤◌, ◌<◌, ltb, get_or, ℤ}
 use Rattle.std.proofs.Math.Path.{subst⁻¹}
 use Rattle.std.proofs.Common.{zero-le, arith, ltb-true, ltb-false}
-use Rattle.table.specs.Header.{routines, statements}
-use Rattle.table.specs.HeaderLaws.{Sized}
+use Rattle.table.specs.Header.{routines}
 use Rattle.table.specs.Handles.{handles_from, parameters}
 use Rattle.table.specs.Routines.{first_statement}
 use Rattle.table.proofs.RoutineLaws.{first_grows}
-use Rattle.table.specs.Extents.{first_statements, first_handles, parameter_counts}
 use Rattle.table.proofs.ExtentLaws.{first_at, handle_at_lem, count_at, handles_from_most}
 use Rattle.table.proofs.TabulateLaws.{entry_behind}
 use Rattle.table.specs.Lists.{HandlesBegin, ParametersCounted, StatementsBegin}

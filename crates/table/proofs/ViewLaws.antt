@@ -5,8 +5,8 @@ use mathlib.Core.List.{List, map, Memᴰ}
 use Rattle.sets.specs.Set.{has}
 use Rattle.sets.proofs.SetLaws.{has_empty}
 use Rattle.table.specs.Fields.{field}
-use Rattle.table.specs.Table.{arguments_in, statement_in}
-use Rattle.table.specs.View.{no_arguments, view, On, on_or, set_on, list_on, test_on, when, calls, starts, takes_in, takes_to_read, taking, in_mode, idle, through, pointing, naming, going}
+use Rattle.table.specs.Table.{statement_in}
+use Rattle.table.specs.View.{view, On, on_or, set_on, list_on, test_on, when, calls, starts, takes_in, takes_to_read, taking, in_mode, idle, through, pointing, naming, going}
 use Rattle.table.specs.declared.Arguments.{Arguments}
 use Rattle.table.specs.declared.Reference.{Reference}
 use Rattle.table.specs.declared.Reference.TheVariants.{To, Nothing}

@@ -1,10 +1,10 @@
 -- `fields::digits` meets its contract: the digits before place i say m. Assumes nothing.
 use borrow.Author.Rules.{rules}
 use mathlib.Core.Path.{ap, sym}
-use Prim.Native.Nat.{◌-◌, ◌<◌}
+use Prim.Native.Nat.{◌<◌}
 use native.Mathlib.Omega.{arith}
 use Rattle.fields.specs.Field.{decimal_answer}
-use Rattle.fields.specs.FieldLoops.{Digits, digits_start, digits_next, digits_stop, digits_done, digits_fit, below_digit, above_digit}
+use Rattle.fields.specs.FieldLoops.{digits_start, digits_next, digits_stop, digits_done, digits_fit, below_digit, above_digit}
 use Rattle.fields.proofs.digits.Goals as goal
 
 pub loop-i-init : goal.loop-i-init

@@ -1,5 +1,4 @@
 -- `fields::field_in` meets its contract: a quick form, or the six characters looked at one by one. Assumes nothing.
-use borrow.Author.Rules.{rules}
 use native.Mathlib.Omega.{arith}
 use mathlib.Core.Path.{ap, sym, ◌∙◌}
 use Prim.Native.Nat.{ℕ}

@@ -1,8 +1,6 @@
 -- `fields::past_spaces` meets its contract: before place i stand spaces alone. Assumes nothing.
 use borrow.Author.Rules.{rules}
-use Prim.Native.Nat.{◌-◌}
-use lib.ListN.{length}
-use Rattle.fields.specs.FieldLoops.{Spaces, spaces_start, spaces_next, spaces_stop, spaces_done}
+use Rattle.fields.specs.FieldLoops.{spaces_start, spaces_next, spaces_stop, spaces_done}
 use Rattle.fields.proofs.past_spaces.Goals as goal
 
 pub loop-i-init : goal.loop-i-init

@@ -1,8 +1,7 @@
 -- `fields::past_spaces` meets its contract: before place i stand spaces alone. Assumes nothing.
-use borrow.Author.Rules.{rules}
 use Prim.Native.Nat.{◌-◌}
 use lib.ListN.{length}
-use Rattle.fields.specs.FieldLoops.{Spaces, spaces_start, spaces_next, spaces_stop, spaces_done}
+use Rattle.fields.specs.FieldLoops.{Spaces}
 use Rattle.fields.proofs.past_spaces.Given as goal
 
 abbrev pub invariant-loop-i : goal.invariant-loop-i

@@ -1,5 +1,4 @@
 -- `fields::quick` meets its contract: each number that it returns is one of three forms. Assumes nothing.
-use borrow.Author.Rules.{rules}
 use Rattle.fields.specs.QuickFields.{quick_none, quick_one, quick_two, quick_three}
 use Rattle.fields.proofs.quick.Goals as goal
 

@@ -1,5 +1,4 @@
 -- `fields::quick_at` meets its contract: the six characters, one by one. Assumes nothing.
-use borrow.Author.Rules.{rules}
 use Rattle.fields.specs.QuickFields.{quick_at}
 use Rattle.fields.proofs.quick_at.Goals as goal
 

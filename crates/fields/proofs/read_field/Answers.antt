@@ -1,5 +1,4 @@
 -- `fields::read_field` meets its contract: the part that it reads is six characters long, or the text ends before. Assumes nothing.
-use borrow.Author.Rules.{rules}
 use native.Mathlib.Omega.{arith}
 use mathlib.Core.Path.{ap, sym}
 use lib.ListN.{drop, length-take, length-drop}

@@ -1,5 +1,4 @@
 -- `fields::zero_at` meets its contract: five spaces and a 0. Assumes nothing.
-use borrow.Author.Rules.{rules}
 use Rattle.fields.specs.QuickFields.{zero_field}
 use Rattle.fields.proofs.zero_at.Goals as goal
 

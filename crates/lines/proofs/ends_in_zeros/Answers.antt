@@ -1,5 +1,4 @@
 -- `lines::ends_in_zeros` meets its contract: five zeros. Assumes nothing.
-use borrow.Author.Rules.{rules}
 use Rattle.lines.proofs.LineLoops.{zero_tail}
 use Rattle.lines.proofs.ends_in_zeros.Goals as goal
 

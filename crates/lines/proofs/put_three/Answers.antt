@@ -1,5 +1,4 @@
 -- `lines::put_three` meets its contract: eight stores. Assumes nothing.
-use borrow.Author.Rules.{rules}
 use native.Mathlib.Omega.{arith}
 use lib.ListN.{length-set}
 use Rattle.lines.proofs.put_three.Goals as goal

@@ -1,6 +1,4 @@
 -- `lines::quick_fields` meets its contract: three quick fields, and five zeros behind them; or nothing is stored. Assumes nothing.
-use borrow.Author.Rules.{rules}
-use borrow.Author.Tests.{not-false}
 use native.Mathlib.Omega.{arith}
 use Rattle.fields.specs.FieldLoops.{word_plus}
 use Rattle.lines.proofs.LineLoops.{putting_start, three_put}

@@ -1,18 +1,13 @@
 -- `lines::read_numbers` meets its contract: before line i every line is good and its numbers stand in their places. Assumes nothing.
-use Rattle.lines.proofs.LineLoops.{Paging, InLine, Left, page_start, next_inside, page_in, page_few, line_inside, line_room, page_field, page_feed, page_bad_field, page_bad_feed, page_done, answer_bad, answer_good}
+use Rattle.lines.proofs.LineLoops.{Left, page_start, next_inside, page_in, page_few, line_inside, line_room, page_field, page_feed, page_bad_field, page_bad_feed, page_done, answer_bad, answer_good}
 use Rattle.fields.specs.FieldLoops.{told_number, told_no_field}
 use mir.Facts.{to_z-of_z}
 use mir.Syntax.{w32}
 use lib.ListN.{length}
-use Prim.Native.Nat.{◌+◌, ◌*◌, ◌-◌, ◌≤◌, ◌<◌}
-use mathlib.Core.Logic.{⊎_elim}
-use mathlib.Core.Path.{◌≡◌, sym, ◌∙◌}
+use Prim.Native.Nat.{◌+◌, ◌*◌, ◌≤◌, ◌<◌}
+use mathlib.Core.Path.{sym, ◌∙◌}
 use native.Mathlib.Omega.{arith}
 use borrow.Author.Rules.{rules}
-use Rattle.lines.proofs.read_numbers.Reads as reads
-use Rattle.lines.proofs.read_numbers.Lts as lts
-use Rattle.lines.proofs.line_count.Reads as line-count-reads
-use Rattle.fields.proofs.field_in.Reads as field-in-reads
 use Rattle.lines.proofs.read_numbers.Goals as goal
 use Rattle.lines.proofs.read_numbers.Goals.{else-lines-test, then-lines-test+then-loop-j-test+in_default, then-lines-test+else-loop-j-test+then-text-i-ne10}
 
@@ -85,47 +80,47 @@ loop-j-preserved c =
 pub returns-then-i-lines-clause-found : goal.returns-then-i-lines-clause-found
 returns-then-i-lines-clause-found c =
     let l : Left c.args.text.now c.line_count-lines.result c.lines.i c.lines-test.numbers =
-        elim c.lines-test.branch [
-          else-lines-test w ↦ rw w.numbers-is (page_done c.lines.invariant w.lines-test.false)
-        | then-lines-test+then-loop-j-test+in_default w ↦
-            rw w.numbers-is (page_bad_field w.loop-j.invariant w.loop-j-test.true (told_no_field (sym w.in_default.is ∙ w.field_in.ensures)))
-        | then-lines-test+else-loop-j-test+then-text-i-ne10 w ↦
-            rw w.numbers-is (page_bad_feed w.loop-j.invariant w.loop-j-test.false w.if-text-i-ne10.true)
-        ] in
+    elim c.lines-test.branch [
+      | else-lines-test w ↦ rw w.numbers-is (page_done c.lines.invariant w.lines-test.false)
+      | then-lines-test+then-loop-j-test+in_default w ↦
+          rw w.numbers-is (page_bad_field w.loop-j.invariant w.loop-j-test.true (told_no_field (sym w.in_default.is ∙ w.field_in.ensures)))
+      | then-lines-test+else-loop-j-test+then-text-i-ne10 w ↦
+          rw w.numbers-is (page_bad_feed w.loop-j.invariant w.loop-j-test.false w.if-text-i-ne10.true)
+    ] in
     (answer_bad _ _ c.lines-test.numbers (l.bad c.if-i-lines.true)).0
 
 pub returns-then-i-lines-clause-numbers : goal.returns-then-i-lines-clause-numbers
 returns-then-i-lines-clause-numbers c =
     let l : Left c.args.text.now c.line_count-lines.result c.lines.i c.lines-test.numbers =
-        elim c.lines-test.branch [
-          else-lines-test w ↦ rw w.numbers-is (page_done c.lines.invariant w.lines-test.false)
-        | then-lines-test+then-loop-j-test+in_default w ↦
-            rw w.numbers-is (page_bad_field w.loop-j.invariant w.loop-j-test.true (told_no_field (sym w.in_default.is ∙ w.field_in.ensures)))
-        | then-lines-test+else-loop-j-test+then-text-i-ne10 w ↦
-            rw w.numbers-is (page_bad_feed w.loop-j.invariant w.loop-j-test.false w.if-text-i-ne10.true)
-        ] in
+    elim c.lines-test.branch [
+      | else-lines-test w ↦ rw w.numbers-is (page_done c.lines.invariant w.lines-test.false)
+      | then-lines-test+then-loop-j-test+in_default w ↦
+          rw w.numbers-is (page_bad_field w.loop-j.invariant w.loop-j-test.true (told_no_field (sym w.in_default.is ∙ w.field_in.ensures)))
+      | then-lines-test+else-loop-j-test+then-text-i-ne10 w ↦
+          rw w.numbers-is (page_bad_feed w.loop-j.invariant w.loop-j-test.false w.if-text-i-ne10.true)
+    ] in
     (answer_bad _ _ _ (l.bad c.if-i-lines.true)).1
 
 pub returns-clause-found : goal.returns-clause-found
 returns-clause-found c =
     let l : Left c.args.text.now c.line_count-lines.result c.lines.i c.lines-test.numbers =
-        elim c.lines-test.branch [
-          else-lines-test w ↦ rw w.numbers-is (page_done c.lines.invariant w.lines-test.false)
-        | then-lines-test+then-loop-j-test+in_default w ↦
-            rw w.numbers-is (page_bad_field w.loop-j.invariant w.loop-j-test.true (told_no_field (sym w.in_default.is ∙ w.field_in.ensures)))
-        | then-lines-test+else-loop-j-test+then-text-i-ne10 w ↦
-            rw w.numbers-is (page_bad_feed w.loop-j.invariant w.loop-j-test.false w.if-text-i-ne10.true)
-        ] in
+    elim c.lines-test.branch [
+      | else-lines-test w ↦ rw w.numbers-is (page_done c.lines.invariant w.lines-test.false)
+      | then-lines-test+then-loop-j-test+in_default w ↦
+          rw w.numbers-is (page_bad_field w.loop-j.invariant w.loop-j-test.true (told_no_field (sym w.in_default.is ∙ w.field_in.ensures)))
+      | then-lines-test+else-loop-j-test+then-text-i-ne10 w ↦
+          rw w.numbers-is (page_bad_feed w.loop-j.invariant w.loop-j-test.false w.if-text-i-ne10.true)
+    ] in
     (answer_good _ c.lines-test.numbers (l.good c.if-i-lines.false)).0
 
 pub returns-clause-numbers : goal.returns-clause-numbers
 returns-clause-numbers c =
     let l : Left c.args.text.now c.line_count-lines.result c.lines.i c.lines-test.numbers =
-        elim c.lines-test.branch [
-          else-lines-test w ↦ rw w.numbers-is (page_done c.lines.invariant w.lines-test.false)
-        | then-lines-test+then-loop-j-test+in_default w ↦
-            rw w.numbers-is (page_bad_field w.loop-j.invariant w.loop-j-test.true (told_no_field (sym w.in_default.is ∙ w.field_in.ensures)))
-        | then-lines-test+else-loop-j-test+then-text-i-ne10 w ↦
-            rw w.numbers-is (page_bad_feed w.loop-j.invariant w.loop-j-test.false w.if-text-i-ne10.true)
-        ] in
+    elim c.lines-test.branch [
+      | else-lines-test w ↦ rw w.numbers-is (page_done c.lines.invariant w.lines-test.false)
+      | then-lines-test+then-loop-j-test+in_default w ↦
+          rw w.numbers-is (page_bad_field w.loop-j.invariant w.loop-j-test.true (told_no_field (sym w.in_default.is ∙ w.field_in.ensures)))
+      | then-lines-test+else-loop-j-test+then-text-i-ne10 w ↦
+          rw w.numbers-is (page_bad_feed w.loop-j.invariant w.loop-j-test.false w.if-text-i-ne10.true)
+    ] in
     (answer_good _ _ (l.good c.if-i-lines.false)).1

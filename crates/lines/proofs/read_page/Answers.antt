@@ -10,7 +10,6 @@ use Rattle.lines.proofs.LineLoops.{zeros_part, answer_line, answer_none, page_fe
 use Rattle.lines.proofs.LineLaws.{page_good, page_bad}
 use Rattle.lines.specs.declared.FirstBad as B
 use Rattle.lines.specs.declared.Page as P
-use borrow.Author.Rules.{rules}
 use Rattle.lines.proofs.read_page.Goals as goal
 
 pub slice_bounds-read_numbers-end : goal.slice_bounds-read_numbers-end

@@ -2,7 +2,6 @@
 use Prim.Native.Nat.{ℕ, ◌-◌, ◌^◌, ◌<◌, min}
 use Rattle.sets.proofs.Shift.{shifted}
 use Rattle.sets.specs.Set.{firsts}
-use borrow.Author.Rules.{rules}
 use lib.Pow.{pow_pos}
 use mathlib.Core.Path.{◌≡◌, ap, ◌∙◌}
 use native.Mathlib.Omega.{arith}

@@ -2,7 +2,6 @@
 use Prim.Native.Nat.{◌^◌, ◌<◌}
 use Rattle.sets.specs.Set.{has}
 use Rattle.sets.proofs.SetLaws.{has_beyond}
-use borrow.Author.Rules.{rules}
 use mathlib.Core.Path.{refl, sym}
 use native.Mathlib.Omega.{arith}
 use Rattle.sets.proofs.has.Goals as goal

@@ -1,7 +1,6 @@
 -- `sets::is_single` meets its contract. Assumes nothing.
 use Prim.Native.Nat.{ℕ}
 use Rattle.sets.specs.Set.{is_single}
-use borrow.Author.Rules.{rules}
 use lib.Dec.{eqb}
 use mathlib.Core.Path.{ap}
 use Rattle.sets.proofs.is_single.Goals as goal

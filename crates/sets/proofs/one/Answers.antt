@@ -1,7 +1,6 @@
 -- `sets::one` meets its contract. Assumes nothing.
 use Rattle.sets.proofs.Shift.{shifted}
 use Rattle.sets.proofs.SetLaws.{one_is, one_none}
-use borrow.Author.Rules.{rules}
 use mathlib.Core.Path.{sym, ◌∙◌}
 use native.Mathlib.Omega.{arith}
 use Rattle.sets.proofs.one.Goals as goal

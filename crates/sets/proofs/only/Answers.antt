@@ -1,7 +1,6 @@
 -- `sets::only` meets its contract. Assumes nothing.
 use Rattle.sets.specs.Set.{is_single}
 use Rattle.sets.proofs.SetLaws.{only_when, only_unless}
-use borrow.Author.Rules.{rules}
 use borrow.Author.Tests.{eq-eqb, ne_eqb}
 use lib.Count.{trailing_le}
 use mathlib.Core.Path.{◌≡◌, sym, ◌∙◌}

@@ -1,6 +1,5 @@
 -- `sets::with_element` meets its contract. Assumes nothing.
 use Rattle.sets.specs.Set.{with, union}
-use borrow.Author.Rules.{rules}
 use lib.Bits.{bit_or}
 use mathlib.Core.Path.{ap}
 use Rattle.sets.proofs.with_element.Goals as goal

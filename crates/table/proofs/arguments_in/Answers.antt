@@ -1,6 +1,5 @@
 -- `table::arguments_in` meets its contract. Assumes nothing.
 use Rattle.table.specs.Table.{arguments_in}
-use borrow.Author.Rules.{rules}
 use Rattle.table.proofs.arguments_in.Goals as goal
 
 pub returns : goal.returns

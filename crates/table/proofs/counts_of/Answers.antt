@@ -1,6 +1,5 @@
 -- `table::counts_of` meets its contract. Assumes nothing.
 use Rattle.table.specs.Table.{counts_of}
-use borrow.Author.Rules.{rules}
 use Rattle.table.proofs.counts_of.Goals as goal
 
 pub returns : goal.returns

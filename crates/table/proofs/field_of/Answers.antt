@@ -8,7 +8,6 @@ use lib.ListN.{length, get_or, get_or-eq_default}
 use lib.IntN.{ℤ, pos}
 use mir.Facts.{to_z-of_z}
 use mir.Syntax.{w32}
-use borrow.Author.Rules.{rules}
 use Rattle.table.specs.Fields.{plain}
 use Rattle.table.proofs.field_of.Goals as goal
 

@@ -1,11 +1,9 @@
 -- `table::is_unused` meets its contract: the loop looks for the first field that is not 0. Assumes nothing.
-use borrow.Author.Rules.{rules}
 use mathlib.Core.Path.{sym, ap, ◌∙◌}
 use borrow.Author.Tests.{eq-eqb, ne_eqb, le-leb, lt-leb}
-use Prim.Native.Nat.{◌-◌}
 use lib.Dec.{leb}
-use Rattle.table.specs.Fields.{is_zero, unused}
-use Rattle.table.proofs.UntilLaws.{Looking, looking_start, looking_next, looking_stop, looking_done}
+use Rattle.table.specs.Fields.{unused}
+use Rattle.table.proofs.UntilLaws.{looking_start, looking_next, looking_stop, looking_done}
 use Rattle.table.proofs.is_unused.Goals as goal
 
 pub loop-j-init : goal.loop-j-init

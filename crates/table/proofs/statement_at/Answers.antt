@@ -1,5 +1,4 @@
 -- `table::statement_at` meets its contract. Assumes nothing.
-use borrow.Author.Rules.{rules}
 use Rattle.table.proofs.statement_at.Goals as goal
 
 pub returns : goal.returns

@@ -3,7 +3,6 @@ use borrow.Author.Tests.{ne_eqb}
 use mir.Syntax.{w32}
 use mir.Facts.{to_z-of_z}
 use Rattle.table.specs.Table.{statement_in}
-use borrow.Author.Rules.{rules}
 use Rattle.table.proofs.statement_in.Goals as goal
 
 pub returns-in-1 : goal.returns-in-1
