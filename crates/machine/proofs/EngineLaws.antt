@@ -7,7 +7,7 @@ use Rattle.table.specs.View.{view, starts}
 use Rattle.table.proofs.ViewLaws.{on_or_lem}
 use Rattle.table.specs.declared.Statement.{Statement}
 use Rattle.machine.specs.State.{State, Frame, thread}
-use Rattle.machine.specs.Step.{Answer, moved, refused, step, after, run_by, run}
+use Rattle.machine.specs.Step.{Answer, moved, refused, step, after, run}
 use Rattle.machine.specs.Engine.{limit, limit_of, engine_step, answer, engine_run, answers}
 use Rattle.machine.proofs.Laws.{Within, step_within}
 use Rattle.machine.specs.Stretch.{Stepping}
@@ -47,7 +47,7 @@ within_low (refused k) h = omega arith
 -- ---- the engine's run
 
 pub engine_runs_as_machine : (t : Table) (state : State) (ns : List ℕ) → engine_run t state ns ≡ run t state (unlimited t state ns)
-unfolding run_by unlimited
+unfolding engine_run run unlimited
 engine_runs_as_machine t state [] = refl
 engine_runs_as_machine t state (n ∷ ns) =
     engine_runs_as_machine t (after state (engine_step t state n)) ns ∙ go (eqb over 0) refl (λ new. unlimited t new ns)

@@ -15,7 +15,7 @@ use Rattle.table.specs.declared.Arguments.{Arguments}
 use Rattle.table.specs.declared.Statement.{Statement}
 use Rattle.table.specs.declared.Statement.TheVariants.{Read, Write, Set, Add, Take, Give, Point, Call, Start, Jump, JumpZero, Return, TakeRead}
 use Rattle.machine.specs.State.{State, Frame, Thread, Holder, free, ended, thread, holder, refers, opened, start}
-use Rattle.machine.specs.Step.{refused, Turn, passes, stops, taking, reading, giving, is_zero, going, goes_on, turned, operate, stepped, step, after, run_by, run}
+use Rattle.machine.specs.Step.{refused, Turn, passes, stops, taking, reading, giving, is_zero, going, goes_on, turned, operate, stepped, step, after, run}
 use Rattle.machine.specs.Engine.{frame_slots, limit_of, engine_step, engine_run}
 use Rattle.machine.proofs.EngineLaws.{unlimited, engine_runs_as_machine}
 use Rattle.machine.specs.Words.{Next}
@@ -159,7 +159,7 @@ module _ {t : Table} (accepted : Accepted t) where
   -- ---- every state that is reached
 
   run_bounded : (ns : List ℕ) (state : State) → Bounded t state → Bounded t (run t state ns)
-  unfolding run_by
+  unfolding run
   run_bounded [] state b = b
   run_bounded (n ∷ ns) state b = run_bounded ns (after state (step t state n)) (step_bounded state b n)
 

@@ -36,7 +36,7 @@ without_none n (m ∷ ms) = go (without_none n ms) (eqb m n) refl
     go later true e = later
     go later false e = rw e later
 
--- ---- a lock is free, held for writing by one thread, or held for reading by some
+-- ---- "A lock is free, held for writing by one thread, or held for reading by some"
 
 -- who holds for writing also holds in either way
 pub writing_holds : (w : Bool) (h : Holder) (n : ℕ) → holds_in true h n ≡ true → holds_in w h n ≡ true
@@ -69,6 +69,10 @@ pub on_both : (turn : Turn) {P Q R : Holder → Type 0} → ((new : Holder) → 
 on_both (passes new) f p q = f new p q
 on_both (stops number) f p q = tt
 
+-- every other thread holds what it held
+abbrev pub OthersKeep : ℕ → Holder → Holder → Type 0
+OthersKeep n old new = (w : Bool) (o : ℕ) → (o ≡ n → ⊥) → holds_in w old o ≡ true → holds_in w new o ≡ true
+
 -- every thread holds what it held
 abbrev pub AllKeep : Holder → Holder → Type 0
 AllKeep old new = (w : Bool) (o : ℕ) → holds_in w old o ≡ true → holds_in w new o ≡ true
@@ -76,6 +80,9 @@ AllKeep old new = (w : Bool) (o : ℕ) → holds_in w old o ≡ true → holds_i
 -- every other thread holds what it held, and nothing else
 abbrev pub OthersSame : ℕ → Holder → Holder → Type 0
 OthersSame n old new = (w : Bool) (o : ℕ) → (o ≡ n → ⊥) → holds_in w new o ≡ holds_in w old o
+
+others_keep : (n : ℕ) (old : Holder) (turn : Turn) → OnPass turn (OthersSame n old) → OnPass turn (OthersKeep n old)
+others_keep n old turn same = on_both turn {R = OthersKeep n old} (λ new others too w o other has. others w o other ∙ has) same same
 
 -- TAKE holds in both ways
 pub taking_gets : (n : ℕ) (old : Holder) → OnPass (taking n old) (λ new. (w : Bool) → holds_in w new n ≡ true)
@@ -88,10 +95,13 @@ taking_keeps n (writer m) = tt
 taking_keeps n (readers []) = λ w o e. never (sym (free_held w o) ∙ e)
 taking_keeps n (readers (m ∷ ms)) = tt
 
-pub taking_others : (n : ℕ) (old : Holder) → OnPass (taking n old) (OthersSame n old)
-taking_others n (writer m) = tt
-taking_others n (readers []) = λ w o other. ne_eqb n o (λ e. other (sym e)) ∙ sym (free_held w o)
-taking_others n (readers (m ∷ ms)) = tt
+pub taking_others_same : (n : ℕ) (old : Holder) → OnPass (taking n old) (OthersSame n old)
+taking_others_same n (writer m) = tt
+taking_others_same n (readers []) = λ w o other. ne_eqb n o (λ e. other (sym e)) ∙ sym (free_held w o)
+taking_others_same n (readers (m ∷ ms)) = tt
+
+pub taking_others : (n : ℕ) (old : Holder) → OnPass (taking n old) (OthersKeep n old)
+taking_others n old = others_keep n old (taking n old) (taking_others_same n old)
 
 -- TAKER holds in one, and loses nothing
 pub reading_gets : (n : ℕ) (old : Holder) → OnPass (reading n old) (λ new. holds_in false new n ≡ true)
@@ -102,7 +112,7 @@ reading_gets n (readers ms) = go (among n ms)
     go true = tt
     go false = among_first n ms
 
-pub reading_keeps : (n : ℕ) (old : Holder) → OnPass (reading n old) (AllKeep old)
+pub reading_keeps : (n : ℕ) (old : Holder) → OnPass (reading n old) (λ new. (w : Bool) (o : ℕ) → holds_in w old o ≡ true → holds_in w new o ≡ true)
 reading_keeps n (writer m) = tt
 reading_keeps n (readers ms) = go (among n ms)
   where
@@ -143,13 +153,13 @@ giving_ends n (readers ms) = go (among n ms)
     go true = ended
     go false = tt
 
-pub giving_others : (n : ℕ) (old : Holder) → OnPass (giving n old) (OthersSame n old)
-giving_others n (writer m) = go (eqb m n) refl
+pub giving_others_same : (n : ℕ) (old : Holder) → OnPass (giving n old) (OthersSame n old)
+giving_others_same n (writer m) = go (eqb m n) refl
   where
     go : (b : Bool) → eqb m n ≡ b → OnPass (cond b (passes free) (stops 17)) (OthersSame n (writer m))
     go true e = λ w o other. free_held w o ∙ sym (ne_eqb m o (λ i. other (sym i ∙ eqb-true m n e)))
     go false e = tt
-giving_others n (readers ms) = go (among n ms)
+giving_others_same n (readers ms) = go (among n ms)
   where
     same : OthersSame n (readers ms) (readers (without n ms))
     same true o other = refl
@@ -158,6 +168,9 @@ giving_others n (readers ms) = go (among n ms)
     go : (b : Bool) → OnPass (cond b (passes (readers (without n ms))) (stops 17)) (OthersSame n (readers ms))
     go true = same
     go false = tt
+
+pub giving_others : (n : ℕ) (old : Holder) → OnPass (giving n old) (OthersKeep n old)
+giving_others n old = others_keep n old (giving n old) (giving_others_same n old)
 
 -- ---- when a turn passes
 

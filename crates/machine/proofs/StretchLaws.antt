@@ -1,8 +1,8 @@
 -- What a step does to cells and holds: a cell that it does not WRITE and a hold that it does not GIVE up stay, a TAKE or TAKER that runs gets its lock, and a READ the
--- cell's value; so two READs with no WRITE between them get the same. Assumes nothing.
-use Rattle.std.specs.Prelude.{ℕ, ◌<◌, ◌≡◌, Bool, cond, ◌⊎◌, eqb, ltb, ℤ, pos, get_or, set}
+-- cell's value; so two READs with no WRITE between them get the same. Only started threads hold locks. Assumes nothing.
+use Rattle.std.specs.Prelude.{ℕ, ◌+◌, ◌<◌, ◌≡◌, Bool, cond, ◌⊎◌, eqb, ltb, ℤ, pos, get_or, set}
 use Rattle.std.proofs.Math.Path.{refl, sym, ap, subst}
-use Rattle.std.proofs.Common.{◌∙◌, inl, inr, arith, get_or-set_same, eqb-true, ltb-true}
+use Rattle.std.proofs.Common.{◌∙◌, inl, inr, arith, get_or-set_same, eqb-true, ltb-true, length-set, length-append}
 use Rattle.std.proofs.Math.Bool.{true, false}
 use mathlib.Core.List.{List, [], ◌∷◌, ◌++◌}
 use Rattle.std.proofs.Math.ListN.{length}
@@ -10,16 +10,18 @@ use Rattle.std.proofs.Math.Seq.{get_or-set_other}
 use Rattle.std.proofs.lemmas.Bool.{eqb-false}
 use Rattle.table.specs.Table.{Table, statement}
 use Rattle.table.specs.View.{view}
+use Rattle.table.proofs.TabulateLaws.{replicate_at}
 use Rattle.table.proofs.ViewLaws.{nothing_to, one_reference, write_alone}
 use Rattle.table.specs.declared.Reference.TheVariants.{To, Nothing}
 use Rattle.table.specs.declared.Statement.{Statement}
 use Rattle.table.specs.declared.Statement.TheVariants.{Read, Write, Set, Add, Take, Give, Point, Call, Start, Jump, JumpZero, Return, TakeRead}
 use Rattle.machine.proofs.Lists.{set_case}
-use Rattle.machine.specs.State.{State, Thread, Frame, Holder, free, holds_in, thread, ended, holder, refers}
-use Rattle.machine.specs.Step.{Answer, moved, refused, Turn, passes, stops, taking, reading, giving, turned, operate, stepped, step, after, run_by}
+use Rattle.machine.specs.State.{State, Thread, Frame, Holder, free, holds_in, thread, ended, holder, refers, start}
+use Rattle.machine.specs.Step.{Answer, moved, refused, Turn, passes, stops, taking, reading, giving, turned, operate, stepped, step, after, run, run_by}
+use Rattle.machine.specs.Engine.{engine_step, engine_run}
 use Rattle.machine.specs.Words.{AccessIn, ReleaseIn, Next, Access, Release, Holds}
-use Rattle.machine.proofs.LockLaws.{OnPass, on_both, taking_gets, taking_keeps, reading_gets, reading_keeps, giving_others}
-use Rattle.machine.specs.Stretch.{cell, TakeIn, Stepping, Reads, Keeps, WritesNot, StaysPut}
+use Rattle.machine.proofs.LockLaws.{never, free_held, OnPass, OthersSame, on_both, taking_gets, taking_keeps, taking_others_same, reading_gets, reading_keeps, reading_others, giving_others_same}
+use Rattle.machine.specs.Stretch.{cell, Started, HeldByStarted, TakeIn, Stepping, Reads, Keeps, WritesNot, StaysPut}
 
 -- ---- a step
 
@@ -132,7 +134,7 @@ module _ (t : Table) (state : State) (n : ℕ) (there : n < length state.threads
             same_or n m (λ e. absurd (spared e (h.number, refl, refl))) (λ other. others false m (λ e. other (sym e)) ∙ has);
         got = λ j is. nothing_to is;
       })
-      (giving_others n who) (giving_others n who))
+      (giving_others_same n who) (giving_others_same n who))
   operate_leaves (Set number) = plain (Set number) _ refl refl refl refl
   operate_leaves (Add number) = plain (Add number) _ refl refl refl refl
   operate_leaves (Point h g) = plain (Point h g) _ refl refl refl refl
@@ -162,6 +164,82 @@ module _ (t : Table) (state : State) (n : ℕ) where
       started? true e = go (ltb-true n (length state.threads) e) (thread state n).frames
       started? false e = refused_leaves state n _ _ _ _ 14
 
+-- ---- only started threads hold locks: thread m is not given one but by a step of its own
+
+module _ (t : Table) (state : State) (n : ℕ) (there : n < length state.threads) (started : HeldByStarted state) (a : ℤ) (f : Frame) (older : List Frame) where
+  -- the locks stay, and no thread goes
+  stays : (answer : Answer) → (after state answer).locks ≡ state.locks → length state.threads < length (after state answer).threads + 1
+      → HeldByStarted (after state answer)
+  stays answer locks more m k has =
+      let before = started m k (subst (λ (l : List Holder). holds_in false (get_or l k free) m ≡ true) locks has) in
+      omega (arith, before, more)
+
+  same_threads : (b : Thread) → length state.threads < length (set state.threads n b) + 1
+  same_threads b = omega (arith, length-set state.threads n b)
+
+  one_more : (b new : Thread) → length state.threads < length (set state.threads n b ++ new ∷ []) + 1
+  one_more b new = omega (arith, same_threads b, length-append (set state.threads n b) (new ∷ []))
+
+  turn_started : (lock : ℕ) (turn : Turn) → OnPass turn (OthersSame n (holder state lock)) → HeldByStarted (after state (turned t state n a f older lock turn))
+  turn_started lock (passes who) same = λ m k.
+      rw length-set
+      (set_case (λ (w : Holder). holds_in false w m ≡ true → m < length state.threads) state.locks lock k who free
+      (λ at has. same_or m n (λ e. omega (arith, there, e)) (λ other. started m lock (sym (same false m other) ∙ has))) (started m k))
+  turn_started lock (stops number) same = started
+
+  operate_started : (σ : Statement) → HeldByStarted (after state (operate t state n a f older σ))
+  unfolding operate
+  operate_started (Read h) = stays (operate t state n a f older (Read h)) refl (same_threads _)
+  operate_started (Write h) = stays (operate t state n a f older (Write h)) refl (same_threads _)
+  operate_started (Set number) = stays (operate t state n a f older (Set number)) refl (same_threads _)
+  operate_started (Add number) = stays (operate t state n a f older (Add number)) refl (same_threads _)
+  operate_started (Take h) = let lock = refers f h.number in turn_started lock (taking n (holder state lock)) (taking_others_same n (holder state lock))
+  operate_started (Give h) = let lock = refers f h.number in turn_started lock (giving n (holder state lock)) (giving_others_same n (holder state lock))
+  operate_started (Point h g) = stays (operate t state n a f older (Point h g)) refl (same_threads _)
+  operate_started (Call r arguments) = stays (operate t state n a f older (Call r arguments)) refl (same_threads _)
+  operate_started (Start r arguments) =
+      stays (operate t state n a f older (Start r arguments)) refl (one_more _ _)
+  operate_started (Jump s) = stays (operate t state n a f older (Jump s)) refl (same_threads _)
+  operate_started (JumpZero s) = stays (operate t state n a f older (JumpZero s)) refl (same_threads _)
+  operate_started Return = stays (operate t state n a f older Return) refl (same_threads _)
+  operate_started (TakeRead h) = let lock = refers f h.number in turn_started lock (reading n (holder state lock)) (reading_others n (holder state lock))
+
+module _ (t : Table) (state : State) (n : ℕ) (started : HeldByStarted state) where
+  -- a step keeps it
+  step_started : HeldByStarted (after state (step t state n))
+  unfolding step stepped
+  step_started = started? (ltb n (length state.threads)) refl
+    where
+      go : n < length state.threads → (fs : List Frame) → HeldByStarted (after state (stepped t state n (thread state n).accumulator fs))
+      go there [] = started
+      go there (f ∷ older) = operate_started t state n there started (thread state n).accumulator f older (statement t f.next)
+
+      started? : (b : Bool) → ltb n (length state.threads) ≡ b
+          → HeldByStarted (after state (cond b (stepped t state n (thread state n).accumulator (thread state n).frames) (refused 14)))
+      started? true e = go (ltb-true n (length state.threads) e) (thread state n).frames
+      started? false e = started
+
+-- where a thread holds a lock and another one was started, there are several
+pub several_started : (state : State) → HeldByStarted state → (m n k : ℕ) → (n ≡ m → ⊥) → Holds state m k → Started state n → 1 < length state.threads
+several_started state started m n k other holds here = omega (arith, started m k holds, here)
+
+-- nobody holds a lock at the start
+pub start_started : (t : Table) → HeldByStarted (start t)
+unfolding start
+start_started t n k has = never (sym (ap (λ (h : Holder). holds_in false h n) (replicate_at t.locks k free) ∙ free_held false n) ∙ has)
+
+-- ---- the runs of the machine and of the engine are runs by their steps
+
+pub run_is_by : (t : Table) (state : State) (ns : List ℕ) → run t state ns ≡ run_by (step t) state ns
+unfolding run run_by
+run_is_by t state [] = refl
+run_is_by t state (n ∷ ns) = run_is_by t (after state (step t state n)) ns
+
+pub engine_run_is_by : (t : Table) (state : State) (ns : List ℕ) → engine_run t state ns ≡ run_by (engine_step t) state ns
+unfolding engine_run run_by
+engine_run_is_by t state [] = refl
+engine_run_is_by t state (n ∷ ns) = engine_run_is_by t (after state (engine_step t state n)) ns
+
 -- ---- every way to step the machine
 
 pub machine_steps : (t : Table) → Stepping t (step t)
@@ -174,6 +252,22 @@ module _ (t : Table) (by : State → ℕ → Answer) (steps : Stepping t by) whe
       go : (by state n ≡ step t state n) ⊎ ((number : ℕ) × (by state n ≡ refused number)) → ByFrames t state n (thread state n).frames (by state n)
       go (inl e) = subst (ByFrames t state n (thread state n).frames) (sym e) (step_leaves t state n)
       go (inr (number, e)) = subst (ByFrames t state n (thread state n).frames) (sym e) (refused_leaves state n _ _ _ _ number)
+
+  pub by_started : (state : State) (n : ℕ) → HeldByStarted state → HeldByStarted (after state (by state n))
+  by_started state n started = go (steps state n)
+    where
+      go : (by state n ≡ step t state n) ⊎ ((number : ℕ) × (by state n ≡ refused number)) → HeldByStarted (after state (by state n))
+      go (inl e) = subst (λ (answer : Answer). HeldByStarted (after state answer)) (sym e) (step_started t state n started)
+      go (inr (number, e)) = subst (λ (answer : Answer). HeldByStarted (after state answer)) (sym e) started
+
+  -- only started threads hold locks, over a list of steps, and so after every one
+  pub run_started : (state : State) (ns : List ℕ) → HeldByStarted state → HeldByStarted (run_by by state ns)
+  unfolding run_by
+  run_started state [] started = started
+  run_started state (n ∷ ns) started = run_started (after state (by state n)) ns (by_started state n started)
+
+  pub reached_started : (ns : List ℕ) → HeldByStarted (run_by by (start t) ns)
+  reached_started ns = run_started (start t) ns (start_started t)
 
   -- "A thread holds a lock from the step by which it gets it to the step by which it gives it up": over a step that is no GIVE of it by thread m, and over many
   pub keeps_hold : (m k : ℕ) (state : State) (n : ℕ) → (n ≡ m → Release t state m k → ⊥) → Holds state m k → Holds (after state (by state n)) m k

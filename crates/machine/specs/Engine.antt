@@ -4,7 +4,7 @@ use Rattle.table.specs.Table.{Table, statement}
 use Rattle.table.specs.View.{view, on_or, starts}
 use Rattle.table.specs.declared.Statement.{Statement}
 use Rattle.machine.specs.State.{State, Frame, thread}
-use Rattle.machine.specs.Step.{Answer, moved, refused, step, after, run_by}
+use Rattle.machine.specs.Step.{Answer, moved, refused, step, after}
 
 -- "32 frames a thread": those that the engine has room for. "32 frames always suffice" (C-16, FrameLaws), so no step looks at them
 abbrev pub frame_slots : ℕ
@@ -33,8 +33,10 @@ answer (moved new) = 0
 answer (refused number) = number
 
 -- the engine's state after a schedule; 14 to 18 "leave the run state, and the schedule goes on"
-abbrev pub engine_run : Table → State → List ℕ → State
-engine_run t = run_by (engine_step t)
+unfoldable pub engine_run : Table → State → List ℕ → State
+unfolding engine_step
+engine_run t state [] = state
+engine_run t state (n ∷ ns) = engine_run t (after state (engine_step t state n)) ns
 
 -- the answers to a schedule
 unfoldable pub answers : Table → State → List ℕ → List ℕ

@@ -8,7 +8,7 @@ use Rattle.table.specs.declared.Arguments.{Arguments}
 use Rattle.table.specs.declared.Statement.{Statement}
 use Rattle.table.specs.declared.Statement.TheVariants.{Read, Write, Set, Add, Take, Give, Call, Start, JumpZero, Return, TakeRead}
 use Rattle.machine.specs.State.{State, Frame, Holder, writer, readers, free, thread, holder, start, opened, entered}
-use Rattle.machine.specs.Step.{refused, saturate, step, after, run_by, run}
+use Rattle.machine.specs.Step.{refused, saturate, step, after, run}
 use Rattle.machine.specs.Engine.{frame_slots, engine_step, answer}
 use Rattle.machine.specs.Words.{Safe}
 use Rattle.machine.specs.Stretch.{cell, Gets, Keeps, StaysPut}
@@ -68,7 +68,7 @@ zero_alone_jumps = (refl, refl)
 pub own_lock_stays_shut :
     let t = alone (Take (record { number = 0 }) ∷ Take (record { number = 0 }) ∷ Return ∷ []) in
     step t (run t (start t) (0 ∷ [])) 0 ≡ refused 16
-unfolding alone step run_by start opened entered tabulate_from tabulate
+unfolding alone run start opened entered tabulate_from tabulate
 own_lock_stays_shut = refl
 
 -- (b) of demand 3 says something: a thread that stands before a GIVE of a free lock is not safe
@@ -97,12 +97,12 @@ standing nexts =
 
 -- who holds the lock after the steps of these threads
 unfoldable pub holder_after : List Statement → List ℕ → List ℕ → Holder
-unfolding alone standing step run_by
+unfolding alone standing run
 holder_after statements nexts ns = holder (run (alone statements) (standing nexts) ns) 0
 
 -- what a step of thread n is answered with then
 unfoldable pub answer_after : List Statement → List ℕ → List ℕ → ℕ → ℕ
-unfolding alone standing step run_by
+unfolding alone standing run
 answer_after statements nexts ns n = answer (step (alone statements) (run (alone statements) (standing nexts) ns) n)
 
 -- "Display threads only read and should not wait for one another": two hold the lock for reading at once
@@ -166,7 +166,7 @@ example =
 
 -- after one step of thread 0 it stands before a WRITE of cell 0, and thread 1 before a READ of it
 pub example_races : Safe example (run example (start example) (0 ∷ [])) → ⊥
-unfolding example step run_by start opened entered tabulate_from tabulate
+unfolding example run start opened entered tabulate_from tabulate
 example_races safe = safe.no_race 0 1 0 true false (omega arith) (0, refl, refl) (1, refl, refl) (inl refl)
 
 -- ---- C-22: main STARTs a thread that WRITEs a value under the lock, takes the lock by `asking`, and READs the cell twice under it
@@ -192,7 +192,7 @@ twice asking value =
 
 -- the state after these steps
 unfoldable pub twice_after : Statement → ℕ → List ℕ → State
-unfolding twice step run_by start opened entered tabulate_from tabulate
+unfolding twice run start opened entered tabulate_from tabulate
 twice_after asking value ns = run (twice asking value) (start (twice asking value)) ns
 
 -- "the step by which a thread gets that lock, for reading or writing": TAKE, and TAKER
@@ -244,7 +244,7 @@ chain =
 
 -- "32 frames always suffice", and no fewer: thread 0 has 32 open after 31 steps
 pub chain_is_32_deep : length (thread (run chain (start chain) (replicate 31 0)) 0).frames ≡ frame_slots
-unfolding chain step run_by start opened entered tabulate_from tabulate
+unfolding chain run start opened entered tabulate_from tabulate
 chain_is_32_deep = refl
 
 -- no step of the engine looks at the frames: a CALL that found 32 open, as none ever does, would run

@@ -123,11 +123,13 @@ abbrev pub after : State → Answer → State
 after state (moved new) = new
 after state (refused number) = state
 
+-- the state after a list of thread numbers
+unfoldable pub run : Table → State → List ℕ → State
+unfolding step
+run t state [] = state
+run t state (n ∷ ns) = run t (after state (step t state n)) ns
+
 -- the state after a list of thread numbers, each step answered by `by`
 unfoldable pub run_by : (State → ℕ → Answer) → State → List ℕ → State
 run_by by state [] = state
 run_by by state (n ∷ ns) = run_by by (after state (by state n)) ns
-
--- by the machine
-abbrev pub run : Table → State → List ℕ → State
-run t = run_by (step t)

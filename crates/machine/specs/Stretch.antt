@@ -1,16 +1,24 @@
 -- The words of C-22: from the step by which a thread gets a lock until it gives it up, in every order of steps. A step is answered by `by`: the machine, or the
 -- engine. Assumes nothing.
-use Rattle.std.specs.Prelude.{ℕ, ◌≡◌, true, false, List, [], ◌∷◌, ◌⊎◌, ℤ, pos, get_or}
+use Rattle.std.specs.Prelude.{ℕ, ◌<◌, ◌≡◌, true, false, List, [], ◌∷◌, ◌⊎◌, ℤ, pos, get_or, length}
 use Rattle.table.specs.Table.{Table}
 use Rattle.table.specs.View.{view, On}
 use Rattle.table.specs.declared.Statement.{Statement}
 use Rattle.machine.specs.State.{State, Frame, thread, refers}
 use Rattle.machine.specs.Step.{Answer, moved, refused, step, after}
-use Rattle.machine.specs.Words.{AccessIn, Next, Access, Release}
+use Rattle.machine.specs.Words.{AccessIn, Next, Access, Release, Holds}
 
 -- the value of cell x
 abbrev pub cell : State → ℕ → ℤ
 cell state x = get_or state.cells x (pos 0)
+
+-- thread n was started
+abbrev pub Started : State → ℕ → Type 0
+Started state n = n < length state.threads
+
+-- only started threads hold locks
+abbrev pub HeldByStarted : State → Type 0
+HeldByStarted state = (n k : ℕ) → Holds state n k → Started state n
 
 -- the statement, in frame f, takes lock k, for reading or writing: a TAKE or TAKER
 abbrev pub TakeIn : Frame → Statement → ℕ → Type 0
