@@ -1,19 +1,14 @@
 -- Demand 3: a text that is accepted and whose report counts no unguarded cell and no stray GIVE is safe after every list of thread numbers. Assumes nothing.
-use Rattle.std.specs.Prelude.{◌≡◌, List, [], ◌∷◌, ℕ, ◌-◌, ℤ, pos, length, get_or, drop}
+use Rattle.std.specs.Prelude.{◌≡◌, List, [], ◌∷◌, ℕ, ℤ, pos, get_or}
 use Rattle.std.proofs.Common.{sym, ap, ◌∙◌}
-use Rattle.std.proofs.Math.Option.{some}
-use Rattle.lines.specs.Line.{line_of, numbers_of}
-use Rattle.table.specs.Table.{Table, table_of}
+use Rattle.table.specs.Table.{Table}
 use Rattle.table.specs.Accepted.{Accepted}
 use Rattle.table.proofs.AcceptedLaws.{accepted}
 use Rattle.table.specs.Verdict.{verdict}
 use Rattle.table.specs.declared.Verdict as Declared
-use Rattle.machine.specs.State.{State, start}
-use Rattle.machine.specs.Step.{Answer, step, run_by, run}
-use Rattle.machine.specs.Engine.{engine_step, engine_run}
-use Rattle.machine.proofs.EngineLaws.{engine_steps}
-use Rattle.machine.specs.Stretch.{Stepping}
-use Rattle.machine.proofs.StretchLaws.{machine_steps}
+use Rattle.machine.specs.State.{start}
+use Rattle.machine.specs.Step.{run}
+use Rattle.machine.specs.Engine.{engine_run}
 use Rattle.machine.specs.Words.{Safe}
 use Rattle.report.specs.Layout.{one_each}
 use Rattle.report.specs.Fits.{copies_of}
@@ -23,6 +18,7 @@ use Rattle.report.proofs.ReportRules.{families}
 use Rattle.report.proofs.ReportLaws.{clean_report, report_satisfies}
 use Rattle.report.proofs.ReportTextLaws.{last_49}
 use Rattle.guarantee.proofs.Theorem.{clean_runs_safe}
+use Rattle.guarantee.proofs.Engine.{clean_engine_runs_safe}
 use Rattle.guarantee.specs.Demand.{Counts, table_in}
 
 -- the totals that the report prints are those of its last line
@@ -33,13 +29,9 @@ printed_totals t acc u z c =
     let same : last_line (report_lines t) ≡ pos 59 ∷ u ∷ z ∷ pos 0 ∷ pos 0 ∷ pos 0 ∷ pos 0 ∷ pos 0 ∷ [] = cc in
     (ap (λ (l : List ℤ). get_or l 1 (pos 0)) same, ap (λ (l : List ℤ). get_or l 2 (pos 0)) same)
 
-clean_steps_safe : (t : Table) → Accepted t → unguarded_total t ≡ pos 0 → stray_total t ≡ pos 0 → (by : State → ℕ → Answer) → Stepping t by → (ns : List ℕ)
-    → Safe t (run_by by (start t) ns)
-clean_steps_safe t acc u z =
-    clean_runs_safe acc (copies_of (one_each_fits t acc)) (families t (one_each t)) (report_satisfies t acc) (clean_report t acc u z)
-
 pub clean_table_safe : (t : Table) → Accepted t → unguarded_total t ≡ pos 0 → stray_total t ≡ pos 0 → (ns : List ℕ) → Safe t (run t (start t) ns)
-clean_table_safe t acc u z = clean_steps_safe t acc u z (step t) (machine_steps t)
+clean_table_safe t acc u z ns =
+    clean_runs_safe acc (copies_of (one_each_fits t acc)) (families t (one_each t)) (report_satisfies t acc) (clean_report t acc u z) ns
 
 -- Demand 3. For every text that is accepted and whose report's line 59, as printed, counts no unguarded cell and no stray GIVE, and for every finite list of
 -- thread numbers: after the machine, with no limit on threads or frames, has run the whole list from its start, no two different threads stand before
@@ -58,4 +50,4 @@ demand_3_engine text e c ns =
     let t = table_in text in
     let acc = accepted text e in
     let totals = printed_totals t acc (pos 0) (pos 0) c in
-    clean_steps_safe t acc totals.0 totals.1 (engine_step t) (engine_steps t) ns
+    clean_engine_runs_safe acc (copies_of (one_each_fits t acc)) (families t (one_each t)) (report_satisfies t acc) (clean_report t acc totals.0 totals.1) ns

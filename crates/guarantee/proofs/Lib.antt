@@ -5,6 +5,7 @@ pub mod Threads
 pub mod Operations
 pub mod Runs
 pub mod Theorem
+pub mod Engine
 pub mod StaysPut
 pub mod Demand
 pub mod Reading

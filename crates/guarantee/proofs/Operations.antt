@@ -1,7 +1,7 @@
 -- The invariant is kept by each operation. Assumes nothing.
 use Rattle.std.specs.Prelude.{ℕ, ◌+◌, ◌<◌, ◌≡◌, Bool, cond, List, [], ◌∷◌, ◌⊎◌, ℤ, pos, get_or, length, set}
-use Rattle.std.proofs.Math.Path.{refl}
 use Rattle.std.proofs.Common.{sym, ap, ◌∙◌, subst, ⊎_elim, length-set, get_or-set_same}
+use Rattle.std.proofs.Math.Path.{refl}
 use Rattle.std.proofs.Math.Bool.{true, false}
 use Rattle.std.proofs.Math.Logic.{inl, inr}
 use Rattle.table.specs.Table.{Table, routine, statement}
@@ -16,7 +16,7 @@ use Rattle.table.specs.declared.Statement.TheVariants.{Read, Write, Set, Add, Ta
 use Rattle.machine.specs.State.{State, Frame, Holder, free, holds_in, holder, opened}
 use Rattle.machine.proofs.Lists.{set_case}
 use Rattle.machine.specs.Step.{Answer, moved, Turn, passes, stops, taking, reading, giving, turned, operate, with_thread, after, is_zero}
-use Rattle.machine.proofs.LockLaws.{OnPass, on_both, AllKeep, OthersSame, taking_gets, taking_others, reading_gets, reading_keeps, reading_others, giving_others}
+use Rattle.machine.proofs.LockLaws.{OnPass, on_both, OthersKeep, taking_gets, taking_others, reading_gets, reading_keeps, giving_others}
 use Rattle.report.specs.Rules.{Copies, Place, Goes, After, Clash, Families, Rules, Passing}
 use Rattle.guarantee.proofs.Lists.{replaced, replaced_all}
 use Rattle.guarantee.specs.Invariant.{Mark, Several, newest, waiting, older, Fits, Valued, Has, Stands, AllWait, Good, Left, Potential}
@@ -79,7 +79,7 @@ module _ {t : Table} (accepted : Accepted t) (copies : Copies t) (f : Families) 
   in_frame : (s : ℕ) (values : List ℕ) (b : ℤ) (cells : List ℤ) (locks : List Holder) (σ : Statement) → statement t m.place ≡ σ → Goes m.place σ s
       → length locks ≡ t.locks → Valued copies f m.copy values → ((w : Bool) (k : ℕ) → f.held w m.copy s k → Has copies f locks n w k)
       → AllWait copies f locks n m.copy ms
-      → ((o : ℕ) (w : Bool) (k : ℕ) → (o ≡ n → ⊥) → holds_in w (get_or locks k free) o ≡ holds_in w (holder state k) o)
+      → ((o : ℕ) (w : Bool) (k : ℕ) → (o ≡ n → ⊥) → Has copies f state.locks o w k → Has copies f locks o w k)
       → Kept copies f state
       (moved (with_thread state n b (newest copies f (record { copy = m.copy; place = s; values = values }) ∷ older copies f ms) cells locks))
   in_frame s values b cells locks σ eq g all valued holds wait others = (
@@ -109,7 +109,7 @@ module _ {t : Table} (accepted : Accepted t) (copies : Copies t) (f : Families) 
       (moved (with_thread state n b (newest copies f (record { copy = m.copy; place = s; values = m.values }) ∷ older copies f ms) cells state.locks))
   onward s b cells σ eq g takes calls =
       in_frame s m.values b cells state.locks σ eq g inv.all_locks_lem top.valued
-      (λ w k held. top.holds w k (adds_none w k σ takes calls (after_as σ eq s g w k held))) below (λ o w k other. refl)
+      (λ w k held. top.holds w k (adds_none w k σ takes calls (after_as σ eq s g w k held))) below (λ o w k other has. has)
 
   -- ---- TAKE, TAKER and GIVE
 
@@ -141,16 +141,15 @@ module _ {t : Table} (accepted : Accepted t) (copies : Copies t) (f : Families) 
       keeps : (o : ℕ) (w : Bool) (k : ℕ) → (k ≡ lock → holds_in w new o ≡ true) → Has copies f state.locks o w k → Has copies f after_turn o w k
       keeps o w k here has = set_case (λ x. holds_in w x o ≡ true) state.locks lock k new free here has
 
-      others_same : OthersSame n (holder state lock) new → (o : ℕ) (w : Bool) (k : ℕ) → (o ≡ n → ⊥) → holds_in w (get_or after_turn k free) o ≡ holds_in w (holder state k) o
-      others_same others o w k other =
-          set_case (λ x. holds_in w x o ≡ holds_in w (holder state k) o) state.locks lock k new free
-          (λ at. others w o other ∙ ap (λ (j : ℕ). holds_in w (holder state j) o) (sym at)) refl
+      other_keeps : OthersKeep n (holder state lock) new → (o : ℕ) (w : Bool) (k : ℕ) → (o ≡ n → ⊥) → Has copies f state.locks o w k → Has copies f after_turn o w k
+      other_keeps others o w k other has =
+          keeps o w k (λ at. others w o other (subst (λ (j : ℕ). Has copies f state.locks o w j) at has)) has
 
-    -- where it passes, the thread goes on: it holds what the statement adds, and what it held but for what the statement may give up, and the others hold what they held
+    -- where it passes, the thread goes on: it holds what the statement adds, and what it held but for what the statement may give up, and the others lose nothing
     record Turned (new : Holder) : Type 0 where
       adds : (w : Bool) (k : ℕ) → takes_in w (view σ) ≡ To h → lock ≡ k → holds_in w new n ≡ true
       own_kept : (w : Bool) → ((view σ).gives ≡ To h → ⊥) → holds_in w (holder state lock) n ≡ true → holds_in w new n ≡ true
-      others : OthersSame n (holder state lock) new
+      others : OthersKeep n (holder state lock) new
 
     turn_kept : (takes : (w : Bool) (j : ℕ) → takes_in w (view σ) ≡ To j → j ≡ h) (turn : Turn)
         → OnPass turn Turned → Kept copies f state (turned t state n a (newest copies f m) (older copies f ms) lock turn)
@@ -159,7 +158,7 @@ module _ {t : Table} (accepted : Accepted t) (copies : Copies t) (f : Families) 
         in_frame (m.place + 1) m.values a state.cells (after_turn new) σ eq goes_on_to (length-set state.locks lock new ∙ inv.all_locks_lem) top.valued
         (λ w k held. holds w k (after_as σ eq (m.place + 1) goes_on_to w k held))
         (wait_still copies f rules state.locks (after_turn new) n m.copy ms (λ w k not_given has. kept w k (λ at gave. not_given (given at gave)) has) below)
-        (others_same new p.others)
+        (other_keeps new p.others)
       where
         given : {k : ℕ} → k ≡ lock → (view σ).gives ≡ To h → f.gives m.copy k
         given at gave =
@@ -200,9 +199,8 @@ module _ {t : Table} (accepted : Accepted t) (copies : Copies t) (f : Families) 
   taken_to_read h eq =
       turn_kept σ eq h.number own refl refl (λ w j is. one_reference (view σ).takes (taken_takes w (view σ) is) refl) (reading n who)
       (on_both (reading n who) {R = Turned σ eq h.number own refl refl}
-      (λ new own_hold others. record { adds = λ w k is at. adds new own_hold.0 w is; own_kept = λ w stays has. own_hold.1 w n has; others = others })
-      (on_both (reading n who) {R = λ new. (holds_in false new n ≡ true) × AllKeep who new} (λ new gets keeps. (gets, keeps)) (reading_gets n who) (reading_keeps n who))
-      (reading_others n who))
+      (λ new gets keeps. record { adds = λ w k is at. adds new gets w is; own_kept = λ w stays has. keeps w n has; others = λ w o other has. keeps w o has })
+      (reading_gets n who) (reading_keeps n who))
     where
       σ : Statement
       σ = TakeRead h
@@ -304,7 +302,7 @@ module _ {t : Table} (accepted : Accepted t) (copies : Copies t) (f : Families) 
             below,
           ),
         )
-        (λ o w k other. refl) (λ w x p. before w x (within w x p))
+        (λ o w k other has. has) (λ w x p. before w x (within w x p))
         (λ several. (
           rules.preceded_rules.by_call m.copy m.place new.place q top.here calls_q new_place (top_preceded several),
           (inl (top_preceded several), below_called several),
@@ -343,13 +341,13 @@ module _ {t : Table} (accepted : Accepted t) (copies : Copies t) (f : Families) 
           → Kept copies f state (moved (with_thread state n a (older copies f cs) state.cells state.locks))
       go [] wait less were = (
         replaced marks n [],
-        thread_changed copies f rules state marks inv n there a [] state.cells state.locks [] refl inv.all_locks_lem tt (λ o w k other. refl)
+        thread_changed copies f rules state marks inv n there a [] state.cells state.locks [] refl inv.all_locks_lem tt (λ o w k other has. has)
             (λ w x p. absurd p) (λ several. tt),
       )
       go (c ∷ cs) (wait, under) less were = (
         replaced marks n (back ∷ cs),
         thread_changed copies f rules state marks inv n there a _ state.cells state.locks (back ∷ cs) refl inv.all_locks_lem
-            (record { here = back_place_lem; valued = wait.valued; holds = holds }, under) (λ o w k other. refl)
+            (record { here = back_place_lem; valued = wait.valued; holds = holds }, under) (λ o w k other has. has)
             (λ w x p. less w x (⊎_elim (λ ahead. inl (ahead_follows accepted copies f rules back_place_lem goes ahead)) (λ left. inr left) p))
             (λ several. (back_preceded (were several).0, (were several).1)),
       )
@@ -478,7 +476,7 @@ module _ {t : Table} (accepted : Accepted t) (copies : Copies t) (f : Families) 
       (rules.flow_rules.point m.copy m.place h.number top.here (ap (λ (τ : Statement). (view τ).points) eq)))
       top.valued)
       (λ w k held. top.holds w k (adds_none w k (Point h g) refl refl (after_as (Point h g) eq (m.place + 1) (inr (refl, refl)) w k held))) below
-      (λ o w k other. refl)
+      (λ o w k other has. has)
   operated (Call q arguments) eq = called q arguments eq
   operated (Start q arguments) eq = started q arguments eq
   operated (Jump z) eq = onward z.statement a state.cells (Jump z) eq (inl refl) refl refl

@@ -1,5 +1,5 @@
 -- C-22, "A reading stays put while guarded": from a text and a line 51 of its report, as printed, to the values of the cell, in every order of steps. Assumes nothing.
-use Rattle.std.specs.Prelude.{ℕ, ◌≡◌, true, List, [], ◌∷◌, ◌++◌, get_or}
+use Rattle.std.specs.Prelude.{ℕ, ◌≡◌, true, List, ◌∷◌, ◌++◌, get_or}
 use Rattle.std.proofs.Common.{sym, ap, ◌∙◌}
 use Rattle.sets.specs.Set.{has}
 use Rattle.table.specs.Table.{Table}
@@ -7,12 +7,11 @@ use Rattle.table.specs.Accepted.{Accepted}
 use Rattle.table.proofs.AcceptedLaws.{accepted}
 use Rattle.table.specs.Verdict.{verdict}
 use Rattle.table.specs.declared.Verdict as Declared
-use Rattle.machine.specs.State.{State, thread, start}
-use Rattle.machine.specs.Step.{Answer, step, run_by}
+use Rattle.machine.specs.State.{State}
+use Rattle.machine.specs.Step.{Answer, step}
 use Rattle.machine.specs.Engine.{engine_step}
 use Rattle.machine.proofs.EngineLaws.{engine_steps}
-use Rattle.machine.specs.Words.{Holds}
-use Rattle.machine.specs.Stretch.{Stepping, Gets, Reads, Keeps, WritesNot, StaysPut}
+use Rattle.machine.specs.Stretch.{Stepping}
 use Rattle.machine.proofs.StretchLaws.{machine_steps, readings_agree}
 use Rattle.report.specs.Layout.{one_each}
 use Rattle.report.specs.Fits.{copies_of}

@@ -1,18 +1,15 @@
 -- The invariant holds at the start of a run and is kept by every step, so it holds after every run. Assumes nothing.
-use Rattle.std.specs.Prelude.{ℕ, ◌<◌, ◌≡◌, Bool, true, cond, ◌⊎◌, ltb, pos, length, replicate}
+use Rattle.std.specs.Prelude.{ℕ, ◌<◌, ◌≡◌, Bool, true, false, cond, ◌⊎◌, ltb, pos, length, replicate}
 use Rattle.std.proofs.Math.Path.{refl}
-use Rattle.std.proofs.Common.{sym, ap, ◌∙◌, subst, inl, inr, ltb-true, arith}
-use Rattle.std.proofs.Math.Bool.{false}
+use Rattle.std.proofs.Common.{sym, ap, subst, inl, inr, ltb-true, arith}
 use mathlib.Core.List.{List, [], ◌∷◌}
 use Rattle.std.proofs.Math.IntN.{ℤ}
 use Rattle.std.proofs.Math.ListN.{length-replicate}
 use Rattle.table.specs.Table.{Table, routine, statement}
-use Rattle.table.proofs.TabulateLaws.{replicate_at}
 use Rattle.table.specs.Accepted.{Accepted}
 use Rattle.table.specs.declared.Arguments.{Arguments}
-use Rattle.machine.specs.State.{State, Frame, Holder, free, holds_in, thread, opened, start}
-use Rattle.machine.proofs.LockLaws.{never, free_held}
-use Rattle.machine.specs.Step.{Answer, refused, stepped, step, after, run_by}
+use Rattle.machine.specs.State.{State, Frame, Holder, free, thread, opened, start}
+use Rattle.machine.specs.Step.{Answer, refused, stepped, step, after, run, run_by}
 use Rattle.machine.specs.Stretch.{Stepping}
 use Rattle.report.specs.Rules.{Copies, Families, Rules}
 use Rattle.guarantee.specs.Invariant.{Mark, newest, frames, Stands, Invariant}
@@ -41,23 +38,15 @@ module _ {t : Table} (accepted : Accepted t) (copies : Copies t) (f : Families) 
           (go_on (ltb-true n (length state.threads) e) (marks n) refl)
       started? false e = (marks, inv)
 
-  -- ---- a run, by any way to step the machine
+  -- ---- a run
 
-  module _ (by : State → ℕ → Answer) (steps : Stepping t by) where
-    pub by_keeps : (state : State) (marks : ℕ → List Mark) → Invariant copies f state marks → (n : ℕ) → Kept copies f state (by state n)
-    by_keeps state marks inv n = go (steps state n)
-      where
-        go : (by state n ≡ step t state n) ⊎ ((number : ℕ) × (by state n ≡ refused number)) → Kept copies f state (by state n)
-        go (inl e) = subst (Kept copies f state) (sym e) (step_keeps state marks inv n)
-        go (inr (number, e)) = subst (Kept copies f state) (sym e) (marks, inv)
-
-    run_keeps : (ns : List ℕ) (state : State) (marks : ℕ → List Mark) → Invariant copies f state marks
-        → (marks' : ℕ → List Mark) × Invariant copies f (run_by by state ns) marks'
-    unfolding run_by
-    run_keeps [] state marks inv = (marks, inv)
-    run_keeps (n ∷ ns) state marks inv =
-        let kept = by_keeps state marks inv n in
-        run_keeps ns (after state (by state n)) kept.0 kept.1
+  pub run_keeps : (ns : List ℕ) (state : State) (marks : ℕ → List Mark) → Invariant copies f state marks
+      → (marks' : ℕ → List Mark) × Invariant copies f (run t state ns) marks'
+  unfolding run
+  run_keeps [] state marks inv = (marks, inv)
+  run_keeps (n ∷ ns) state marks inv =
+      let kept = step_keeps state marks inv n in
+      run_keeps ns (after state (step t state n)) kept.0 kept.1
 
   -- ---- the start: a thread is added where there is none
 
@@ -78,7 +67,6 @@ module _ {t : Table} (accepted : Accepted t) (copies : Copies t) (f : Families) 
         all_locks_lem = length-replicate t.locks free;
         shape = λ n. refl;
         good = λ n. tt;
-        started = λ n k has. never (sym (ap (λ (h : Holder). holds_in false h n) (replicate_at t.locks k free) ∙ free_held false n) ∙ has);
         apart = λ m n x other clash. absurd clash.touches;
         behind = λ several. absurd (omega arith);
       }
@@ -99,7 +87,7 @@ module _ {t : Table} (accepted : Accepted t) (copies : Copies t) (f : Families) 
   unfolding main_mark opened
   main_frame = rw copies.main_of
 
-  start_keeps : (marks : ℕ → List Mark) × Invariant copies f (start t) marks
+  pub start_keeps : (marks : ℕ → List Mark) × Invariant copies f (start t) marks
   unfolding start no_threads no_arguments
   start_keeps = (
     _,
@@ -108,6 +96,25 @@ module _ {t : Table} (accepted : Accepted t) (copies : Copies t) (f : Families) 
         (λ some_thread. absurd (omega arith)),
   )
 
+  -- ---- by any way to step the machine
+
+  module _ (by : State → ℕ → Answer) (steps : Stepping t by) where
+    -- a step is the machine's step, or a refusal
+    pub by_keeps : (state : State) (marks : ℕ → List Mark) → Invariant copies f state marks → (n : ℕ) → Kept copies f state (by state n)
+    by_keeps state marks inv n = go (steps state n)
+      where
+        go : (by state n ≡ step t state n) ⊎ ((number : ℕ) × (by state n ≡ refused number)) → Kept copies f state (by state n)
+        go (inl e) = subst (Kept copies f state) (sym e) (step_keeps state marks inv n)
+        go (inr (number, e)) = subst (Kept copies f state) (sym e) (marks, inv)
+
+    run_by_keeps : (ns : List ℕ) (state : State) (marks : ℕ → List Mark) → Invariant copies f state marks
+        → (marks' : ℕ → List Mark) × Invariant copies f (run_by by state ns) marks'
+    unfolding run_by
+    run_by_keeps [] state marks inv = (marks, inv)
+    run_by_keeps (n ∷ ns) state marks inv =
+        let kept = by_keeps state marks inv n in
+        run_by_keeps ns (after state (by state n)) kept.0 kept.1
+
   -- so it holds after every list of thread numbers
   pub reached : (by : State → ℕ → Answer) → Stepping t by → (ns : List ℕ) → (marks : ℕ → List Mark) × Invariant copies f (run_by by (start t) ns) marks
-  reached by steps ns = run_keeps by steps ns (start t) start_keeps.0 start_keeps.1
+  reached by steps ns = run_by_keeps by steps ns (start t) start_keeps.0 start_keeps.1

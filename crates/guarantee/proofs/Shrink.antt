@@ -44,9 +44,12 @@ module _ {t : Table} (accepted : Accepted t) (copies : Copies t) where
     pub does_in_effect : {c s : ℕ} {w : Bool} {x : ℕ} → Place copies c s → Does copies f.flow f.effect c s (statement t s) w x → f.effect c w x
     does_in_effect {c} {s} {w} {x} p d = rules.effect_rules.of_statement c s w x p d
 
-    pub inside_in_effect : {c : ℕ} {w : Bool} {x s : ℕ} → Inside copies f c w x s → f.effect c w x
-    inside_in_effect (next p g d) = does_in_effect p d
-    inside_in_effect (later p g i) = inside_in_effect i
+    inside_effect : {c : ℕ} {w : Bool} {x s : ℕ} → Inside copies f c w x s → f.effect c w x
+    inside_effect (next p g d) = does_in_effect p d
+    inside_effect (later p g i) = inside_effect i
+
+    pub inside_in_effect : {c s : ℕ} {w : Bool} {x : ℕ} → Inside copies f c w x s → f.effect c w x
+    inside_in_effect i = inside_effect i
 
     pub ahead_in_effect : {c s : ℕ} {w : Bool} {x : ℕ} → Place copies c s → Ahead copies f c s w x → f.effect c w x
     ahead_in_effect p (inl d) = does_in_effect p d
@@ -54,9 +57,12 @@ module _ {t : Table} (accepted : Accepted t) (copies : Copies t) where
 
     -- ---- futures
 
-    pub inside_in_future : {c : ℕ} {w : Bool} {x s : ℕ} → Place copies c s → Inside copies f c w x s → f.future c s w x
-    inside_in_future {c} {w} {x} {s} p (next {s' = z} q g d) = rules.future_rules.next c s z w x p q g d
-    inside_in_future {c} {w} {x} {s} p (later {s' = z} q g i) = rules.future_rules.later c s z w x p q g (inside_in_future q i)
+    inside_future : {c : ℕ} {w : Bool} {x s : ℕ} → Place copies c s → Inside copies f c w x s → f.future c s w x
+    inside_future {c} {w} {x} {s} p (next {s' = z} q g d) = rules.future_rules.next c s z w x p q g d
+    inside_future {c} {w} {x} {s} p (later {s' = z} q g i) = rules.future_rules.later c s z w x p q g (inside_future q i)
+
+    pub inside_in_future : {c s : ℕ} {w : Bool} {x : ℕ} → Place copies c s → Inside copies f c w x s → f.future c s w x
+    inside_in_future p i = inside_future p i
 
     -- what waits below a frame lies in the future of each of its statements
     pub left_in_future : (locks : List Holder) (n d z : ℕ) (ms : List Mark) (w : Bool) (x : ℕ) → Place copies d z → AllWait copies f locks n d ms

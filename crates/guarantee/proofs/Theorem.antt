@@ -7,14 +7,14 @@ use Rattle.table.specs.declared.Reference.TheVariants.{To}
 use Rattle.table.specs.Accepted.{Accepted, Operands, OwnOfKind}
 use Rattle.table.specs.declared.Statement.{Statement}
 use Rattle.machine.specs.State.{State, Holder, holds_in, holder, thread, start}
-use Rattle.machine.specs.Step.{Answer, run_by}
+use Rattle.machine.specs.Step.{Answer, run, run_by}
 use Rattle.machine.specs.Stretch.{Stepping}
 use Rattle.machine.specs.Words.{AccessIn, ReleaseIn, Next, Access, Release, HoldsIn, Holds, Safe}
 use Rattle.machine.proofs.LockLaws.{writer_alone}
 use Rattle.report.specs.Rules.{Copies, Place, Accesses, Families, Rules, Clean}
 use Rattle.guarantee.specs.Invariant.{Mark, Several, newest, frames, Fits, Stands, Good, Potential, Behind, Invariant}
 use Rattle.guarantee.proofs.Threads.{with_frames_started}
-use Rattle.guarantee.proofs.Runs.{reached}
+use Rattle.guarantee.proofs.Runs.{run_keeps, start_keeps, reached}
 
 -- what the invariant says of a thread that stands before an access: where it stands, that the access is one by flow sets, that it may touch the cell, that
 -- it was started, and that with another one a START can precede the access
@@ -112,7 +112,13 @@ module _ {t : Table} (accepted : Accepted t) (copies : Copies t) (f : Families) 
       no_stray n k release =
           release_held clean state n k (marks n) (inv.good n) (subst (Next t (λ g σ. ReleaseIn g σ k)) (inv.shape n) release)
 
-  -- demand 3, over any copies, any sets that satisfy the rules and any way to step the machine: a clean report means that (a) and (b) hold after every list of thread
-  -- numbers
-  pub clean_runs_safe : Clean copies f → (by : State → ℕ → Answer) → Stepping t by → (ns : List ℕ) → Safe t (run_by by (start t) ns)
-  clean_runs_safe clean by steps ns = let r = reached accepted copies f rules by steps ns in invariant_safe clean (run_by by (start t) ns) r.0 r.1
+  -- demand 3, over any copies and any sets that satisfy the rules: a clean report means that (a) and (b) hold after every list of thread numbers
+  pub clean_runs_safe : Clean copies f → (ns : List ℕ) → Safe t (run t (start t) ns)
+  clean_runs_safe clean ns =
+      let begun = start_keeps accepted copies f rules in
+      let kept = run_keeps accepted copies f rules ns (start t) begun.0 begun.1 in
+      invariant_safe clean (run t (start t) ns) kept.0 kept.1
+
+  -- and by any way to step the machine
+  pub clean_runs_by_safe : Clean copies f → (by : State → ℕ → Answer) → Stepping t by → (ns : List ℕ) → Safe t (run_by by (start t) ns)
+  clean_runs_by_safe clean by steps ns = let r = reached accepted copies f rules by steps ns in invariant_safe clean (run_by by (start t) ns) r.0 r.1

@@ -1,13 +1,13 @@
 -- The invariant is kept where one thread changes and where a thread is added. Assumes nothing.
-use Rattle.std.specs.Prelude.{ℕ, zero, suc, ◌<◌, ◌≡◌, refl, Bool, false, List, [], ◌∷◌, ◌++◌, ℤ, get_or, length, set}
-use Rattle.std.proofs.Common.{arith, sym, ◌∙◌, length-set, length-append, get_or-set_same, get_or-set_other}
+use Rattle.std.specs.Prelude.{ℕ, zero, suc, ◌<◌, ◌≡◌, refl, Bool, List, [], ◌∷◌, ◌++◌, ℤ, get_or, length, set}
+use Rattle.std.proofs.Common.{arith, length-set, length-append, get_or-set_same, get_or-set_other}
 use Rattle.std.proofs.Math.Seq.{get_or-append_seam}
 use Rattle.table.specs.Table.{Table}
-use Rattle.machine.specs.State.{State, Thread, Frame, Holder, free, holds_in, ended, thread, holder}
+use Rattle.machine.specs.State.{State, Thread, Frame, Holder, ended, thread}
 use Rattle.machine.specs.Step.{with_thread}
 use Rattle.report.specs.Rules.{Copies, Clash, Families, Rules}
 use Rattle.guarantee.proofs.Lists.{get_d_snoc_other, replaced, replaced_all}
-use Rattle.guarantee.specs.Invariant.{Mark, Several, Started, frames, Has, Good, Potential, Behind, Invariant}
+use Rattle.guarantee.specs.Invariant.{Mark, Several, frames, Has, Good, Potential, Behind, Invariant}
 use Rattle.guarantee.proofs.Shrink.{clash_flip, clash_wider}
 use Rattle.guarantee.proofs.Frames.{good_still}
 
@@ -29,10 +29,10 @@ module _ {t : Table} (copies : Copies t) (f : Families) (rules : Rules copies f)
           let started : o < length state.threads = with_frames_started state.threads o shape in
           behind (omega arith)
 
-  -- thread n changes: its new stack is good, may touch no more than before and is behind a START if there are several, and the others hold what they held
+  -- thread n changes: its new stack is good, may touch no more than before and is behind a START if there are several, and the others lose no lock
   pub thread_changed : (state : State) (marks : ℕ → List Mark) → Invariant copies f state marks → (n : ℕ) → n < length state.threads → (b : ℤ)
       (fs : List Frame) (cells : List ℤ) (locks : List Holder) (ms : List Mark) → fs ≡ frames copies f ms → length locks ≡ t.locks
-      → Good copies f locks n ms → ((m : ℕ) (w : Bool) (k : ℕ) → (m ≡ n → ⊥) → holds_in w (get_or locks k free) m ≡ holds_in w (holder state k) m)
+      → Good copies f locks n ms → ((m : ℕ) (w : Bool) (k : ℕ) → (m ≡ n → ⊥) → Has copies f state.locks m w k → Has copies f locks m w k)
       → ((w : Bool) (x : ℕ) → Potential copies f ms w x → Potential copies f (marks n) w x) → (Several state → Behind copies f ms)
       → Invariant copies f (with_thread state n b fs cells locks) (replaced marks n ms)
   thread_changed state marks inv n there b fs cells locks ms shape all good others less behind =
@@ -40,10 +40,7 @@ module _ {t : Table} (copies : Copies t) (f : Families) (rules : Rules copies f)
         all_locks_lem = all;
         shape = replaced_all (λ m s. (get_or (set state.threads n new) m ended).frames ≡ frames copies f s) marks n ms this_shape other_shape;
         good = replaced_all (λ m s. Good copies f locks m s) marks n ms good
-            (λ m other. good_still copies f rules state.locks locks m (marks m) (λ w k has. others m w k other ∙ has) (inv.good m));
-        started = λ m k. rw length-set
-            (replaced_all (λ m s. Has copies f locks m false k → Started state m) marks n ms (λ has. omega (arith, there))
-            (λ m other has. inv.started m k (sym (others m false k other) ∙ has)) m);
+            (λ m other. good_still copies f rules state.locks locks m (marks m) (λ w k. others m w k other) (inv.good m));
         apart = λ m k x other clash. inv.apart m k x other (clash_wider (λ w. within m w x) (λ w. within k w x) clash);
         behind = λ several.
             let still : Several state = rw length-set at several in
@@ -76,7 +73,6 @@ module _ {t : Table} (copies : Copies t) (f : Families) (rules : Rules copies f)
         all_locks_lem = inv.all_locks_lem;
         shape = replaced_all (λ m s. (get_or (state.threads ++ new ∷ []) m ended).frames ≡ frames copies f s) marks n ms this_shape other_shape;
         good = replaced_all (λ m s. Good copies f state.locks m s) marks n ms good (λ m other. inv.good m);
-        started = λ m k has. omega (arith, inv.started m k has, length-append state.threads (new ∷ []));
         apart = λ m k x. replaced_all (λ m s. (m ≡ k → ⊥) → Clash (Potential copies f s) (Potential copies f (replaced marks n ms k)) x → f.shared x)
             marks n ms (new_old k x) (λ m other. old_any m k x) m;
         behind = λ several.

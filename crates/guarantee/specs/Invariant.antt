@@ -1,7 +1,7 @@
--- What holds of every state that a run reaches: the shape of the stacks, the values of the handles, the locks, that only started threads hold them, what threads may
--- still touch, and what a START can precede. Assumes nothing.
-use Rattle.std.specs.Prelude.{ℕ, ◌+◌, ◌<◌, ◌≡◌, Bool, true, false, List, [], ◌∷◌, ◌⊎◌, get_or, length}
-use Rattle.table.specs.Table.{Table, declaration, routine, statement, OwnHandle}
+-- What holds of every state that a run reaches: the shape of the stacks, the values of the handles, the locks, what threads may still touch, and what a START
+-- can precede. Assumes nothing.
+use Rattle.std.specs.Prelude.{ℕ, ◌+◌, ◌<◌, ◌≡◌, Bool, true, List, [], ◌∷◌, ◌⊎◌, get_or, length}
+use Rattle.table.specs.Table.{Table, declaration, statement, OwnHandle}
 use Rattle.table.specs.declared.Arguments.{Arguments}
 use Rattle.table.specs.declared.Statement.TheVariants.{Call}
 use Rattle.machine.specs.State.{State, Frame, Holder, free, holds_in, thread}
@@ -16,10 +16,6 @@ pub record Mark : Type 0 where
 -- more than one thread was started; ended ones count too
 abbrev pub Several : State → Type 0
 Several state = 1 < length state.threads
-
--- thread n was started
-abbrev pub Started : State → ℕ → Type 0
-Started state n = n < length state.threads
 
 module _ {t : Table} (copies : Copies t) (f : Families) where
   -- ---- shape: the frames that marks stand for, the newest first
@@ -118,6 +114,5 @@ module _ {t : Table} (copies : Copies t) (f : Families) where
     pub all_locks_lem : length state.locks ≡ t.locks
     pub shape : (n : ℕ) → (thread state n).frames ≡ frames (marks n)
     pub good : (n : ℕ) → Good state.locks n (marks n)
-    pub started : (n k : ℕ) → Has state.locks n false k → Started state n
     pub apart : (m n x : ℕ) → (m ≡ n → ⊥) → Clash (Potential (marks m)) (Potential (marks n)) x → f.shared x
     pub behind : Several state → (n : ℕ) → Behind (marks n)
