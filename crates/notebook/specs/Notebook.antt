@@ -4,7 +4,7 @@ use Rattle.std.specs.Prelude.{ℕ, ◌≡◌, refl, List, [], ◌∷◌, ◌++�
 use Rattle.std.specs.Int.Count.{count_trailing_zeros}
 use Rattle.table.specs.Table.{Table, table_of}
 use Rattle.machine.specs.State.{State, Frame, thread, entered, opened, start}
-use Rattle.machine.specs.Step.{step, after, run_by, saturate}
+use Rattle.machine.specs.Step.{step, after, saturate}
 use Rattle.machine.specs.Engine.{engine_step, engine_run, answers}
 use Rattle.table.specs.declared.Verdict.{Verdict}
 use Rattle.table.specs.declared.Verdict.TheVariants.{Accepted, Refused}
@@ -23,12 +23,11 @@ use Rattle.sets.specs.Set.{with, lowest}
 use Rattle.report.specs.Cases.{Case, row, as_computed}
 use Rattle.report.specs.Notebook.{notebook}
 
--- what is asked of a table: its report, what a step of a thread makes of a state, or the engine's answers to a schedule or the cells that it leaves
+-- what is asked of a table: its report, what a step of a thread makes of a state, or the engine's answers to a schedule
 pub data Question : Type 0 where
   report : Question
   stepped : State → ℕ → Question
   ran : List ℕ → Question
-  left : List ℕ → Question
 
 pub record Entry : Type 0 where
   pub lines : List (List ℤ)
@@ -39,12 +38,11 @@ abbrev pub next_of : List Frame → List ℤ
 next_of [] = []
 next_of (f ∷ fs) = pos f.next ∷ []
 
--- the report's lines, or the thread's accumulator and next statement after the step, or the answers, or the cells
+-- the report's lines, or the thread's accumulator and next statement after the step, or the answers
 unfoldable pub answer : Table → Question → List (List ℤ)
 answer t report = report_lines t
 answer t (stepped state n) = let new = thread (after state (step t state n)) n in (new.accumulator ∷ next_of new.frames) ∷ []
 answer t (ran schedule) = map pos (answers t (start t) schedule) ∷ []
-answer t (left schedule) = (engine_run t (start t) schedule).cells ∷ []
 
 -- an entry's input is a table text: its lines as bytes
 abbrev pub text_in : Entry → List ℕ
@@ -56,7 +54,7 @@ said Accepted ls = ls
 said (Refused number line) ls = (pos 50 ∷ pos number ∷ pos line ∷ pos 0 ∷ pos 0 ∷ pos 0 ∷ pos 0 ∷ pos 0 ∷ []) ∷ []
 
 unfoldable pub computed : List Entry → List (List (List ℤ))
-unfolding answer as_computed step run_by saturate answers engine_step start opened entered with lowest digits_from decimal_of signed_of spaced_of field_of decimal_text signed_text field_text fields_of all_in_field line_text pieces unused header_ok length_ok leading leading_ok things handle_fields_ok same_above handle_order_ok parameter_ok handle_ok routine_ok sum_ok own_handle own_of_kind own_statement argument_ok arguments_ok naming_ok point_ok operation_ok statement_ok bad_statement end_ok named_by gather names_of names_in is_named walk reached is_acyclic naming_verdict statement_verdict declaration_verdict numbers_verdict text_ok verdict reading_of text_of
+unfolding answer as_computed step saturate answers engine_step start opened entered with lowest digits_from decimal_of signed_of spaced_of field_of decimal_text signed_text field_text fields_of all_in_field line_text pieces unused header_ok length_ok leading leading_ok things handle_fields_ok same_above handle_order_ok parameter_ok handle_ok routine_ok sum_ok own_handle own_of_kind own_statement argument_ok arguments_ok naming_ok point_ok operation_ok statement_ok bad_statement end_ok named_by gather names_of names_in is_named walk reached is_acyclic naming_verdict statement_verdict declaration_verdict numbers_verdict text_ok verdict reading_of text_of
 computed [] = []
 computed (e ∷ es) = said (verdict (text_in e)) (answer (table_of (numbers_of (text_in e))) e.question) ∷ computed es
 
@@ -147,6 +145,13 @@ for_reading =
     ∷ alone 13 14 12 (row 50 9 4 0 0 0 0 0)
     ∷ []
 
+abbrev pub entries : List Entry
+entries = reported notebook ++ (sums ++ (jumps (pos 0) 2 ∷ jumps (negsuc 0) 1 ∷ for_reading))
+
+pub notebook_holds : computed entries ≡ results entries
+unfolding computed count_trailing_zeros
+notebook_holds = refl
+
 -- ---- C-22: "Customers read a cell twice under its lock and compare"
 
 -- main sets cell 0 to 100 with no lock, STARTs a thread that adds 1 to it under lock 0, again and again, and takes the lock for reading; it READs cell 0 into cell 1, and
@@ -192,13 +197,38 @@ given_between = twice 12 18 (row 4 6 1 0 0 0 0 0 ∷ row 4 13 1 0 0 0 0 0 ∷ []
 abbrev pub guarded : List (List ℤ)
 guarded = row 51 0 3 2 1 1 0 0 ∷ row 51 1 0 1 0 0 0 0 ∷ row 51 2 0 1 0 0 0 0 ∷ row 59 0 0 0 0 0 0 0 ∷ []
 
-abbrev pub readings : List Entry
+-- what is asked of a table here: what the notebook asks, or the cells that the engine leaves after a schedule
+pub data Asked : Type 0 where
+  as_before : Question → Asked
+  left : List ℕ → Asked
+
+pub record Reading : Type 0 where
+  pub lines : List (List ℤ)
+  pub question : Asked
+  pub result : List (List ℤ)
+
+unfoldable pub reading_answer : Table → Asked → List (List ℤ)
+unfolding answer engine_run
+reading_answer t (as_before question) = answer t question
+reading_answer t (left schedule) = (engine_run t (start t) schedule).cells ∷ []
+
+unfoldable pub readings_computed : List Reading → List (List (List ℤ))
+unfolding reading_answer as_computed step engine_run saturate engine_step start opened entered with lowest digits_from decimal_of signed_of spaced_of field_of decimal_text signed_text field_text fields_of all_in_field line_text pieces unused header_ok length_ok leading leading_ok things handle_fields_ok same_above handle_order_ok parameter_ok handle_ok routine_ok sum_ok own_handle own_of_kind own_statement argument_ok arguments_ok naming_ok point_ok operation_ok statement_ok bad_statement end_ok named_by gather names_of names_in is_named walk reached is_acyclic naming_verdict statement_verdict declaration_verdict numbers_verdict text_ok verdict reading_of text_of
+readings_computed [] = []
+readings_computed (r ∷ rs) =
+    said (verdict (text_of r.lines)) (reading_answer (table_of (numbers_of (text_of r.lines))) r.question) ∷ readings_computed rs
+
+abbrev pub readings_results : List Reading → List (List (List ℤ))
+readings_results [] = []
+readings_results (r ∷ rs) = r.result ∷ readings_results rs
+
+abbrev pub readings : List Reading
 readings =
-    record { lines = held; question = report; result = guarded }
+    record { lines = held; question = as_before report; result = guarded }
     -- the other thread's steps between the READs change nothing
     ∷ record { lines = held; question = left (0 ∷ 0 ∷ 0 ∷ 0 ∷ 0 ∷ 0 ∷ 1 ∷ 1 ∷ 1 ∷ 1 ∷ 0 ∷ 0 ∷ []); result = (pos 100 ∷ pos 100 ∷ pos 100 ∷ []) ∷ [] }
     -- "until it gives it up"
-    ∷ record { lines = given_between; question = report; result = guarded }
+    ∷ record { lines = given_between; question = as_before report; result = guarded }
     ∷ record {
       lines = given_between;
       question = left (0 ∷ 0 ∷ 0 ∷ 0 ∷ 0 ∷ 0 ∷ 1 ∷ 0 ∷ 1 ∷ 1 ∷ 1 ∷ 1 ∷ 1 ∷ 0 ∷ 0 ∷ 0 ∷ []);
@@ -206,9 +236,6 @@ readings =
     }
     ∷ []
 
-abbrev pub entries : List Entry
-entries = reported notebook ++ (sums ++ (jumps (pos 0) 2 ∷ jumps (negsuc 0) 1 ∷ for_reading ++ readings))
-
-pub notebook_holds : computed entries ≡ results entries
-unfolding computed count_trailing_zeros
-notebook_holds = refl
+pub readings_hold : readings_computed readings ≡ readings_results readings
+unfolding readings_computed count_trailing_zeros
+readings_hold = refl
