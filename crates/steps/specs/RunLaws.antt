@@ -7,7 +7,7 @@ use Rattle.std.proofs.Math.ListN.{length, take, drop, length-set, drop_of_length
 use Rattle.std.proofs.Math.Seq.{drop-cons, take-suc-set, drop-set-lt, drop-drop}
 use Rattle.table.specs.Table.{Table, table_of, statement}
 use Rattle.machine.specs.State.{State, Frame, thread}
-use Rattle.machine.specs.Step.{after, run_by}
+use Rattle.machine.specs.Step.{after}
 use Rattle.machine.specs.Engine.{engine_step, answer, engine_run, answers}
 use Rattle.machine.proofs.EngineLaws.{step_answered}
 use Rattle.operations.specs.declared.Step.{Step}
@@ -79,7 +79,7 @@ module _ (numbers : List ℤ) (first handle : List ℕ) (sizes : Sizes) (schedul
     pub following_next : (words' values' : List ℕ) (registers' : List ℤ) (n v : ℕ) (r : Step) → i < length schedule → n ≡ get_or schedule i 0
         → Steps (table_of numbers) words values registers words' values' registers' n r → v ≡ number_of r
         → Following numbers first handle sizes schedule answers₀ words₀ values₀ registers₀ (set lent i v) words' values' registers' (i + 1)
-    unfolding run_by answers
+    unfolding engine_run answers
     following_next words' values' registers' n v r l e stepped w =
         record {
           standing = f.standing;
@@ -112,7 +112,7 @@ module _ (numbers : List ℤ) (first handle : List ℕ) (sizes : Sizes) (schedul
             }
 
     pub following_done : length schedule ≤ i → Follows (table_of numbers) words₀ values₀ registers₀ words values registers schedule answers₀ lent
-    unfolding run_by answers
+    unfolding engine_run answers
     following_done l begun shown =
         let t = table_of numbers in
         let last = f.reached begun shown in
