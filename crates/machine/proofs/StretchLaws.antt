@@ -183,7 +183,7 @@ module _ (t : Table) (state : State) (n : ℕ) (there : n < length state.threads
   turn_started : (lock : ℕ) (turn : Turn) → OnPass turn (OthersSame n (holder state lock)) → HeldByStarted (after state (turned t state n a f older lock turn))
   turn_started lock (passes who) same = λ m k.
       rw length-set
-      (set_case (λ (w : Holder). holds_in false w m ≡ true → m < length state.threads) state.locks lock k who free
+      (set_case (λ (w : Holder). holds_in false w m ≡ true → Started state m) state.locks lock k who free
       (λ at has. same_or m n (λ e. omega (arith, there, e)) (λ other. started m lock (sym (same false m other) ∙ has))) (started m k))
   turn_started lock (stops number) same = started
 
