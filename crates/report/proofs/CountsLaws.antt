@@ -15,7 +15,7 @@ use Rattle.report.specs.Operations.{reading, writing}
 use Rattle.report.specs.Findings.{Sets, sets_of, shared_cells, statement_access, access_count}
 use Rattle.report.specs.Report.{cell_line, cell_lines, stray_lines, total_line, finding_lines, lines_for}
 use Rattle.report.proofs.ReportTextLaws.{count_most}
-use Rattle.report.specs.Counts.{Counts, no_counts, add_each, add_access, walk_from, walked, cell_by_cell}
+use Rattle.report.specs.Counts.{no_counts, add_each, add_access, walk_from, walked, cell_by_cell}
 
 -- what is added to counts that are known cell by cell
 pub add_tabulate : (set cells : ℕ) (g : ℕ → ℕ) → add_each set (tabulate cells g) ≡ tabulate cells (λ x. cond (has set x) 1 0 + g x)

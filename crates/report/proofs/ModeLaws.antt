@@ -1,13 +1,13 @@
 -- C-18: the held sets of the two modes. What is held for writing is held in either way, and where nothing is taken for reading the two are the same.
 -- Assumes nothing.
 use Prim.Native.Nat.{ℕ, ◌^◌, ◌<◌}
-use Rattle.std.specs.Prelude.{◌≡◌, refl, Bool, true, false, cond, not, ◌⊎◌, get_or}
+use Rattle.std.specs.Prelude.{◌≡◌, refl, Bool, true, false, cond, not, get_or}
 use Rattle.std.proofs.Math.Path.{ap, fun_ext}
 use Rattle.std.proofs.Common.{inl, inr}
 use mathlib.Core.List.{List, [], ◌∷◌, ◌++◌, map}
 use Rattle.sets.specs.Set.{union, minus}
 use Rattle.table.specs.Table.{Table, statement}
-use Rattle.table.specs.View.{view, On, set_on, list_on, test_on, calls, starts, takes_in, takes_to_read}
+use Rattle.table.specs.View.{view, set_on, list_on, test_on, calls, starts, takes_in, takes_to_read}
 use Rattle.table.proofs.ViewLaws.{taken_takes}
 use Rattle.table.specs.Accepted.{Accepted}
 use Rattle.table.specs.declared.Reference.{Reference}

@@ -1,7 +1,7 @@
 -- The copies that reach a START, and the statements that a START can precede, satisfy their rules, and are inside any that do; and these are document 02's
 -- sentence. Assumes nothing.
 use Prim.Native.Nat.{ℕ, ◌+◌, ◌^◌, ◌<◌}
-use Rattle.std.specs.Prelude.{◌≡◌, Bool, cond, ◌||◌, ◌⊎◌, ◌↔◌, get_or}
+use Rattle.std.specs.Prelude.{◌≡◌, Bool, cond, ◌⊎◌, ◌↔◌, get_or}
 use Rattle.std.proofs.Math.Path.{refl, subst}
 use Rattle.std.proofs.Common.{sym, ap, ◌∙◌}
 use Rattle.std.proofs.Math.Bool.{true, false}
@@ -16,15 +16,14 @@ use Rattle.sets.specs.Least.{SetList, Edge, plain, least}
 use Rattle.sets.proofs.LeastLaws.{least_holds_start, least_edge, least_induction}
 use Rattle.table.specs.Table.{Table, statement}
 use Rattle.table.specs.View.{view, On, test_on, list_on, calls, starts}
-use Rattle.table.proofs.ViewLaws.{list_has, list_from, test_is, calls_names, starts_names}
+use Rattle.table.proofs.ViewLaws.{list_has, list_from, test_is, calls_names}
 use Rattle.table.specs.Accepted.{Accepted}
 use Rattle.table.specs.declared.Reference.{Reference}
 use Rattle.table.specs.declared.Reference.TheVariants.{To, Nothing}
 use Rattle.table.specs.declared.Statement.{Statement}
-use Rattle.report.specs.Over.{joined_from}
 use Rattle.report.proofs.OverLaws.{never, none_in, either, either_left, either_right, tabulate_sets, tabulate_has, tabulate_from_lem}
 use Rattle.report.specs.Layout.{Layout}
-use Rattle.report.specs.Fits.{Fits, StatementPlaced, copies_of}
+use Rattle.report.specs.Fits.{Fits, copies_of}
 use Rattle.report.specs.Operations.{nexts}
 use Rattle.report.specs.Preceded.{marked, is_marked, reach_edges, reach_sets, brings_start, entered, preceding_edges, preceded_sets, is_preceded}
 use Rattle.report.proofs.NextLaws.{goes_next, next_goes, goes_placed, map_has, map_from}

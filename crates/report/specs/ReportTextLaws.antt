@@ -1,6 +1,5 @@
 -- The lines of the report have a table line's form: eight numbers each, all in the range of a field; so many bytes. Assumes nothing.
 use Rattle.std.specs.Prelude.{ℕ, ◌≡◌, true, pos}
-use mathlib.Core.List.Memᴰ
 use mathlib.Core.List.{List, map}
 use Rattle.std.proofs.Math.ListN.{length}
 use Rattle.lines.specs.Line.{all_in_field}
