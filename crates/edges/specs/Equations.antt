@@ -11,7 +11,7 @@ use Rattle.table.specs.declared.Statement.{Statement}
 use Rattle.report.specs.Over.{joined_from, union_from, union_at}
 use Rattle.report.specs.Layout.{named, owner_of, one_each}
 use Rattle.report.specs.Operations.{nexts}
-use Rattle.report.specs.Flow.{flow_edges, start_of}
+use Rattle.report.specs.Flow.{flow_edges}
 
 -- what is asked of a table: flow sets, effects, given-up locks, and futures in two stages: what may follow in the routine, what comes from its CALLs
 pub data Equation : Type 0 where

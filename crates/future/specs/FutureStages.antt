@@ -1,11 +1,11 @@
 -- Futures in two stages: what may follow in the routine, then what comes from the CALLs of each copy. Assumes nothing.
 use Prim.Native.Nat.{ℕ, ◌+◌, ◌^◌, ◌<◌}
 use Rattle.std.specs.Prelude.{◌≡◌, refl, Bool, ◌⊎◌, get_or}
-use Rattle.std.proofs.Common.{sym, subst, arith}
+use Rattle.std.proofs.Common.{subst, arith}
 use Rattle.std.proofs.Math.Logic.{inl, inr}
 use mathlib.Core.List.Memᴰ
 use mathlib.Core.List.{List, [], ◌∷◌, ◌++◌, map, Memᴰ}
-use Rattle.sets.specs.Least.{Edge, plain, least}
+use Rattle.sets.specs.Least.{Edge, plain}
 use Rattle.table.specs.Table.{Table, statement}
 use Rattle.table.specs.View.{view, On, list_on, calls}
 use Rattle.table.proofs.ViewLaws.{list_has, list_from, calls_names}
@@ -13,13 +13,13 @@ use Rattle.table.specs.Accepted.{Accepted}
 use Rattle.report.specs.Over.{joined_from}
 use Rattle.report.proofs.OverLaws.{joined_has, joined_from_lem, below_within, within_below}
 use Rattle.report.specs.Layout.{Layout}
-use Rattle.report.specs.Fits.{Fits, StatementPlaced, copies_of}
+use Rattle.report.specs.Fits.{Fits, StatementPlaced}
 use Rattle.report.specs.Operations.{nexts}
 use Rattle.report.specs.Future.{callers, future_edges, future_initials, futures}
 use Rattle.report.proofs.FutureLaws.{starts_sets}
 use Rattle.report.proofs.NextLaws.{next_goes, goes_placed, map_from}
 use Rattle.report.proofs.PlaceLaws.{placed, place_at}
-use Rattle.report.specs.Rules.{Place, Goes}
+use Rattle.report.specs.Rules.{Goes}
 use Rattle.future.specs.StageLaws.{Groups, staged, staged_least}
 
 module _ (t : Table) (k : Layout) where

@@ -1,5 +1,5 @@
 -- Going through the statements once, each gets what its routine has. Assumes nothing.
-use Rattle.std.specs.Prelude.{ℕ, ◌+◌, ◌≤◌, ◌<◌, ◌≡◌, cond, List, ltb, ℤ, length, get_or, set}
+use Rattle.std.specs.Prelude.{ℕ, ◌+◌, ◌≤◌, ◌<◌, ◌≡◌, List, ℤ, length, get_or, set}
 use Rattle.std.proofs.Math.Path.{ap}
 use Rattle.std.proofs.Common.{ap₂, ◌∙◌, le_refl, arith, lt-ltb, le-ltb}
 use Rattle.sets.specs.Set.{union}

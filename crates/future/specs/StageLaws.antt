@@ -1,8 +1,8 @@
 -- Least lists in two stages. Places stand in groups: edges go within a group (inner), from a group's own place to each of its places, and from the place
 -- of a call to the group that is called. The inner edges first, then what comes to the groups, then once from each group to its places. Assumes nothing.
-use Rattle.std.specs.Prelude.{◌≡◌, Bool, ◌⊎◌, ℕ, ◌+◌, ◌^◌, ◌≤◌, ◌<◌, length, get_or}
+use Rattle.std.specs.Prelude.{◌≡◌, Bool, ◌⊎◌, ℕ, ◌+◌, ◌^◌, ◌<◌, get_or}
 use Rattle.std.proofs.Math.Path.{refl, subst}
-use Rattle.std.proofs.Common.{sym, ap, ◌∙◌, ltb-true, ltb-false, lt-ltb}
+use Rattle.std.proofs.Common.{sym, ltb-true, lt-ltb}
 use Rattle.std.proofs.Math.Bool.{true, false, cond}
 use Rattle.std.proofs.Math.Logic.{inl, inr}
 use mathlib.Core.List.{List, Memᴰ}
@@ -10,7 +10,7 @@ use native.Mathlib.Omega.{arith}
 use Rattle.std.proofs.Math.Dec.{ltb}
 use Rattle.sets.specs.Set.{has, union}
 use Rattle.sets.proofs.SetLaws.{has_union_left, has_union_right, union_cases, union_below}
-use Rattle.sets.specs.Least.{SetList, Inside, Edge, plain, least, Held, Closed}
+use Rattle.sets.specs.Least.{SetList, Inside, Edge, plain, least, Held}
 use Rattle.sets.proofs.InsideLaws.{inside_trans}
 use Rattle.sets.proofs.LeastLaws.{least_sets, least_holds_start, least_closed, least_edge, least_inside, least_is, least_induction}
 use Rattle.table.specs.Tabulate.{tabulate}

@@ -1,6 +1,5 @@
 -- `attributes::arguments_if` meets its contract. Assumes nothing.
 use Rattle.table.specs.Table.{arguments_in}
-use borrow.Author.Rules.{rules}
 use Rattle.attributes.proofs.arguments_if.Goals as goal
 
 pub returns-then-test : goal.returns-then-test

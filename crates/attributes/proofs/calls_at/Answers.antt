@@ -1,7 +1,6 @@
 -- `attributes::calls_at` meets its contract. Assumes nothing.
 use mathlib.Core.Path.{sym}
 use Rattle.table.proofs.ViewLaws.{calls_in}
-use borrow.Author.Rules.{rules}
 use Rattle.attributes.proofs.calls_at.Goals as goal
 
 pub returns : goal.returns

@@ -1,5 +1,4 @@
 -- `attributes::first_if` meets its contract. Assumes nothing.
-use borrow.Author.Rules.{rules}
 use Rattle.attributes.proofs.first_if.Goals as goal
 
 pub returns-then-test : goal.returns-then-test

@@ -1,5 +1,4 @@
 -- `attributes::second_if` meets its contract. Assumes nothing.
-use borrow.Author.Rules.{rules}
 use Rattle.attributes.proofs.second_if.Goals as goal
 
 pub returns-then-test : goal.returns-then-test

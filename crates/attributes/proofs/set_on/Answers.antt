@@ -1,5 +1,4 @@
 -- `attributes::set_on` meets its contract. Assumes nothing.
-use borrow.Author.Rules.{rules}
 use Rattle.attributes.proofs.set_on.Goals as goal
 
 pub returns-in-To : goal.returns-in-To

@@ -2,7 +2,6 @@
 use mathlib.Core.Path.{sym, ap}
 use Rattle.table.specs.declared.View.{View}
 use Rattle.table.proofs.ViewLaws.{view_in_lem}
-use borrow.Author.Rules.{rules}
 use Rattle.attributes.proofs.source_at.Goals as goal
 
 pub returns : goal.returns

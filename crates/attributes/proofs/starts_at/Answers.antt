@@ -1,7 +1,6 @@
 -- `attributes::starts_at` meets its contract. Assumes nothing.
 use mathlib.Core.Path.{sym}
 use Rattle.table.proofs.ViewLaws.{starts_in}
-use borrow.Author.Rules.{rules}
 use Rattle.attributes.proofs.starts_at.Goals as goal
 
 pub returns : goal.returns

@@ -1,7 +1,6 @@
 -- `attributes::takes_to_read_at` meets its contract. Assumes nothing.
 use mathlib.Core.Path.{sym}
 use Rattle.table.proofs.ViewLaws.{takes_to_read_in}
-use borrow.Author.Rules.{rules}
 use Rattle.attributes.proofs.takes_to_read_at.Goals as goal
 
 pub returns : goal.returns

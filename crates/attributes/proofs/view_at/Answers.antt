@@ -1,7 +1,6 @@
 -- `attributes::view_at` meets its contract. Assumes nothing.
 use mathlib.Core.Path.{sym}
 use Rattle.table.proofs.ViewLaws.{view_in_mode}
-use borrow.Author.Rules.{rules}
 use Rattle.attributes.proofs.view_at.Goals as goal
 
 pub returns : goal.returns

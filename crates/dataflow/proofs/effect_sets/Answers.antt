@@ -2,8 +2,6 @@
 use mathlib.Core.Path.{◌∙◌}
 use Rattle.dataflow.specs.AnswerLaws.{count_there, solved, effect_answer}
 use Rattle.edges.specs.Equations.{Effects}
-use mathlib.Core.List.{[]}
-use borrow.Author.Rules.{rules}
 use Rattle.dataflow.proofs.effect_sets.Goals as goal
 
 pub own_sets-requires : goal.own_sets-requires

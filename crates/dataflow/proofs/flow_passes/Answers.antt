@@ -3,7 +3,6 @@ use mathlib.Core.Path.{sym}
 use lib.Seq.{length-take-le}
 use Rattle.edges.specs.Equations.{Flow}
 use Rattle.dataflow.specs.AnswerLaws.{count_there, flow_ends, flow_places, flow_answer, made_answer}
-use borrow.Author.Rules.{rules}
 use Rattle.dataflow.proofs.flow_passes.Goals as goal
 
 pub slice_bounds-solve-end : goal.slice_bounds-solve-end

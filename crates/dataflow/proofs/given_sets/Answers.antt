@@ -2,8 +2,6 @@
 use mathlib.Core.Path.{◌∙◌}
 use Rattle.dataflow.specs.AnswerLaws.{count_there, solved, given_answer}
 use Rattle.edges.specs.Equations.{Gives}
-use mathlib.Core.List.{[]}
-use borrow.Author.Rules.{rules}
 use Rattle.dataflow.proofs.given_sets.Goals as goal
 
 pub own_sets-requires : goal.own_sets-requires

@@ -2,7 +2,6 @@
 use mathlib.Core.Path.{sym, ap, ◌∙◌}
 use lib.Seq.{length-take-le}
 use Rattle.sets.specs.Least.{least}
-use borrow.Author.Rules.{rules}
 use Rattle.dataflow.proofs.own_sets.Goals as goal
 
 pub slice_bounds-solve_plain-end : goal.slice_bounds-solve_plain-end

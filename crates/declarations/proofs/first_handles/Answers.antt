@@ -1,8 +1,7 @@
 -- `declarations::first_handles` meets its contract. Assumes nothing.
-use borrow.Author.Rules.{rules}
 use native.Mathlib.Omega.{arith}
-use Prim.Native.Nat.{◌-◌, ◌<◌, ◌≤◌, zero-le}
-use Rattle.declarations.specs.ListLaws.{Skipping, skipping_start, skipping_next}
+use Prim.Native.Nat.{◌<◌, zero-le}
+use Rattle.declarations.specs.ListLaws.{skipping_start, skipping_next}
 use Rattle.table.proofs.TabulateLaws.{begun_below}
 use Rattle.declarations.proofs.first_handles.Goals as goal
 

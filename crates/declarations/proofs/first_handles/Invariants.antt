@@ -1,9 +1,6 @@
 -- `declarations::first_handles` meets its contract. Assumes nothing.
-use borrow.Author.Rules.{rules}
-use native.Mathlib.Omega.{arith}
-use Prim.Native.Nat.{◌-◌, ◌<◌, ◌≤◌, zero-le}
-use Rattle.declarations.specs.ListLaws.{Skipping, skipping_start, skipping_next}
-use Rattle.table.proofs.TabulateLaws.{begun_below}
+use Prim.Native.Nat.{◌-◌, ◌≤◌}
+use Rattle.declarations.specs.ListLaws.{Skipping}
 use Rattle.declarations.proofs.first_handles.Given as goal
 
 abbrev pub invariant-loop-r : goal.invariant-loop-r

@@ -1,8 +1,7 @@
 -- `declarations::first_statements` meets its contract. Assumes nothing.
-use borrow.Author.Rules.{rules}
 use native.Mathlib.Omega.{arith}
-use Prim.Native.Nat.{◌-◌, ◌<◌, ◌≤◌, zero-le}
-use Rattle.declarations.specs.ListLaws.{Summing, summing_start, summing_next}
+use Prim.Native.Nat.{◌<◌, zero-le}
+use Rattle.declarations.specs.ListLaws.{summing_start, summing_next}
 use Rattle.table.proofs.TabulateLaws.{begun_below}
 use Rattle.declarations.proofs.first_statements.Goals as goal
 

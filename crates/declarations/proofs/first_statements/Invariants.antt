@@ -1,9 +1,6 @@
 -- `declarations::first_statements` meets its contract. Assumes nothing.
-use borrow.Author.Rules.{rules}
-use native.Mathlib.Omega.{arith}
-use Prim.Native.Nat.{◌-◌, ◌<◌, ◌≤◌, zero-le}
-use Rattle.declarations.specs.ListLaws.{Summing, summing_start, summing_next}
-use Rattle.table.proofs.TabulateLaws.{begun_below}
+use Prim.Native.Nat.{◌-◌, ◌≤◌}
+use Rattle.declarations.specs.ListLaws.{Summing}
 use Rattle.declarations.proofs.first_statements.Given as goal
 
 abbrev pub invariant-loop-r : goal.invariant-loop-r

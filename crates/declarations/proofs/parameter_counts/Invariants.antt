@@ -1,14 +1,7 @@
 -- `declarations::parameter_counts` meets its contract. Assumes nothing.
-use borrow.Author.Rules.{rules}
-use native.Mathlib.Omega.{arith}
-use mathlib.Core.Path.{subst⁻¹, ◌∙◌}
-use Prim.Native.Nat.{ℕ, ◌+◌, ◌-◌, ◌≤◌, ◌<◌, zero-le}
-use Rattle.table.specs.Header.{routines}
-use Rattle.table.specs.Handles.{parameters, handles_from}
-use Rattle.declarations.specs.ListLaws.{parameters_is}
-use Rattle.table.proofs.UntilLaws.{until_range}
+use Prim.Native.Nat.{◌-◌, ◌≤◌}
+use Rattle.table.specs.Handles.{parameters}
 use Rattle.table.specs.TabulateLaws.{Begun}
-use Rattle.table.proofs.TabulateLaws.{begun_none, begun_next, begun_below, entry_below}
 use Rattle.declarations.proofs.parameter_counts.Given as goal
 
 abbrev pub invariant-loop-r : goal.invariant-loop-r

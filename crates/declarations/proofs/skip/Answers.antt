@@ -1,12 +1,7 @@
 -- `declarations::skip` meets its contract. Assumes nothing.
-use borrow.Author.Rules.{rules}
 use borrow.Author.Tests.{eq-eqb, ne_eqb}
 use mathlib.Core.Path.{sym, ◌∙◌}
-use Prim.Native.Nat.{◌-◌}
-use lib.Dec.{eqb}
-use Rattle.table.specs.Fields.{field}
-use Rattle.table.specs.Header.{handle_line}
-use Rattle.table.proofs.UntilLaws.{Looking, looking_start, looking_next, looking_stop, looking_done}
+use Rattle.table.proofs.UntilLaws.{looking_start, looking_next, looking_stop, looking_done}
 use Rattle.declarations.proofs.skip.Goals as goal
 
 pub loop-h-init : goal.loop-h-init

@@ -1,12 +1,9 @@
 -- `declarations::skip` meets its contract. Assumes nothing.
-use borrow.Author.Rules.{rules}
-use borrow.Author.Tests.{eq-eqb, ne_eqb}
-use mathlib.Core.Path.{sym, ◌∙◌}
 use Prim.Native.Nat.{◌-◌}
 use lib.Dec.{eqb}
 use Rattle.table.specs.Fields.{field}
 use Rattle.table.specs.Header.{handle_line}
-use Rattle.table.proofs.UntilLaws.{Looking, looking_start, looking_next, looking_stop, looking_done}
+use Rattle.table.proofs.UntilLaws.{Looking}
 use Rattle.declarations.proofs.skip.Given as goal
 
 abbrev pub invariant-loop-h : goal.invariant-loop-h

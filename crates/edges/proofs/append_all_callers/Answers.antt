@@ -1,13 +1,9 @@
 -- `edges::append_all_callers` meets its contract. Assumes nothing.
 use Rattle.edges.specs.LineLaws.{lined, every_edge}
 use native.Mathlib.Omega.{arith}
-use Prim.Native.Nat.{◌-◌}
-use Rattle.table.specs.Table.{table_of}
-use Rattle.edges.specs.Equations.{Callers, edges_at}
-use Rattle.edges.specs.EdgeLaws.{Growing, growing_start, growing_next}
-use Rattle.edges.specs.RoutineLaws.{Near, near_start}
-use borrow.Author.Rules.{rules}
-use borrow.Author.Rules.{rules}
+use Rattle.edges.specs.Equations.{Callers}
+use Rattle.edges.specs.EdgeLaws.{growing_start, growing_next}
+use Rattle.edges.specs.RoutineLaws.{near_start}
 use Rattle.edges.proofs.append_all_callers.Goals as goal
 
 pub loop-s-init : goal.loop-s-init

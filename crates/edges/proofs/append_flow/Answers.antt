@@ -6,7 +6,6 @@ use Rattle.edges.specs.Equations.{edges_at}
 use Rattle.sets.proofs.AppendLaws.{appended_same, appended_both}
 use Rattle.edges.specs.LineLaws.{viewed, names_routine, flow_plain}
 use Rattle.edges.specs.RoutineLaws.{passing_parts, flow_passing}
-use borrow.Author.Rules.{rules}
 use Rattle.edges.proofs.append_flow.Goals as goal
 
 pub append_passing-requires : goal.append_passing-requires

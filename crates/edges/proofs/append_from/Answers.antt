@@ -6,7 +6,6 @@ use Rattle.sets.specs.Least.{Edge}
 use Rattle.table.specs.View.{list_on}
 use Rattle.edges.specs.Equations.{edge}
 use Rattle.sets.proofs.AppendLaws.{appended_same, appended_none}
-use borrow.Author.Rules.{rules}
 use Rattle.edges.proofs.append_from.Goals as goal
 
 pub returns-in-To : goal.returns-in-To

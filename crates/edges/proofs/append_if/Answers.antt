@@ -6,7 +6,6 @@ use Rattle.table.specs.View.{when}
 use Rattle.edges.specs.Equations.{edge}
 use Rattle.sets.proofs.AppendLaws.{appended_same, appended_none}
 use mathlib.Core.Bool.{Bool}
-use borrow.Author.Rules.{rules}
 use Rattle.edges.proofs.append_if.Goals as goal
 
 pub returns-then-test : goal.returns-then-test

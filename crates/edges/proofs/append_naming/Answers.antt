@@ -3,7 +3,6 @@ use mathlib.Core.Path.{refl}
 use Rattle.table.specs.Table.{table_of}
 use Rattle.sets.proofs.AppendLaws.{appended_same}
 use Rattle.edges.specs.LineLaws.{viewed, up_all, up_calls}
-use borrow.Author.Rules.{rules}
 use Rattle.edges.proofs.append_naming.Goals as goal
 
 pub returns-then-starts : goal.returns-then-starts

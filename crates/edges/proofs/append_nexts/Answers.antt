@@ -2,7 +2,6 @@
 use mathlib.Core.Path.{refl}
 use Rattle.sets.proofs.AppendLaws.{appended_same, appended_both}
 use Rattle.edges.specs.LineLaws.{viewed, next_at}
-use borrow.Author.Rules.{rules}
 use Rattle.edges.proofs.append_nexts.Goals as goal
 
 pub returns : goal.returns

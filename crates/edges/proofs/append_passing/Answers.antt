@@ -2,14 +2,11 @@
 use Rattle.edges.specs.LineLaws.{passing_from}
 use Rattle.sets.specs.Least.{Edge}
 use mathlib.Core.Path.{ap}
-use Prim.Native.Nat.{ℕ, ◌+◌, ◌-◌}
+use Prim.Native.Nat.{ℕ, ◌+◌}
 use mathlib.Core.List.{List, [], ◌∷◌}
-use lib.ListN.{get_or}
-use Rattle.table.specs.Table.{passed}
 use Rattle.edges.specs.Equations.{edge}
 use Rattle.sets.proofs.AppendLaws.{appended_same}
-use Rattle.edges.specs.EdgeLaws.{Growing, growing_start, growing_next, growing_done}
-use borrow.Author.Rules.{rules}
+use Rattle.edges.specs.EdgeLaws.{growing_start, growing_next, growing_done}
 use Rattle.edges.proofs.append_passing.Goals as goal
 
 pub loop-j-init : goal.loop-j-init

@@ -1,15 +1,10 @@
 -- `edges::append_passing` meets its contract. Assumes nothing.
-use Rattle.edges.specs.LineLaws.{passing_from}
-use Rattle.sets.specs.Least.{Edge}
-use mathlib.Core.Path.{ap}
 use Prim.Native.Nat.{ℕ, ◌+◌, ◌-◌}
-use mathlib.Core.List.{List, [], ◌∷◌}
+use mathlib.Core.List.{[], ◌∷◌}
 use lib.ListN.{get_or}
 use Rattle.table.specs.Table.{passed}
 use Rattle.edges.specs.Equations.{edge}
-use Rattle.sets.proofs.AppendLaws.{appended_same}
-use Rattle.edges.specs.EdgeLaws.{Growing, growing_start, growing_next, growing_done}
-use borrow.Author.Rules.{rules}
+use Rattle.edges.specs.EdgeLaws.{Growing}
 use Rattle.edges.proofs.append_passing.Given as goal
 
 abbrev pub invariant-loop-j : goal.invariant-loop-j

@@ -8,7 +8,6 @@ use Rattle.edges.specs.Equations.{edge}
 use Rattle.sets.proofs.AppendLaws.{appended_same, appended_none}
 use Rattle.edges.specs.EdgeLaws.{appended_large}
 use native.Mathlib.Omega.{arith}
-use borrow.Author.Rules.{rules}
 use Rattle.edges.proofs.append_to.Goals as goal
 
 pub returns-then-q-lt65536 : goal.returns-then-q-lt65536

@@ -1,12 +1,8 @@
 -- `edges::fill_flow` meets its contract. Assumes nothing.
-use Prim.Native.Nat.{◌-◌}
 use native.Mathlib.Omega.{arith}
-use Rattle.table.specs.Table.{table_of}
-use Rattle.edges.specs.Equations.{Flow, edges_at}
-use Rattle.edges.specs.EdgeLaws.{Growing, growing_start, growing_next}
+use Rattle.edges.specs.Equations.{Flow}
+use Rattle.edges.specs.EdgeLaws.{growing_start, growing_next}
 use Rattle.edges.specs.LineLaws.{lined, every_edge}
-use borrow.Author.Rules.{rules}
-use borrow.Author.Rules.{rules}
 use Rattle.edges.proofs.fill_flow.Goals as goal
 
 pub loop-s-init : goal.loop-s-init

@@ -2,13 +2,8 @@
 use Rattle.sets.proofs.AppendLaws.{appended_same}
 use Rattle.edges.specs.LineLaws.{lined, every_edge, up_at}
 use native.Mathlib.Omega.{arith}
-use Prim.Native.Nat.{◌-◌}
-use Rattle.table.specs.Table.{table_of}
-use Rattle.edges.specs.Equations.{upwards, edges_at}
-use Rattle.edges.specs.EdgeLaws.{Growing, growing_start, growing_next}
-use Rattle.edges.specs.RoutineLaws.{Near, near_start}
-use borrow.Author.Rules.{rules}
-use borrow.Author.Rules.{rules}
+use Rattle.edges.specs.EdgeLaws.{growing_start, growing_next}
+use Rattle.edges.specs.RoutineLaws.{near_start}
 use Rattle.edges.proofs.fill_naming.Goals as goal
 
 pub loop-s-init : goal.loop-s-init

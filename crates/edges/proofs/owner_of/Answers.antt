@@ -1,7 +1,6 @@
 -- `edges::owner_of_lem` meets its contract. Assumes nothing.
 use Rattle.edges.specs.RoutineLaws.{owner_same, owner_next}
 use native.Mathlib.Omega.{arith}
-use borrow.Author.Rules.{rules}
 use Rattle.edges.proofs.owner_of.Goals as goal
 
 pub returns-then-number_at-s-clause-is : goal.returns-then-number_at-s-clause-is

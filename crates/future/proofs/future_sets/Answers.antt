@@ -6,7 +6,6 @@ use mathlib.Core.Path.{sym, ap₂, ◌∙◌}
 use Prim.Native.Nat.{ℕ}
 use native.Mathlib.Omega.{arith}
 use lib.Seq.{length-take-le}
-use borrow.Author.Rules.{rules}
 use Rattle.future.proofs.future_sets.Goals as goal
 
 pub slice_bounds-later_sets-end-2 : goal.slice_bounds-later_sets-end-2

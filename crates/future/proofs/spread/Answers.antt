@@ -1,9 +1,6 @@
 -- `future::spread` meets its contract. Its loop has gone through the statements below s. Assumes nothing.
-use Prim.Native.Nat.{◌-◌}
 use native.Mathlib.Omega.{arith}
-use mathlib.Core.Path.{ap, ◌∙◌}
-use borrow.Author.Rules.{rules}
-use Rattle.future.specs.SpreadLaws.{Spreading, spreading_start, spreading_long, spreading_next, spreading_done}
+use Rattle.future.specs.SpreadLaws.{spreading_start, spreading_long, spreading_next, spreading_done}
 use Rattle.future.proofs.spread.Goals as goal
 
 pub loop-s-init : goal.loop-s-init

@@ -5,7 +5,6 @@ use native.Mathlib.Omega.{arith}
 use Rattle.sets.specs.Set.{union}
 use Rattle.edges.specs.LineLaws.{viewed}
 use Rattle.initial.specs.InitialLaws.{effect_past, effect_is}
-use borrow.Author.Rules.{rules}
 use Rattle.initial.proofs.effect_at.Goals as goal
 
 pub returns-then-end-s : goal.returns-then-end-s

@@ -1,5 +1,4 @@
 -- `initial::effect_on` meets its contract. Assumes nothing.
-use borrow.Author.Rules.{rules}
 use Rattle.initial.proofs.effect_on.Goals as goal
 
 pub returns-in-To : goal.returns-in-To

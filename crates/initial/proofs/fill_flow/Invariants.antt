@@ -1,15 +1,9 @@
 -- `initial::fill_flow` meets its contract. Assumes nothing.
-use Rattle.table.proofs.LookupLaws.{handles_length}
 use Prim.Native.Nat.{◌-◌}
-use mathlib.Core.Path.{refl}
-use native.Mathlib.Omega.{arith}
 use lib.ListN.{length}
 use Rattle.table.specs.Table.{table_of}
 use Rattle.table.specs.TabulateLaws.{Filled}
-use Rattle.table.proofs.TabulateLaws.{filled_none, filled_next, filled_all}
 use Rattle.report.specs.Flow.{start_of}
-use borrow.Author.Rules.{rules}
-use borrow.Author.Rules.{rules}
 use Rattle.initial.proofs.fill_flow.Given as goal
 
 abbrev pub invariant-loop-h : goal.invariant-loop-h

@@ -1,15 +1,8 @@
 -- `initial::fill_own` meets its contract. Assumes nothing.
-use Prim.Native.Nat.{◌-◌}
 use mathlib.Core.Path.{refl}
 use native.Mathlib.Omega.{arith}
-use lib.ListN.{length}
-use Rattle.table.specs.Table.{table_of}
-use Rattle.table.specs.TabulateLaws.{Filled}
 use Rattle.table.proofs.TabulateLaws.{filled_none, filled_next, filled_all}
-use Rattle.edges.specs.Equations.{in_routine}
-use borrow.Author.Rules.{rules}
 use Rattle.edges.specs.LineLaws.{lined}
-use borrow.Author.Rules.{rules}
 use Rattle.initial.proofs.fill_own.Goals as goal
 
 pub loop-r-init : goal.loop-r-init

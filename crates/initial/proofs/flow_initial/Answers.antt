@@ -2,7 +2,6 @@
 use Rattle.initial.specs.InitialLaws.{start_local, start_parameter}
 use Rattle.sets.specs.Set.{one}
 use mathlib.Core.Path.{sym, ap, ◌∙◌}
-use borrow.Author.Rules.{rules}
 use Rattle.initial.proofs.flow_initial.Goals as goal
 
 pub returns-then-field_of-eq1 : goal.returns-then-field_of-eq1

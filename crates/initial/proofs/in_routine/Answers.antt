@@ -7,9 +7,7 @@ use native.Mathlib.Omega.{arith}
 use Prim.Native.Nat.{ℕ}
 use Rattle.table.specs.Table.{table_of, statement as statement_at}
 use Rattle.edges.specs.Equations.{own_set, in_routine}
-use Rattle.initial.specs.UnionLaws.{Uniting, uniting_start, uniting_next, uniting_done}
-use borrow.Author.Rules.{rules}
-use borrow.Author.Rules.{rules}
+use Rattle.initial.specs.UnionLaws.{uniting_start, uniting_next, uniting_done}
 use Rattle.initial.proofs.in_routine.Goals as goal
 
 pub loop-s-init : goal.loop-s-init

@@ -4,7 +4,6 @@ use mathlib.Core.Path.{refl, ap₂, ◌∙◌}
 use Rattle.sets.specs.Set.{union}
 use Rattle.edges.specs.LineLaws.{viewed}
 use Rattle.initial.specs.InitialLaws.{later_both, later_there}
-use borrow.Author.Rules.{rules}
 use Rattle.initial.proofs.nexts_effect.Goals as goal
 
 pub returns-then-onward_at : goal.returns-then-onward_at

@@ -3,7 +3,6 @@ use mathlib.Core.Path.{refl, ◌∙◌}
 use Rattle.table.specs.Table.{table_of}
 use Rattle.edges.specs.LineLaws.{viewed}
 use Rattle.initial.specs.InitialLaws.{own_is}
-use borrow.Author.Rules.{rules}
 use Rattle.initial.proofs.own_set.Goals as goal
 
 pub returns : goal.returns

@@ -1,5 +1,4 @@
 -- `initial::touched` meets its contract. Assumes nothing.
-use borrow.Author.Rules.{rules}
 use Rattle.initial.proofs.touched.Goals as goal
 
 pub returns-then-locks : goal.returns-then-locks

@@ -2,7 +2,6 @@
 use native.Mathlib.Omega.{arith}
 use Rattle.sets.proofs.AppendLaws.{appended_same, appended_none, appended_both}
 use Rattle.lock_edges.specs.ViewEdgeLaws.{call_is, start_no_call, none_no_call}
-use borrow.Author.Rules.{rules}
 use Rattle.lock_edges.proofs.append_call.Goals as goal
 
 pub returns-then-view : goal.returns-then-view

@@ -1,7 +1,6 @@
 -- `lock_edges::append_end` meets its contract. Assumes nothing.
 use Rattle.sets.proofs.AppendLaws.{appended_same, appended_none}
 use Rattle.lock_edges.specs.ViewEdgeLaws.{end_is, none_no_end}
-use borrow.Author.Rules.{rules}
 use Rattle.lock_edges.proofs.append_end.Goals as goal
 
 pub returns-then-view : goal.returns-then-view

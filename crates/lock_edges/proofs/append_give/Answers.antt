@@ -2,7 +2,6 @@
 use native.Mathlib.Omega.{arith}
 use Rattle.sets.proofs.AppendLaws.{appended_same, appended_none}
 use Rattle.lock_edges.specs.ViewEdgeLaws.{give_is, none_no_give}
-use borrow.Author.Rules.{rules}
 use Rattle.lock_edges.proofs.append_give.Goals as goal
 
 pub overflow_add-place : goal.overflow_add-place

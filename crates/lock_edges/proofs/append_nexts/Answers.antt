@@ -1,7 +1,6 @@
 -- `lock_edges::append_nexts` meets its contract. Assumes nothing.
 use Rattle.sets.proofs.AppendLaws.{appended_same, appended_both}
 use Rattle.lock_edges.specs.ViewEdgeLaws.{nexts_onward, nexts_not_onward}
-use borrow.Author.Rules.{rules}
 use Rattle.lock_edges.proofs.append_nexts.Goals as goal
 
 pub returns-then-view : goal.returns-then-view

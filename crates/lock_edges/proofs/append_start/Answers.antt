@@ -1,7 +1,6 @@
 -- `lock_edges::append_start` meets its contract. Assumes nothing.
 use Rattle.sets.proofs.AppendLaws.{appended_same, appended_none}
 use Rattle.lock_edges.specs.ViewEdgeLaws.{start_is, call_no_start, none_no_start}
-use borrow.Author.Rules.{rules}
 use Rattle.lock_edges.proofs.append_start.Goals as goal
 
 pub returns-in-To : goal.returns-in-To

@@ -1,9 +1,7 @@
 -- `lock_edges::append_statement` meets its contract. Assumes nothing.
-use mathlib.Core.Path.{◌∙◌}
 use Rattle.lock_edges.specs.ViewEdges.{view_edges}
 use Rattle.sets.proofs.AppendLaws.{appended_same, appended_both}
 use Rattle.lock_edges.specs.ViewEdgeLaws.{kept_is}
-use borrow.Author.Rules.{rules}
 use Rattle.lock_edges.proofs.append_statement.Goals as goal
 
 pub append_call-called-requires : goal.append_call-called-requires

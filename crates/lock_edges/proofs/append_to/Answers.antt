@@ -1,7 +1,6 @@
 -- `lock_edges::append_to` meets its contract. Assumes nothing.
 use Rattle.sets.proofs.AppendLaws.{appended_same, appended_none}
 use Rattle.lock_edges.specs.ViewEdgeLaws.{to_is, to_none}
-use borrow.Author.Rules.{rules}
 use Rattle.lock_edges.proofs.append_to.Goals as goal
 
 pub returns-in-To : goal.returns-in-To

@@ -1,7 +1,6 @@
 -- `lock_edges::met_place` meets its contract. Assumes nothing.
 use native.Mathlib.Omega.{arith}
 use Rattle.lock_edges.specs.ViewEdgeLaws.{met_over_take, met_over_start, met_over_call, met_over_other}
-use borrow.Author.Rules.{rules}
 use Rattle.lock_edges.proofs.met_place.Goals as goal
 
 pub overflow_add-result : goal.overflow_add-result

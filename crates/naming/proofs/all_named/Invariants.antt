@@ -1,10 +1,7 @@
 -- `naming::all_named` meets its contract. Assumes nothing.
-use borrow.Author.Rules.{rules}
-use native.Mathlib.Omega.{arith}
-use Prim.Native.Nat.{ℕ, ◌-◌, ◌≤◌, zero-le}
-use Rattle.sets.specs.Set.{union}
+use Prim.Native.Nat.{ℕ, ◌-◌, ◌≤◌}
 use lib.ListN.{get_or}
-use Rattle.naming.specs.GatherLaws.{Gathering, gathering_start, gathering_next, gathering_rest}
+use Rattle.naming.specs.GatherLaws.{Gathering}
 use Rattle.naming.proofs.all_named.Given as goal
 
 abbrev pub invariant-loop-r : goal.invariant-loop-r

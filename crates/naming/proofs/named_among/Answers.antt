@@ -1,10 +1,6 @@
 -- `naming::named_among` meets its contract. Assumes nothing.
-use borrow.Author.Rules.{rules}
 use native.Mathlib.Omega.{arith}
-use Prim.Native.Nat.{◌-◌}
-use Rattle.sets.specs.Set.{union}
-use Rattle.table.specs.Naming.{named_by}
-use Rattle.naming.specs.GatherLaws.{Gathering, gathering_start, gathering_next, gathering_done}
+use Rattle.naming.specs.GatherLaws.{gathering_start, gathering_next, gathering_done}
 use Rattle.naming.proofs.named_among.Goals as goal
 
 pub loop-s-init : goal.loop-s-init

@@ -1,10 +1,7 @@
 -- `naming::named_among` meets its contract. Assumes nothing.
-use borrow.Author.Rules.{rules}
-use native.Mathlib.Omega.{arith}
 use Prim.Native.Nat.{◌-◌}
-use Rattle.sets.specs.Set.{union}
 use Rattle.table.specs.Naming.{named_by}
-use Rattle.naming.specs.GatherLaws.{Gathering, gathering_start, gathering_next, gathering_done}
+use Rattle.naming.specs.GatherLaws.{Gathering}
 use Rattle.naming.proofs.named_among.Given as goal
 
 abbrev pub invariant-loop-s : goal.invariant-loop-s

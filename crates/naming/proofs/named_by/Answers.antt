@@ -13,7 +13,6 @@ use Rattle.table.specs.Table.{statement_in}
 use Rattle.table.specs.View.{view, set_on}
 use Rattle.table.specs.declared.Reference.{Reference}
 use Rattle.table.specs.declared.View.{View}
-use borrow.Author.Rules.{rules}
 use Rattle.naming.proofs.named_by.Goals as goal
 
 -- so what it names is what the line's view does

@@ -1,10 +1,8 @@
 -- `naming::names_in` meets its contract. Assumes nothing.
-use borrow.Author.Rules.{rules}
 use native.Mathlib.Omega.{arith}
-use Prim.Native.Nat.{◌-◌, ◌<◌, ◌≤◌, zero-le}
+use Prim.Native.Nat.{◌<◌, zero-le}
 use Rattle.naming.specs.GatherLaws.{none_named}
-use Rattle.table.specs.Naming.{names_of, names_in}
-use Rattle.table.specs.TabulateLaws.{Begun}
+use Rattle.table.specs.Naming.{names_in}
 use Rattle.table.proofs.TabulateLaws.{begun_none, begun_next, begun_rest}
 use Rattle.naming.proofs.names_in.Goals as goal
 

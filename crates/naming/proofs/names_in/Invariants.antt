@@ -1,11 +1,7 @@
 -- `naming::names_in` meets its contract. Assumes nothing.
-use borrow.Author.Rules.{rules}
-use native.Mathlib.Omega.{arith}
-use Prim.Native.Nat.{◌-◌, ◌<◌, ◌≤◌, zero-le}
-use Rattle.naming.specs.GatherLaws.{none_named}
-use Rattle.table.specs.Naming.{names_of, names_in}
+use Prim.Native.Nat.{◌-◌, ◌≤◌}
+use Rattle.table.specs.Naming.{names_of}
 use Rattle.table.specs.TabulateLaws.{Begun}
-use Rattle.table.proofs.TabulateLaws.{begun_none, begun_next, begun_rest}
 use Rattle.naming.proofs.names_in.Given as goal
 
 abbrev pub invariant-loop-r : goal.invariant-loop-r

@@ -5,7 +5,6 @@ use mathlib.Core.Path.{ap₂, ◌∙◌}
 use Prim.Native.Nat.{ℕ, ◌+◌, ◌-◌}
 use Rattle.table.specs.Naming.{names_of, named_by, gather}
 use Rattle.table.proofs.Lists.{statements_begin, begin_early}
-use borrow.Author.Rules.{rules}
 use Rattle.naming.proofs.names_of.Goals as goal
 
 pub number_at-requires : goal.number_at-requires

@@ -8,7 +8,6 @@ use Rattle.lines.proofs.LineLoops.{zeros_part, page_few, page_padded}
 use Rattle.table.proofs.VerdictLaws.{reading_refused, reading_accepted}
 use Rattle.table.specs.declared.Verdict as Declared
 use Rattle.table.specs.declared.Reading.{Reading}
-use borrow.Author.Rules.{rules}
 use Rattle.reader.proofs.read.Goals as goal
 
 pub slice_bounds-read_into-end : goal.slice_bounds-read_into-end

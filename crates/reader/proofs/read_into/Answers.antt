@@ -2,13 +2,11 @@
 use mathlib.Core.Path.{◌≡◌, sym, ◌∙◌}
 use mathlib.Core.Bool.{true}
 use mathlib.Core.Option.{none}
-use borrow.Author.Tests.{not-true, not-false}
 use lib.ListN.{length}
 use Rattle.lines.specs.Line.{first_bad}
 use Rattle.lines.proofs.LineLoops.{answer_line, answer_none}
 use Rattle.table.specs.Verdict.{text_ok}
 use Rattle.table.proofs.VerdictLaws.{bad_length, bad_line, into_refused, into_numbers}
-use borrow.Author.Rules.{rules}
 use Rattle.reader.proofs.read_into.Goals as goal
 
 pub returns-then-not-has_length-clause-verdict : goal.returns-then-not-has_length-clause-verdict

@@ -3,7 +3,6 @@ use mathlib.Core.Path.{refl}
 use Rattle.sets.proofs.AppendLaws.{appended_same, appended_both}
 use Rattle.edges.specs.LineLaws.{viewed}
 use Rattle.start_edges.specs.StartLaws.{entering_parts}
-use borrow.Author.Rules.{rules}
 use Rattle.start_edges.proofs.append_entering.Goals as goal
 
 pub returns : goal.returns

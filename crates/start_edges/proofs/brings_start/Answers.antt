@@ -4,7 +4,6 @@ use mathlib.Core.Bool.{Bool, ◌||◌}
 use Rattle.table.specs.View.{test_on}
 use Rattle.table.specs.declared.Reference.{Reference}
 use Rattle.report.specs.Preceded.{is_marked}
-use borrow.Author.Rules.{rules}
 use Rattle.start_edges.proofs.brings_start.Goals as goal
 
 pub returns-in-To : goal.returns-in-To

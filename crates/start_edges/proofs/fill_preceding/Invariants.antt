@@ -1,13 +1,9 @@
 -- `start_edges::fill_preceding` meets its contract. Its loop has gone through the statements below s. Assumes nothing.
 use Prim.Native.Nat.{◌-◌}
-use native.Mathlib.Omega.{arith}
 use Rattle.table.specs.Table.{table_of}
-use Rattle.edges.specs.EdgeLaws.{Growing, growing_start, growing_next}
-use Rattle.edges.specs.LineLaws.{lined}
-use Rattle.edges.specs.RoutineLaws.{Near, near_start}
+use Rattle.edges.specs.EdgeLaws.{Growing}
+use Rattle.edges.specs.RoutineLaws.{Near}
 use Rattle.start_edges.specs.StartEdges.{preceding_at}
-use Rattle.start_edges.specs.StartRoom.{preceding_ready}
-use borrow.Author.Rules.{rules}
 use Rattle.start_edges.proofs.fill_preceding.Given as goal
 
 abbrev pub invariant-loop-s : goal.invariant-loop-s

@@ -4,7 +4,6 @@ use mathlib.Core.Bool.{Bool}
 use Prim.Native.Nat.{ℕ}
 use Rattle.sets.specs.Set.{has}
 use Rattle.report.specs.Preceded.{is_marked}
-use borrow.Author.Rules.{rules}
 use Rattle.start_edges.proofs.is_marked.Goals as goal
 
 pub returns : goal.returns

@@ -2,7 +2,6 @@
 use mathlib.Core.Path.{refl}
 use Rattle.edges.specs.LineLaws.{viewed}
 use Rattle.start_edges.specs.StartLaws.{origin_start, origin_own}
-use borrow.Author.Rules.{rules}
 use Rattle.start_edges.proofs.origin_of.Goals as goal
 
 pub returns-then-brings_start : goal.returns-then-brings_start

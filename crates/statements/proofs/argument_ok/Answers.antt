@@ -4,7 +4,6 @@ use mathlib.Core.Path.{◌∙◌}
 use borrow.Author.Tests.{le-ltb, lt-ltb}
 use Rattle.table.proofs.Lists.{handles_begin, handles_early, parameters_counted}
 use Rattle.table.specs.Statements.{argument_ok}
-use borrow.Author.Rules.{rules}
 use Rattle.statements.proofs.argument_ok.Goals as goal
 
 pub field_of-x-requires : goal.field_of-x-requires

@@ -1,6 +1,5 @@
 -- `statements::arguments_ok` meets its contract. Assumes nothing.
 use Rattle.table.specs.Statements.{arguments_ok}
-use borrow.Author.Rules.{rules}
 use Rattle.statements.proofs.arguments_ok.Goals as goal
 
 pub is_unused-requires : goal.is_unused-requires

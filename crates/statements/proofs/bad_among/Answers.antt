@@ -1,11 +1,6 @@
 -- `statements::bad_among` meets its contract. Assumes nothing.
-use borrow.Author.Rules.{rules}
-use borrow.Author.Tests.{not-true, not-false}
-use native.Mathlib.Omega.{arith}
 use mathlib.Core.Path.{sym, ◌∙◌}
-use Prim.Native.Nat.{◌-◌}
-use Rattle.table.specs.Statements.{statement_ok}
-use Rattle.table.proofs.UntilLaws.{Looking, looking_start, looking_next, looking_stop, looking_done}
+use Rattle.table.proofs.UntilLaws.{looking_start, looking_next, looking_stop, looking_done}
 use Rattle.statements.proofs.bad_among.Goals as goal
 
 pub loop-s-init : goal.loop-s-init

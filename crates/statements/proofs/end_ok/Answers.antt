@@ -5,7 +5,6 @@ use Prim.Native.Nat.{ℕ, ◌+◌, ◌-◌}
 use Rattle.table.proofs.HeaderLaws.{statement_line_lem}
 use Rattle.table.proofs.Lists.{statements_begin, begin_early}
 use Rattle.table.specs.Statements.{end_ok, last_of}
-use borrow.Author.Rules.{rules}
 use Rattle.statements.proofs.end_ok.Goals as goal
 
 pub first_line-requires : goal.first_line-requires

@@ -4,7 +4,6 @@ use Prim.Native.Nat.{◌+◌}
 use Rattle.table.specs.Statements.{operation_ok, own_statement}
 use Rattle.table.proofs.Lists.{statements_begin}
 use borrow.Author.Tests.{eq-eqb, ne_eqb}
-use borrow.Author.Rules.{rules}
 use Rattle.statements.proofs.operation_ok.Goals as goal
 
 pub field_of-a-requires : goal.field_of-a-requires

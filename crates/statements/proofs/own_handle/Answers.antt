@@ -1,7 +1,6 @@
 -- `statements::own_handle` meets its contract. Assumes nothing.
 use borrow.Author.Tests.{le-ltb, lt-ltb}
 use Rattle.table.specs.Statements.{own_handle}
-use borrow.Author.Rules.{rules}
 use Rattle.statements.proofs.own_handle.Goals as goal
 
 pub field_of-requires : goal.field_of-requires

@@ -1,7 +1,6 @@
 -- `statements::own_of_kind` meets its contract. Assumes nothing.
 use borrow.Author.Tests.{le-ltb, lt-ltb}
 use Rattle.table.specs.Statements.{own_of_kind, own_handle}
-use borrow.Author.Rules.{rules}
 use Rattle.statements.proofs.own_of_kind.Goals as goal
 
 pub field_of-requires : goal.field_of-requires

@@ -1,5 +1,4 @@
 -- `statements::own_statement` meets its contract. Assumes nothing.
-use borrow.Author.Rules.{rules}
 use Rattle.statements.proofs.own_statement.Goals as goal
 
 pub number_at-requires : goal.number_at-requires

@@ -1,6 +1,5 @@
 -- `statements::point_ok` meets its contract. Assumes nothing.
 use Rattle.table.specs.Statements.{point_ok}
-use borrow.Author.Rules.{rules}
 use Rattle.statements.proofs.point_ok.Goals as goal
 
 pub field_of-a-requires : goal.field_of-a-requires

@@ -3,7 +3,6 @@ use mathlib.Core.Path.{ap, ◌∙◌}
 use Prim.Native.Nat.{ℕ, ◌+◌}
 use Rattle.table.proofs.HeaderLaws.{statement_line_lem}
 use Rattle.table.specs.Statements.{statement_ok}
-use borrow.Author.Rules.{rules}
 use Rattle.statements.proofs.statement_ok.Goals as goal
 
 pub first_line-requires : goal.first_line-requires

@@ -1,6 +1,5 @@
 -- `declarations::handles::handle_fields_ok` meets its contract. Assumes nothing.
 use Rattle.table.specs.Handles.{handle_fields_ok}
-use borrow.Author.Rules.{rules}
 use Rattle.declarations.proofs.handles.handle_fields_ok.Goals as goal
 
 pub field_of-kind-requires : goal.field_of-kind-requires

@@ -1,6 +1,5 @@
 -- `declarations::handles::handle_ok` meets its contract. Assumes nothing.
 use Rattle.table.specs.Handles.{handle_ok}
-use borrow.Author.Rules.{rules}
 use Rattle.declarations.proofs.handles.handle_ok.Goals as goal
 
 pub returns : goal.returns

@@ -1,6 +1,5 @@
 -- `declarations::handles::handle_order_ok` meets its contract. Assumes nothing.
 use Rattle.table.specs.Handles.{handle_order_ok}
-use borrow.Author.Rules.{rules}
 use Rattle.declarations.proofs.handles.handle_order_ok.Goals as goal
 
 pub previous-before-requires : goal.previous-before-requires

@@ -1,6 +1,5 @@
 -- `declarations::handles::parameter_ok` meets its contract. Assumes nothing.
 use Rattle.table.specs.Handles.{parameter_ok}
-use borrow.Author.Rules.{rules}
 use Rattle.declarations.proofs.handles.parameter_ok.Goals as goal
 
 pub previous-before-requires : goal.previous-before-requires

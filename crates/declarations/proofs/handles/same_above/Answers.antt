@@ -1,7 +1,6 @@
 -- `declarations::handles::same_above_lem` meets its contract. Assumes nothing.
 use borrow.Author.Tests.{le-leb, lt-leb}
 use Rattle.table.specs.Handles.{same_above}
-use borrow.Author.Rules.{rules}
 use Rattle.declarations.proofs.handles.same_above.Goals as goal
 
 pub returns-then-h-k : goal.returns-then-h-k

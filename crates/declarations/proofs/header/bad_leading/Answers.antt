@@ -1,10 +1,6 @@
 -- `declarations::header::bad_leading` meets its contract. Assumes nothing.
-use borrow.Author.Rules.{rules}
-use borrow.Author.Tests.{not-true, not-false}
 use mathlib.Core.Path.{sym, ◌∙◌}
-use Prim.Native.Nat.{◌-◌}
-use Rattle.table.specs.Header.{leading_ok}
-use Rattle.table.proofs.UntilLaws.{Looking, looking_start, looking_next, looking_stop, looking_done}
+use Rattle.table.proofs.UntilLaws.{looking_start, looking_next, looking_stop, looking_done}
 use Rattle.declarations.proofs.header.bad_leading.Goals as goal
 
 pub loop-line-init : goal.loop-line-init

@@ -1,7 +1,6 @@
 -- `declarations::header::leading_of` meets its contract. Assumes nothing.
 use borrow.Author.Tests.{le-leb, lt-leb}
 use Rattle.table.specs.Header.{leading}
-use borrow.Author.Rules.{rules}
 use Rattle.declarations.proofs.header.leading_of.Goals as goal
 
 pub field_of-handles-requires : goal.field_of-handles-requires

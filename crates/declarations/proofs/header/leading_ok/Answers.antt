@@ -1,6 +1,5 @@
 -- `declarations::header::leading_ok` meets its contract. Assumes nothing.
 use Rattle.table.specs.Header.{leading_ok}
-use borrow.Author.Rules.{rules}
 use Rattle.declarations.proofs.header.leading_ok.Goals as goal
 
 pub field_of-requires : goal.field_of-requires

@@ -1,6 +1,5 @@
 -- `declarations::header::length_ok` meets its contract. Assumes nothing.
 use Rattle.table.specs.Header.{length_ok}
-use borrow.Author.Rules.{rules}
 use Rattle.declarations.proofs.header.length_ok.Goals as goal
 
 pub field_of-requires : goal.field_of-requires

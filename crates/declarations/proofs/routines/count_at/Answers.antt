@@ -2,7 +2,6 @@
 use mathlib.Core.Path.{ap, ◌∙◌}
 use Prim.Native.Nat.{ℕ, ◌+◌}
 use Rattle.table.specs.Fields.{field}
-use borrow.Author.Rules.{rules}
 use Rattle.declarations.proofs.routines.count_at.Goals as goal
 
 pub field_of-requires : goal.field_of-requires

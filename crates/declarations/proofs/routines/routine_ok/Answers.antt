@@ -1,6 +1,5 @@
 -- `declarations::routines::routine_ok` meets its contract. Assumes nothing.
 use Rattle.table.specs.Routines.{routine_ok}
-use borrow.Author.Rules.{rules}
 use Rattle.declarations.proofs.routines.routine_ok.Goals as goal
 
 pub field_of-requires : goal.field_of-requires

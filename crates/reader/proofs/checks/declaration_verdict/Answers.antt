@@ -1,9 +1,8 @@
 -- `reader::checks::declaration_verdict` meets its contract. Assumes nothing.
-use borrow.Author.Tests.{lt-ltb, le-ltb, not-true, not-false, eqb-true}
+use borrow.Author.Tests.{lt-ltb, le-ltb, eqb-true}
 use mathlib.Core.Path.{sym, ◌∙◌}
 use Rattle.table.specs.Verdict.{declaration_verdict}
 use Rattle.table.specs.Routines.{sum_ok}
-use borrow.Author.Rules.{rules}
 use Rattle.reader.proofs.checks.declaration_verdict.Goals as goal
 
 pub field_of-requires : goal.field_of-requires

@@ -8,7 +8,6 @@ use Rattle.table.specs.Naming.{is_named, is_acyclic}
 use Rattle.table.specs.Verdict.{naming_verdict}
 use Rattle.naming.specs.GatherLaws.{names_ended}
 use Rattle.reader.specs.Rules.{named_by_all}
-use borrow.Author.Rules.{rules}
 use Rattle.reader.proofs.checks.naming_verdict.Goals as goal
 
 pub field_of-count-requires : goal.field_of-count-requires

@@ -1,9 +1,8 @@
 -- `reader::checks::numbers_verdict` meets its contract. Assumes nothing.
-use borrow.Author.Tests.{lt-ltb, le-ltb, not-true, not-false}
+use borrow.Author.Tests.{lt-ltb, le-ltb}
 use Rattle.table.proofs.HeaderLaws.{header_sized}
 use mathlib.Core.Path.{sym, ◌∙◌}
 use Rattle.table.specs.Verdict.{numbers_verdict}
-use borrow.Author.Rules.{rules}
 use Rattle.reader.proofs.checks.numbers_verdict.Goals as goal
 
 pub returns-then-not-header_ok : goal.returns-then-not-header_ok

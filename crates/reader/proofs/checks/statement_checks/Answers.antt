@@ -10,7 +10,6 @@ use Rattle.table.proofs.HeaderLaws.{statement_line_lem}
 use Rattle.table.proofs.Lists.{statements_begin, begin_early}
 use Rattle.table.specs.Statements.{end_ok, last_of}
 use Rattle.table.specs.Verdict.{statement_verdict}
-use borrow.Author.Rules.{rules}
 use Rattle.reader.proofs.checks.statement_checks.Goals as goal
 
 pub field_of-requires : goal.field_of-requires

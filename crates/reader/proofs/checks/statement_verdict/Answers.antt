@@ -1,5 +1,4 @@
 -- `reader::checks::statement_verdict` meets its contract. Assumes nothing.
-use borrow.Author.Rules.{rules}
 use Rattle.reader.proofs.checks.statement_verdict.Goals as goal
 
 pub parameter_counts-counts-requires : goal.parameter_counts-counts-requires

@@ -1,7 +1,4 @@
 -- `reader::rules::holds` meets its contract. Assumes nothing.
-use native.Mathlib.Omega.{arith}
-use borrow.Author.Rules.{rules}
-use Rattle.reader.specs.Rules.{end_in_table}
 use Rattle.reader.proofs.rules.holds.Goals as goal
 
 pub has-requires : goal.has-requires

@@ -1,10 +1,7 @@
 -- `reader::rules::lowest` meets its contract. Assumes nothing.
-use borrow.Author.Rules.{rules}
-use borrow.Author.Tests.{not-true, not-false}
 use mathlib.Core.Path.{sym, ◌∙◌}
-use Prim.Native.Nat.{◌-◌}
-use Rattle.table.proofs.UntilLaws.{Looking, looking_start, looking_next, looking_stop, looking_done}
-use Rattle.reader.specs.Rules.{holds_at, in_table}
+use Rattle.table.proofs.UntilLaws.{looking_start, looking_next, looking_stop, looking_done}
+use Rattle.reader.specs.Rules.{in_table}
 use Rattle.reader.proofs.rules.lowest.Goals as goal
 
 pub loop-r-init : goal.loop-r-init
