@@ -3,7 +3,7 @@ use native.Mathlib.Omega.{arith}
 use mir.Syntax.{w32}
 use mir.Facts.{to_z_pos}
 use Rattle.run_printer.specs.Words.{answers_text}
-use Rattle.run_printer.specs.WordsLaws.{backing_start, backing_next, backing_done, puts_within}
+use Rattle.run_printer.proofs.WordsLaws.{backing_start, backing_next, backing_done, puts_within}
 use Rattle.run_printer.proofs.put_answers.Goals as goal
 
 pub loop-i-init : goal.loop-i-init

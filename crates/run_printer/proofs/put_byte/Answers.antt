@@ -1,6 +1,6 @@
 -- `run_printer::put_byte` meets its contract. Assumes nothing.
 use native.Mathlib.Omega.{arith}
-use Rattle.run_printer.specs.WordsLaws.{put_none, put_one, put_past}
+use Rattle.run_printer.proofs.WordsLaws.{put_none, put_one, put_past}
 use Rattle.run_printer.proofs.put_byte.Goals as goal
 
 pub returns-then-start-eq0 : goal.returns-then-start-eq0

@@ -5,7 +5,7 @@ use mir.Syntax.{w32}
 use mir.Facts.{to_z-of_z}
 use Rattle.fields.specs.Field.{decimal_text}
 use Rattle.run_printer.specs.Words.{puts, word_text}
-use Rattle.run_printer.specs.WordsLaws.{cell_puts}
+use Rattle.run_printer.proofs.WordsLaws.{cell_puts}
 use Rattle.run_printer.proofs.put_cell.Goals as goal
 
 pub returns : goal.returns

@@ -1,7 +1,7 @@
 -- `run_printer::put_digits` meets its contract. Assumes nothing.
 use native.Mathlib.Omega.{arith}
 use mathlib.Core.Path.{◌∙◌}
-use Rattle.run_printer.specs.WordsLaws.{spelling_start, spelling_next, spelling_done}
+use Rattle.run_printer.proofs.WordsLaws.{spelling_start, spelling_next, spelling_done}
 use Rattle.run_printer.proofs.put_digits.Goals as goal
 
 pub loop-m-init : goal.loop-m-init

@@ -1,6 +1,6 @@
 -- `run_printer::put_digits` meets its contract. Assumes nothing.
 use Rattle.run_printer.specs.Words.{ending}
-use Rattle.run_printer.specs.WordsLaws.{Spelling}
+use Rattle.run_printer.proofs.WordsLaws.{Spelling}
 use Rattle.run_printer.proofs.put_digits.Given as goal
 
 abbrev pub invariant-loop-m : goal.invariant-loop-m

@@ -6,7 +6,7 @@ use mir.Syntax.{w32}
 use mir.Facts.{to_z-of_z}
 use Rattle.fields.specs.Field.{decimal_text}
 use Rattle.run_printer.specs.Words.{ending, put, puts}
-use Rattle.run_printer.specs.WordsLaws.{word_plus, word_minus}
+use Rattle.run_printer.proofs.WordsLaws.{word_plus, word_minus}
 use Rattle.run_printer.proofs.put_number.Goals as goal
 
 pub returns-then-x-lt0 : goal.returns-then-x-lt0

@@ -1,7 +1,7 @@
 -- `run_printer::put_text` meets its contract. Assumes nothing.
 use native.Mathlib.Omega.{arith}
 use mathlib.Core.Path.{sym, ◌∙◌}
-use Rattle.run_printer.specs.WordsLaws.{puts_one, backing_start, backing_next, backing_done, puts_within, puts_bytes}
+use Rattle.run_printer.proofs.WordsLaws.{puts_one, backing_start, backing_next, backing_done, puts_within, puts_bytes}
 use Rattle.run_printer.proofs.put_text.Goals as goal
 
 pub loop-i-init : goal.loop-i-init

@@ -2,7 +2,7 @@
 use mathlib.Core.List.{List, [], ◌∷◌}
 use Prim.Native.Nat.{ℕ}
 use Rattle.run_printer.specs.Words.{ending}
-use Rattle.run_printer.specs.WordsLaws.{Backing}
+use Rattle.run_printer.proofs.WordsLaws.{Backing}
 use Rattle.run_printer.proofs.put_text.Given as goal
 
 -- the text of a byte

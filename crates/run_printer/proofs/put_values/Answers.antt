@@ -6,7 +6,7 @@ use mir.Syntax.{w32}
 use mir.Facts.{to_z-of_z}
 use Rattle.std.specs.Prelude.{slice_index_or, ◌-◌}
 use Rattle.run_printer.specs.Words.{values_text}
-use Rattle.run_printer.specs.WordsLaws.{backing_start, backing_next, backing_done, puts_within}
+use Rattle.run_printer.proofs.WordsLaws.{backing_start, backing_next, backing_done, puts_within}
 use Rattle.run_printer.proofs.put_values.Goals as goal
 
 pub loop-i-init : goal.loop-i-init

@@ -1,6 +1,6 @@
 -- `run_printer::put_values` meets its contract. Assumes nothing.
 use Rattle.run_printer.specs.Words.{ending, word_text}
-use Rattle.run_printer.specs.WordsLaws.{Backing}
+use Rattle.run_printer.proofs.WordsLaws.{Backing}
 use Rattle.run_printer.proofs.put_values.Given as goal
 
 abbrev pub invariant-loop-i : goal.invariant-loop-i
