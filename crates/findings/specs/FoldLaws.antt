@@ -6,7 +6,7 @@ use Prim.Native.Nat.{ℕ, zero, suc, ◌+◌, ◌-◌, ◌≤◌, ◌<◌}
 use native.Mathlib.Omega.{arith}
 use Rattle.sets.specs.Set.{union, inter}
 use Rattle.report.specs.Over.{union_from, inter_from, count_from}
-use Rattle.report.specs.Counts.{Counts, no_counts, add_access, walk_from}
+use Rattle.report.specs.Counts.{no_counts, add_access, walk_from}
 use Rattle.report.specs.Report.{bit}
 use Rattle.findings.specs.Steps.{fold_from}
 

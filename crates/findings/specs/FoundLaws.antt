@@ -4,9 +4,9 @@ use Rattle.std.proofs.Math.Path.{sym, ap, ap₂, fun_ext}
 use Rattle.std.proofs.Common.{◌∙◌, arith, get_or-append-add}
 use Rattle.std.proofs.Math.Bool.{cond}
 use mathlib.Core.List.{List, ◌++◌}
-use Prim.Native.Nat.{ℕ, zero, suc, ◌+◌, ◌≤◌, ◌<◌}
+use Prim.Native.Nat.{ℕ, ◌+◌, ◌≤◌, ◌<◌}
 use Rattle.std.proofs.Math.ListN.{get_or, get_or-append}
-use Rattle.sets.specs.Set.{has, firsts, union, inter}
+use Rattle.sets.specs.Set.{firsts, union, inter}
 use Rattle.table.specs.Header.{cells, locks, routines, statements}
 use Rattle.table.specs.Table.{Table, table_of, statement, statement_of}
 use Rattle.table.proofs.TabulateLaws.{tabulate_same, get_d_tabulate}

@@ -10,7 +10,7 @@ use Rattle.sets.proofs.SetLaws.{has_one, inside_both}
 use Rattle.table.specs.Header.{statements}
 use Rattle.table.proofs.LookupLaws.{statements_length, statement_is}
 use Rattle.table.specs.Table.{Table, table_of, statement, statement_of, InRoutine}
-use Rattle.table.specs.View.{view, set_on, starts}
+use Rattle.table.specs.View.{view, starts}
 use Rattle.table.proofs.ViewLaws.{set_from, set_has, starts_names}
 use Rattle.table.specs.declared.Reference.TheVariants.{To}
 use Rattle.table.specs.declared.Statement.{Statement}
@@ -19,7 +19,7 @@ use Rattle.report.specs.Over.{union_from}
 use Rattle.report.proofs.OverLaws.{none_in, union_has, union_from_lem, below_within, within_below}
 use Rattle.report.specs.Layout.{one_each}
 use Rattle.report.proofs.OneEach.{names_there}
-use Rattle.report.specs.Findings.{Sets, clash, shared_at, shared_cells}
+use Rattle.report.specs.Findings.{Sets, shared_at, shared_cells}
 use Rattle.findings.specs.Steps.{started_by}
 
 module _ (f : List ℤ) (acc : Accepted (table_of f)) where

@@ -1,5 +1,5 @@
 -- The places that a statement's edges come from and lead to. Assumes nothing.
-use Rattle.std.specs.Prelude.{ℕ, ◌+◌, ◌≤◌, ◌<◌, ◌≡◌, Bool}
+use Rattle.std.specs.Prelude.{ℕ, ◌≤◌, ◌<◌, ◌≡◌, Bool}
 use Rattle.std.proofs.Math.Path.{refl, ap}
 use Rattle.std.proofs.Common.{sym}
 use native.Mathlib.Omega.{arith}
@@ -15,7 +15,7 @@ use Rattle.report.specs.Held.{entry}
 use Rattle.report.proofs.NextLaws.{goes_placed}
 use Rattle.report.proofs.PlaceLaws.{placed}
 use Rattle.report.specs.Rules.{Place, Goes}
-use Rattle.held_edges.specs.HeldEdges.{back_place, other_place, every_place, place_count, met_place}
+use Rattle.held_edges.specs.HeldEdges.{back_place, other_place, place_count, met_place}
 
 module _ (t : Table) (k : Layout) (acc : Accepted t) (fits : Fits t k) where
   pub place_there : (c s : ℕ) → Place (copies_of fits) c s → k.statement_place c s < k.statements

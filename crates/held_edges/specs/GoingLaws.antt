@@ -1,5 +1,5 @@
 -- Edges in two lists that are filled from the front, part after part: what a loop over the parts leaves in them. Assumes nothing.
-use Rattle.std.specs.Prelude.{ℕ, ◌+◌, ◌≤◌, ◌≡◌, refl, List, [], ◌++◌, length, take}
+use Rattle.std.specs.Prelude.{ℕ, ◌+◌, ◌≤◌, ◌≡◌, refl, List, [], length, take}
 use Rattle.std.proofs.Common.{subst, arith}
 use Rattle.sets.specs.Least.{Edge, edges_of}
 use Rattle.report.specs.Over.{joined_from}

@@ -1,17 +1,17 @@
 -- What is left out of the held sets is what goes along the edges: what the edges leave satisfies document 01's rules, and every edge puts only what is
 -- not held. Assumes nothing.
-use Rattle.std.specs.Prelude.{ℕ, ◌+◌, ◌^◌, ◌≤◌, ◌<◌, ◌≡◌, Bool, true, false, ◌⊎◌, length, get_or}
+use Rattle.std.specs.Prelude.{ℕ, ◌^◌, ◌≤◌, ◌<◌, ◌≡◌, Bool, true, false, ◌⊎◌, length, get_or}
 use Rattle.std.proofs.Math.Path.{refl, subst}
 use Rattle.std.proofs.Common.{sym, ap, ◌∙◌, inl, inr, arith}
 use Rattle.std.proofs.Math.Logic.{⊎_elim}
 use mathlib.Core.List.Memᴰ
 use mathlib.Core.List.{List, [], ◌∷◌, ◌++◌, map, Memᴰ}
 use borrow.Author.Tests.{ltb-true, lt-ltb}
-use Rattle.sets.specs.Set.{has, minus}
+use Rattle.sets.specs.Set.{has}
 use Rattle.sets.proofs.SetLaws.{has_firsts, inside_both}
 use Rattle.sets.specs.Least.{SetList, Edge, plain}
 use Rattle.sets.proofs.LeastLaws.{least_sets, least_holds_start, least_edge, least_induction}
-use Rattle.table.specs.Table.{Table, routine, statement, OwnHandle}
+use Rattle.table.specs.Table.{Table, routine, statement}
 use Rattle.table.specs.Tabulate.{tabulate}
 use Rattle.table.proofs.TabulateLaws.{length_tabulate, is_tabulate}
 use Rattle.table.specs.View.{view, On, on_or, set_on, list_on, when, calls, starts, takes_in}
@@ -20,11 +20,11 @@ use Rattle.table.specs.Accepted.{Accepted, Names}
 use Rattle.table.specs.declared.Reference.{Reference}
 use Rattle.table.specs.declared.Reference.TheVariants.{To, Nothing}
 use Rattle.table.specs.declared.Statement.{Statement}
-use Rattle.report.proofs.OverLaws.{never, none_in, not_has, tabulate_sets, tabulate_has, tabulate_from_lem}
+use Rattle.report.proofs.OverLaws.{never, none_in, tabulate_sets, tabulate_has, tabulate_from_lem}
 use Rattle.report.specs.Greatest.{leaving, greatest}
 use Rattle.report.proofs.GreatestLaws.{minus_has, minus_from}
 use Rattle.report.specs.Layout.{Layout}
-use Rattle.report.specs.Fits.{Fits, StatementPlaced, copies_of}
+use Rattle.report.specs.Fits.{Fits, copies_of}
 use Rattle.report.specs.Operations.{nexts}
 use Rattle.report.specs.Flow.{flow_at}
 use Rattle.report.proofs.FlowLaws.{FlowHas}
@@ -32,7 +32,7 @@ use Rattle.report.proofs.EffectLaws.{GivesHas}
 use Rattle.report.specs.Held.{all_locks, entry, only_lock, held_sets}
 use Rattle.report.proofs.HeldLaws.{HeldHas, only_from, only_has, held_rules, held_greatest}
 use Rattle.report.proofs.NextLaws.{goes_next, next_goes, goes_placed, map_has, map_from}
-use Rattle.report.proofs.PlaceLaws.{placed, place_at, among_all, of_some}
+use Rattle.report.proofs.PlaceLaws.{place_at, among_all, of_some}
 use Rattle.report.specs.Rules.{Copies, Place, Goes, After, AtReturns, HeldRules}
 use Rattle.held_edges.specs.HeldEdges.{back_place, given_place, flow_place, other_place, every_place, place_count, start_at, met_place, edges_at, held_edges, held_out}
 use Rattle.held_edges.specs.StartLaws.{start_early, start_given, start_flow, start_other, start_every, start_below}

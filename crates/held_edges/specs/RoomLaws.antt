@@ -1,6 +1,6 @@
 -- Three places a statement and one more are room for the edges: no statement makes more than three, and every number is small. Assumes nothing.
-use Rattle.std.specs.Prelude.{ℕ, zero, suc, ◌+◌, ◌*◌, ◌≤◌, ◌<◌, ◌≡◌, refl, Bool, true, false, ◌⊎◌, ℤ, length, get_or}
-use Rattle.std.proofs.Common.{sym, ap, ◌∙◌, inl, inr, mul-suc, length-append}
+use Rattle.std.specs.Prelude.{ℕ, zero, suc, ◌+◌, ◌*◌, ◌≤◌, ◌<◌, ◌≡◌, Bool, ◌⊎◌, ℤ, length}
+use Rattle.std.proofs.Common.{sym, inl, inr, mul-suc, length-append}
 use Rattle.std.proofs.Math.Path.{subst}
 use Rattle.std.proofs.Math.Logic.{⊎_elim}
 use mathlib.Core.List.Memᴰ
@@ -8,27 +8,23 @@ use mathlib.Core.List.{List, [], ◌∷◌, ◌++◌, map, Memᴰ}
 use native.Mathlib.Omega.{arith}
 use Rattle.sets.specs.Least.{Edge, plain}
 use Rattle.table.specs.Header.{statements}
-use Rattle.table.specs.Table.{Table, table_of, routine, statement, InRoutine}
-use Rattle.table.specs.Extents.{first_statements}
-use Rattle.table.proofs.LookupLaws.{handles_length, routines_length, statements_length}
+use Rattle.table.specs.Table.{Table, table_of, statement}
+use Rattle.table.proofs.LookupLaws.{statements_length}
 use Rattle.table.specs.View.{view, list_on, when, calls, starts}
 use Rattle.table.proofs.ViewLaws.{list_from, when_from, calls_names, starts_names, Form, on, read, written, taken, given, pointed, called, started, to, either, back, forms}
 use Rattle.table.specs.Accepted.{Accepted}
-use Rattle.table.specs.declared.Reference.{Reference}
-use Rattle.table.specs.declared.Reference.TheVariants.{To, Nothing}
-use Rattle.table.specs.declared.View.{View}
+use Rattle.table.specs.declared.Reference.TheVariants.{To}
 use Rattle.table.specs.declared.Statement.{Statement}
 use Rattle.report.specs.Over.{joined_from}
-use Rattle.report.proofs.OverLaws.{Within, joined_from_lem, within_below}
 use Rattle.report.specs.Layout.{Layout, one_each}
 use Rattle.report.specs.Fits.{Fits, copies_of}
 use Rattle.report.proofs.OneEach.{one_each_fits}
 use Rattle.report.specs.Operations.{nexts}
-use Rattle.report.proofs.NextLaws.{next_goes, goes_placed, map_from}
+use Rattle.report.proofs.NextLaws.{next_goes, map_from}
 use Rattle.report.proofs.PlaceLaws.{place_at, of_some}
 use Rattle.report.specs.Rules.{Place}
 use Rattle.report.specs.Held.{entry}
-use Rattle.held_edges.specs.HeldEdges.{back_place, given_place, flow_place, other_place, every_place, place_count, met_place, edges_at, held_edges}
+use Rattle.held_edges.specs.HeldEdges.{back_place, given_place, flow_place, every_place, place_count, met_place, edges_at, held_edges}
 use Rattle.sets.proofs.AppendLaws.{Room}
 use Rattle.lock_edges.specs.StoreLaws.{store, Appended}
 use Rattle.held_edges.specs.GoingLaws.{Ready, ready}

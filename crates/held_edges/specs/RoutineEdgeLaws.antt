@@ -20,7 +20,6 @@ use Rattle.table.proofs.ViewLaws.{taken_takes}
 use Rattle.table.specs.Accepted.{Accepted}
 use Rattle.table.specs.declared.Reference.{Reference}
 use Rattle.table.specs.declared.Reference.TheVariants.{To, Nothing}
-use Rattle.table.specs.declared.Statement.{Statement}
 use Rattle.report.specs.Layout.{named, one_each}
 use Rattle.report.proofs.OneEach.{copy_is, statement_below}
 use Rattle.report.specs.Over.{joined_from}

@@ -1,7 +1,7 @@
 -- Sets filled in, and turned round. Assumes nothing.
-use Rattle.std.specs.Prelude.{◌≡◌, refl, Bool, ℤ, set, take, drop, replicate}
+use Rattle.std.specs.Prelude.{◌≡◌, refl, Bool, ℤ, set, take, replicate}
 use Rattle.std.proofs.Math.Path.{sym, ap, ap₂}
-use Rattle.std.proofs.Common.{◌∙◌, subst, le_refl, get_or-set_other, get_or-take}
+use Rattle.std.proofs.Common.{◌∙◌, le_refl, get_or-take}
 use mathlib.Core.List.{List, [], ◌∷◌, ◌++◌}
 use Prim.Native.Nat.{ℕ, ◌+◌, ◌-◌, ◌^◌, ◌≤◌, ◌<◌}
 use native.Mathlib.Omega.{arith}
@@ -14,7 +14,7 @@ use Rattle.table.specs.Header.{locks, handles, routines, statements}
 use Rattle.table.specs.Table.{Table, table_of}
 use Rattle.table.specs.Tabulate.{tabulate}
 use Rattle.table.specs.TabulateLaws.{Filled}
-use Rattle.table.proofs.TabulateLaws.{Rewritten, rewritten_next, rewritten_all, zeros_at, filled_none, filled_next, filled_all, length_tabulate, get_d_tabulate, is_tabulate}
+use Rattle.table.proofs.TabulateLaws.{Rewritten, rewritten_next, rewritten_all, zeros_at, length_tabulate, get_d_tabulate, is_tabulate}
 use Rattle.table.proofs.LookupLaws.{handles_length, routines_length, statements_length}
 use Rattle.table.specs.Accepted.{Accepted}
 use Rattle.report.specs.Greatest.{leaving}

@@ -1,6 +1,5 @@
 -- `analysis::examine_long` meets its contract. Assumes nothing.
 use Rattle.analysis.specs.ReportedLaws.{lent_long}
-use borrow.Author.Rules.{rules}
 use Rattle.analysis.proofs.examine_long.Goals as goal
 
 pub examine-requires : goal.examine-requires

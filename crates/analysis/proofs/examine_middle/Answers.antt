@@ -1,7 +1,6 @@
 -- `analysis::examine_middle` meets its contract. Assumes nothing.
 use native.Mathlib.Omega.{arith}
 use Rattle.analysis.specs.ReportedLaws.{lent_sized}
-use borrow.Author.Rules.{rules}
 use Rattle.analysis.proofs.examine_middle.Goals as goal
 
 pub examine-requires : goal.examine-requires

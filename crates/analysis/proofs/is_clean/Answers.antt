@@ -2,7 +2,6 @@
 use mathlib.Core.Path.{ap}
 use Rattle.analysis.specs.declared.Examined.{Examined}
 use Rattle.analysis.specs.Reported.{examined_in}
-use borrow.Author.Rules.{rules}
 use Rattle.analysis.proofs.is_clean.Goals as goal
 
 pub returns : goal.returns

@@ -3,7 +3,6 @@ use mathlib.Core.Path.{ap}
 use Rattle.analysis.specs.declared.Answer.{Answer}
 use Rattle.analysis.specs.declared.Examined.{Examined}
 use Rattle.analysis.specs.Reported.{examined_in}
-use borrow.Author.Rules.{rules}
 use Rattle.analysis.proofs.report.Goals as goal
 
 pub returns : goal.returns

@@ -1,7 +1,6 @@
 -- `analysis::report_long` meets its contract. Assumes nothing.
 use native.Mathlib.Omega.{arith}
 use Rattle.analysis.specs.ReportedLaws.{sized, sized_text}
-use borrow.Author.Rules.{rules}
 use Rattle.analysis.proofs.report_long.Goals as goal
 
 pub slice_bounds-report_within-end : goal.slice_bounds-report_within-end

@@ -1,6 +1,5 @@
 -- `analysis::report_short` meets its contract. Assumes nothing.
 use Rattle.analysis.specs.ReportedLaws.{sized, sized_text}
-use borrow.Author.Rules.{rules}
 use Rattle.analysis.proofs.report_short.Goals as goal
 
 pub slice_bounds-report_within-end : goal.slice_bounds-report_within-end

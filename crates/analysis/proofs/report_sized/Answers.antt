@@ -1,8 +1,6 @@
 -- `analysis::report_sized` meets its contract. Assumes nothing.
 use mathlib.Core.Path.{sym, ◌∙◌}
-use borrow.Author.Tests.{not-true}
 use Rattle.analysis.specs.ReportedLaws.{bad_length_answer, bad_length_written}
-use borrow.Author.Rules.{rules}
 use Rattle.analysis.proofs.report_sized.Goals as goal
 
 pub returns-then-not-has_length : goal.returns-then-not-has_length

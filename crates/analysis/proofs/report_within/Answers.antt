@@ -2,7 +2,6 @@
 use mathlib.Core.Path.{◌∙◌}
 use native.Mathlib.Omega.{arith}
 use Rattle.analysis.specs.ReportedLaws.{read_accepted, read_long, none_printed, all_printed, accepted_written, refused_answer, refused_written}
-use borrow.Author.Rules.{rules}
 use Rattle.analysis.proofs.report_within.Goals as goal
 
 pub examine_sized-printed-requires : goal.examine_sized-printed-requires

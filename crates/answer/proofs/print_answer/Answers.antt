@@ -1,7 +1,6 @@
 -- `answer::print_answer` meets its contract. Assumes nothing.
 use native.Mathlib.Omega.{arith}
 use Rattle.answer.specs.SaidLaws.{report_said, refusal_left}
-use borrow.Author.Rules.{rules}
 use Rattle.answer.proofs.print_answer.Goals as goal
 
 pub returns-then-answer-eq0-clause-bytes : goal.returns-then-answer-eq0-clause-bytes

@@ -1,6 +1,5 @@
 -- `findings::clash` meets its contract. Assumes nothing.
 use Rattle.report.specs.Findings.{clash}
-use borrow.Author.Rules.{rules}
 use Rattle.findings.proofs.clash.Goals as goal
 
 pub returns : goal.returns

@@ -1,10 +1,8 @@
 -- `findings::fill_common` meets its contract. Assumes nothing.
-use Rattle.table.specs.TabulateLaws.{Begun}
 use Rattle.table.proofs.TabulateLaws.{begun_none, begun_next}
-use Prim.Native.Nat.{◌-◌, ◌≤◌, zero-le}
+use Prim.Native.Nat.{zero-le}
 use mathlib.Core.Path.{◌≡◌, refl}
 use native.Mathlib.Omega.{arith}
-use borrow.Author.Rules.{rules}
 use Rattle.findings.proofs.fill_common.Goals as goal
 
 pub loop-i-init : goal.loop-i-init

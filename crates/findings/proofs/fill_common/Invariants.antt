@@ -1,10 +1,6 @@
 -- `findings::fill_common` meets its contract. Assumes nothing.
 use Rattle.table.specs.TabulateLaws.{Begun}
-use Rattle.table.proofs.TabulateLaws.{begun_none, begun_next}
-use Prim.Native.Nat.{◌-◌, ◌≤◌, zero-le}
-use mathlib.Core.Path.{◌≡◌, refl}
-use native.Mathlib.Omega.{arith}
-use borrow.Author.Rules.{rules}
+use Prim.Native.Nat.{◌-◌, ◌≤◌}
 use Rattle.findings.proofs.fill_common.Given as goal
 
 abbrev pub invariant-loop-i : goal.invariant-loop-i

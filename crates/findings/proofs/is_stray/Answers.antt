@@ -1,7 +1,6 @@
 -- `findings::is_stray` meets its contract. Assumes nothing.
 use mathlib.Core.Path.{sym, refl, ◌∙◌}
 use Rattle.findings.specs.LineLaws.{give_strays, other_strays}
-use borrow.Author.Rules.{rules}
 use Rattle.findings.proofs.is_stray.Goals as goal
 
 pub returns-in-To : goal.returns-in-To

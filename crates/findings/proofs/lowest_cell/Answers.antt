@@ -4,7 +4,6 @@ use native.Mathlib.Omega.{arith}
 use Rattle.findings.specs.NoteLaws.{lowest_there}
 use Rattle.sets.proofs.SetLaws.{lowest_nothing}
 use mathlib.Core.Path.{sym, ◌∙◌}
-use borrow.Author.Rules.{rules}
 use Rattle.findings.proofs.lowest_cell.Goals as goal
 
 pub returns-in-Element : goal.returns-in-Element

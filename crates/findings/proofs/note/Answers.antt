@@ -1,10 +1,8 @@
 -- `findings::note` meets its contract. Assumes nothing.
-use Rattle.findings.specs.NoteLaws.{Marking, marking_start, marking_next, marking_less, marking_done, marking_few}
-use Rattle.sets.specs.Set.{count}
+use Rattle.findings.specs.NoteLaws.{marking_start, marking_next, marking_less, marking_done, marking_few}
 use Prim.Native.Nat.{◌+◌, ◌<◌, ◌≤◌, ◌^◌}
 use lib.ListN.{get_or, set}
 use native.Mathlib.Omega.{arith}
-use borrow.Author.Rules.{rules}
 use Rattle.findings.proofs.note.Goals as goal
 
 pub loop-rest-init : goal.loop-rest-init

@@ -1,10 +1,7 @@
 -- `findings::note` meets its contract. Assumes nothing.
-use Rattle.findings.specs.NoteLaws.{Marking, marking_start, marking_next, marking_less, marking_done, marking_few}
+use Rattle.findings.specs.NoteLaws.{Marking}
 use Rattle.sets.specs.Set.{count}
-use Prim.Native.Nat.{◌+◌, ◌<◌, ◌≤◌, ◌^◌}
-use lib.ListN.{get_or, set}
-use native.Mathlib.Omega.{arith}
-use borrow.Author.Rules.{rules}
+use Prim.Native.Nat.{◌≤◌}
 use Rattle.findings.proofs.note.Given as goal
 
 abbrev pub invariant-loop-rest : goal.invariant-loop-rest

@@ -5,7 +5,6 @@ use native.Mathlib.Omega.{arith}
 use Rattle.report.specs.Operations.{reading, writing}
 use Rattle.findings.specs.NoteLaws.{noted_both}
 use Rattle.findings.specs.LineLaws.{own_is}
-use borrow.Author.Rules.{rules}
 use Rattle.findings.proofs.note_access.Goals as goal
 
 pub note-requires : goal.note-requires

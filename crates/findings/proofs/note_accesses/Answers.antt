@@ -1,12 +1,7 @@
 -- `findings::note_accesses` meets its contract. Assumes nothing.
-use mathlib.Core.Path.{◌≡◌}
 use native.Mathlib.Omega.{arith}
-use Prim.Native.Nat.{◌≤◌, ◌<◌, ◌^◌}
-use Rattle.sets.specs.Set.{firsts}
-use Rattle.table.specs.Header.{statements, statement_line}
-use Rattle.findings.specs.NoteLaws.{Noting, noting_start, noting_next, noting_done, noting_few}
+use Rattle.findings.specs.NoteLaws.{noting_start, noting_next, noting_done, noting_few}
 use Rattle.findings.specs.FoundLaws.{statements_few}
-use borrow.Author.Rules.{rules}
 use Rattle.findings.proofs.note_accesses.Goals as goal
 
 pub field_of-requires : goal.field_of-requires

@@ -1,7 +1,6 @@
 -- `findings::shared_at` meets its contract. Assumes nothing.
 use mathlib.Core.Path.{refl, sym, ◌∙◌}
 use Rattle.findings.specs.LineLaws.{start_shares, other_shares}
-use borrow.Author.Rules.{rules}
 use Rattle.findings.proofs.shared_at.Goals as goal
 
 pub returns-in-To : goal.returns-in-To

@@ -1,13 +1,8 @@
 -- `findings::shared_cells` meets its contract. Assumes nothing.
 use native.Mathlib.Omega.{arith}
-use mathlib.Core.Path.{◌≡◌, ◌∙◌}
-use Prim.Native.Nat.{◌+◌, ◌≤◌, ◌<◌, ◌^◌}
-use Rattle.sets.specs.Set.{union}
-use Rattle.table.specs.Header.{statements, routines, statement_line}
-use Rattle.findings.specs.Steps.{shared_by}
-use Rattle.findings.specs.FoldLaws.{Folding, folding_start, folding_next, folding_done, fold_union}
+use mathlib.Core.Path.{◌∙◌}
+use Rattle.findings.specs.FoldLaws.{folding_start, folding_next, folding_done, fold_union}
 use Rattle.findings.specs.FoundLaws.{statements_few}
-use borrow.Author.Rules.{rules}
 use Rattle.findings.proofs.shared_cells.Goals as goal
 
 pub first_line-base-requires : goal.first_line-base-requires

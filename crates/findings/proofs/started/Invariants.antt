@@ -1,13 +1,10 @@
 -- `findings::started` meets its contract. Assumes nothing.
-use native.Mathlib.Omega.{arith}
-use mathlib.Core.Path.{◌≡◌, ◌∙◌}
+use mathlib.Core.Path.{◌≡◌}
 use Prim.Native.Nat.{◌≤◌, ◌<◌, ◌^◌}
 use Rattle.sets.specs.Set.{union}
 use Rattle.table.specs.Header.{statements, statement_line}
 use Rattle.findings.specs.Steps.{started_by}
-use Rattle.findings.specs.FoldLaws.{Folding, folding_start, folding_next, folding_done, fold_union}
-use Rattle.findings.specs.FoundLaws.{statements_few}
-use borrow.Author.Rules.{rules}
+use Rattle.findings.specs.FoldLaws.{Folding}
 use Rattle.findings.proofs.started.Given as goal
 
 abbrev pub invariant-loop-s : goal.invariant-loop-s

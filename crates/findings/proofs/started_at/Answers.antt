@@ -1,7 +1,6 @@
 -- `findings::started_at` meets its contract. Assumes nothing.
 use mathlib.Core.Path.{refl, sym, ◌∙◌}
 use Rattle.findings.specs.LineLaws.{started_is}
-use borrow.Author.Rules.{rules}
 use Rattle.findings.proofs.started_at.Goals as goal
 
 pub returns-in-To : goal.returns-in-To

@@ -1,13 +1,9 @@
 -- `findings::stray_count` meets its contract. Assumes nothing.
 use native.Mathlib.Omega.{arith}
-use mathlib.Core.Path.{◌≡◌, ◌∙◌}
-use Prim.Native.Nat.{◌+◌, ◌≤◌, ◌<◌, ◌^◌}
-use Rattle.table.specs.Header.{statements, statement_line}
-use Rattle.report.specs.Report.{bit}
+use mathlib.Core.Path.{◌∙◌}
 use Rattle.findings.specs.Steps.{stray_in}
-use Rattle.findings.specs.FoldLaws.{Folding, folding_start, folding_next, folding_done, fold_count}
+use Rattle.findings.specs.FoldLaws.{folding_start, folding_next, folding_done, fold_count}
 use Rattle.findings.specs.FoundLaws.{statements_few}
-use borrow.Author.Rules.{rules}
 use Rattle.findings.proofs.stray_count.Goals as goal
 
 pub first_line-base-requires : goal.first_line-base-requires

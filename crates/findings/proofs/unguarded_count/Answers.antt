@@ -1,12 +1,9 @@
 -- `findings::unguarded_count` meets its contract. Assumes nothing.
 use native.Mathlib.Omega.{arith}
 use mathlib.Core.Path.{◌∙◌}
-use Prim.Native.Nat.{◌+◌, ◌≤◌}
 use Rattle.report.specs.Findings.{is_unguarded}
-use Rattle.report.specs.Report.{bit}
 use Rattle.findings.specs.Steps.{unguarded_in}
-use Rattle.findings.specs.FoldLaws.{Folding, folding_start, folding_next, folding_done, fold_count}
-use borrow.Author.Rules.{rules}
+use Rattle.findings.specs.FoldLaws.{folding_start, folding_next, folding_done, fold_count}
 use Rattle.findings.proofs.unguarded_count.Goals as goal
 
 pub loop-x-init : goal.loop-x-init

@@ -1,14 +1,9 @@
 -- `held_edges::append_routine` meets its contract. Its loop has appended the edges of the statements below s. Assumes nothing.
-use mathlib.Core.Path.{refl, sym}
 use Prim.Native.Nat.{◌-◌, ◌≤◌}
 use lib.ListN.{get_or}
-use native.Mathlib.Omega.{arith}
 use Rattle.held_edges.specs.TableEdges.{part_of}
-use Rattle.sets.proofs.AppendLaws.{appended_same}
 use Rattle.lock_edges.specs.StoreLaws.{store}
-use Rattle.held_edges.specs.GoingLaws.{Going, going_start, going_next, going_as}
-use Rattle.held_edges.specs.RoutineEdgeLaws.{few_routines, first_grows_at, small_here, fits_here, part_here}
-use borrow.Author.Rules.{rules}
+use Rattle.held_edges.specs.GoingLaws.{Going}
 use Rattle.held_edges.proofs.append_routine.Given as goal
 
 abbrev pub invariant-loop-s : goal.invariant-loop-s

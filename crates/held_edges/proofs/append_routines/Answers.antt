@@ -1,13 +1,8 @@
 -- `held_edges::append_routines` meets its contract. Its loop has appended the edges of the routines below c. Assumes nothing.
-use mathlib.Core.Path.{refl, sym, ◌∙◌}
-use Prim.Native.Nat.{◌-◌, ◌≤◌}
-use lib.ListN.{get_or}
+use mathlib.Core.Path.{refl, sym}
 use native.Mathlib.Omega.{arith}
-use Rattle.held_edges.specs.TableEdges.{part_of}
-use Rattle.lock_edges.specs.StoreLaws.{store}
-use Rattle.held_edges.specs.GoingLaws.{Going, going_start, going_both, going_as, going_done}
-use Rattle.held_edges.specs.RoutineEdgeLaws.{few_routines, first_zero, first_end}
-use borrow.Author.Rules.{rules}
+use Rattle.held_edges.specs.GoingLaws.{going_start, going_both, going_as, going_done}
+use Rattle.held_edges.specs.RoutineEdgeLaws.{first_zero, first_end}
 use Rattle.held_edges.proofs.append_routines.Goals as goal
 
 pub loop-c-init : goal.loop-c-init

@@ -1,13 +1,9 @@
 -- `held_edges::append_routines` meets its contract. Its loop has appended the edges of the routines below c. Assumes nothing.
-use mathlib.Core.Path.{refl, sym, ◌∙◌}
 use Prim.Native.Nat.{◌-◌, ◌≤◌}
 use lib.ListN.{get_or}
-use native.Mathlib.Omega.{arith}
 use Rattle.held_edges.specs.TableEdges.{part_of}
 use Rattle.lock_edges.specs.StoreLaws.{store}
-use Rattle.held_edges.specs.GoingLaws.{Going, going_start, going_both, going_as, going_done}
-use Rattle.held_edges.specs.RoutineEdgeLaws.{few_routines, first_zero, first_end}
-use borrow.Author.Rules.{rules}
+use Rattle.held_edges.specs.GoingLaws.{Going}
 use Rattle.held_edges.proofs.append_routines.Given as goal
 
 abbrev pub invariant-loop-c : goal.invariant-loop-c

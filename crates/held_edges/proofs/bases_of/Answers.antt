@@ -1,5 +1,4 @@
 -- `held_edges::bases_of` meets its contract. Assumes nothing.
-use borrow.Author.Rules.{rules}
 use Rattle.held_edges.proofs.bases_of.Goals as goal
 
 pub returns : goal.returns

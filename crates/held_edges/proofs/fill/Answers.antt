@@ -1,9 +1,7 @@
 -- `held_edges::fill` meets its contract. Assumes nothing.
-use mathlib.Core.Path.{◌∙◌}
 use Rattle.sets.proofs.AppendLaws.{appended_same, appended_both}
 use Rattle.held_edges.specs.RoomLaws.{held_ready}
 use Rattle.held_edges.specs.RoutineEdgeLaws.{all_edges}
-use borrow.Author.Rules.{rules}
 use Rattle.held_edges.proofs.fill.Goals as goal
 
 pub append_routines-requires : goal.append_routines-requires

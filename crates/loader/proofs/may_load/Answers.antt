@@ -1,7 +1,6 @@
 -- `loader::may_load` meets its contract. Assumes nothing.
 use mathlib.Core.Path.{sym, ◌∙◌}
 use Rattle.loader.specs.LoadLaws.{loadable_safe, loadable_steady}
-use borrow.Author.Rules.{rules}
 use Rattle.loader.proofs.may_load.Goals as goal
 
 pub returns : goal.returns

@@ -1,12 +1,7 @@
 -- `lockset::fill_start` meets its contract. Its loop has filled the places below p. Assumes nothing.
-use Prim.Native.Nat.{◌-◌, ◌≤◌}
-use lib.ListN.{length}
 use native.Mathlib.Omega.{arith}
-use Rattle.table.specs.TabulateLaws.{Filled}
 use Rattle.table.proofs.TabulateLaws.{filled_next, filled_all}
-use Rattle.lockset.specs.Start.{start_in}
 use Rattle.lockset.specs.SettleLaws.{start_filled}
-use borrow.Author.Rules.{rules}
 use Rattle.lockset.proofs.fill_start.Goals as goal
 
 pub loop-p-init : goal.loop-p-init

@@ -6,7 +6,6 @@ use Prim.Native.Nat.{◌+◌}
 use Rattle.sets.specs.Set.{firsts}
 use Rattle.held_edges.specs.TableEdges.{bases_of}
 use Rattle.lockset.specs.SettleLaws.{locks_are, zeros_own, out_is, out_long, held_front}
-use borrow.Author.Rules.{rules}
 use Rattle.lockset.proofs.held_sets.Goals as goal
 
 pub fill_start-requires : goal.fill_start-requires

@@ -1,7 +1,6 @@
 -- `lockset::only_lock` meets its contract. Assumes nothing.
 use mathlib.Core.Path.{sym, ◌∙◌}
 use Rattle.report.specs.Held.{only_lock}
-use borrow.Author.Rules.{rules}
 use Rattle.lockset.proofs.only_lock.Goals as goal
 
 pub returns-then-is_single : goal.returns-then-is_single

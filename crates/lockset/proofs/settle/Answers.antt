@@ -1,7 +1,6 @@
 -- `lockset::settle` meets its contract. Assumes nothing.
 use lib.Seq.{length-take-le}
 use mathlib.Core.Path.{sym}
-use borrow.Author.Rules.{rules}
 use Rattle.lockset.proofs.settle.Goals as goal
 
 pub slice_bounds-solve-end : goal.slice_bounds-solve-end

@@ -1,11 +1,9 @@
 -- `lockset::start_at` meets its contract. Assumes nothing.
 use mathlib.Core.Path.{ap, ◌∙◌}
-use native.Mathlib.Omega.{arith}
 use Prim.Native.Nat.{ℕ}
 use Rattle.sets.specs.Set.{minus}
 use Rattle.report.specs.Held.{only_lock}
 use Rattle.lockset.specs.SettleLaws.{in_given, in_flow, in_other, in_every}
-use borrow.Author.Rules.{rules}
 use Rattle.lockset.proofs.start_at.Goals as goal
 
 pub returns-then-p-bases : goal.returns-then-p-bases

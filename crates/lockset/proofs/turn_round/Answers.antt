@@ -1,10 +1,6 @@
 -- `lockset::turn_round` meets its contract. Its loop has turned round the sets below p. Assumes nothing.
 use native.Mathlib.Omega.{arith}
-use borrow.Author.Rules.{rules}
-use lib.ListN.{length}
-use Prim.Native.Nat.{◌-◌}
-use Rattle.table.proofs.TabulateLaws.{Rewritten, rewritten_none}
-use Rattle.report.specs.Greatest.{leaving}
+use Rattle.table.proofs.TabulateLaws.{rewritten_none}
 use Rattle.lockset.specs.SettleLaws.{turned_next, turned_done}
 use Rattle.lockset.proofs.turn_round.Goals as goal
 

@@ -1,12 +1,8 @@
 -- `modes::clear` meets its contract. Its loop has cleared the places below p. Assumes nothing.
 use mathlib.Core.Path.{refl}
-use Prim.Native.Nat.{◌-◌}
 use native.Mathlib.Omega.{arith}
-use lib.ListN.{length}
-use Rattle.table.specs.TabulateLaws.{Filled}
 use Rattle.table.proofs.TabulateLaws.{filled_none, filled_next}
 use Rattle.modes.specs.ModeLoops.{cleared}
-use borrow.Author.Rules.{rules}
 use Rattle.modes.proofs.clear.Goals as goal
 
 pub loop-p-init : goal.loop-p-init

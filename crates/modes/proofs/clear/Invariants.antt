@@ -1,12 +1,7 @@
 -- `modes::clear` meets its contract. Its loop has cleared the places below p. Assumes nothing.
-use mathlib.Core.Path.{refl}
 use Prim.Native.Nat.{◌-◌}
-use native.Mathlib.Omega.{arith}
 use lib.ListN.{length}
 use Rattle.table.specs.TabulateLaws.{Filled}
-use Rattle.table.proofs.TabulateLaws.{filled_none, filled_next}
-use Rattle.modes.specs.ModeLoops.{cleared}
-use borrow.Author.Rules.{rules}
 use Rattle.modes.proofs.clear.Given as goal
 
 abbrev pub invariant-loop-p : goal.invariant-loop-p

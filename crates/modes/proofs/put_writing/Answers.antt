@@ -1,9 +1,7 @@
 -- `modes::put_writing` meets its contract. Its loop has put the sets below s. Assumes nothing.
-use Prim.Native.Nat.{◌-◌}
 use native.Mathlib.Omega.{arith}
-use Rattle.table.proofs.TabulateLaws.{Rewritten, rewritten_none}
-use Rattle.modes.specs.ModeLoops.{way, way_next, way_done}
-use borrow.Author.Rules.{rules}
+use Rattle.table.proofs.TabulateLaws.{rewritten_none}
+use Rattle.modes.specs.ModeLoops.{way_next, way_done}
 use Rattle.modes.proofs.put_writing.Goals as goal
 
 pub loop-s-init : goal.loop-s-init

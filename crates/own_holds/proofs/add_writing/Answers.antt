@@ -2,7 +2,6 @@
 use mathlib.Core.Path.{◌∙◌}
 use native.Mathlib.Omega.{arith}
 use Rattle.own_holds.specs.OwnLaws.{places_long, put_held}
-use borrow.Author.Rules.{rules}
 use Rattle.own_holds.proofs.add_writing.Goals as goal
 
 pub writing_holds-requires : goal.writing_holds-requires

@@ -1,7 +1,6 @@
 -- `own_holds::both_holds` meets its contract. Assumes nothing.
 use native.Mathlib.Omega.{arith}
 use Rattle.own_holds.specs.OwnLaws.{one_mode, both_held}
-use borrow.Author.Rules.{rules}
 use Rattle.own_holds.proofs.both_holds.Goals as goal
 
 pub either_holds-requires : goal.either_holds-requires

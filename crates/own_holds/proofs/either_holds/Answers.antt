@@ -1,5 +1,5 @@
 -- `own_holds::either_holds` meets its contract. Assumes nothing.
-use mathlib.Core.Path.{◌≡◌, sym, ap, ◌∙◌}
+use mathlib.Core.Path.{sym, ap, ◌∙◌}
 use Prim.Native.Nat.{ℕ, ◌≤◌}
 use native.Mathlib.Omega.{arith}
 use lib.ListN.{length, replicate, length-replicate}
@@ -7,7 +7,6 @@ use lib.Seq.{length-take-le}
 use Rattle.table.specs.Header.{statements}
 use Rattle.table.proofs.FrontLaws.{zeros_front, first_kept}
 use Rattle.own_holds.specs.OwnLaws.{also_fits, edges_fit}
-use borrow.Author.Rules.{rules}
 use Rattle.own_holds.proofs.either_holds.Goals as goal
 
 pub slice_bounds-held_sets-end-3 : goal.slice_bounds-held_sets-end-3

@@ -6,7 +6,6 @@ use Rattle.table.proofs.CutLaws.{cut_long}
 use Rattle.table.proofs.AcceptedLaws.{routines_few}
 use Rattle.table.proofs.FrontLaws.{front_fits, front_is, front_long}
 use Rattle.own_holds.specs.OwnLaws.{own_known}
-use borrow.Author.Rules.{rules}
 use Rattle.own_holds.proofs.own_holds.Goals as goal
 
 pub slice_bounds-given-end : goal.slice_bounds-given-end

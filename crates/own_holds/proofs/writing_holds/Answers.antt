@@ -4,7 +4,6 @@ use Prim.Native.Nat.{ℕ}
 use native.Mathlib.Omega.{arith}
 use lib.ListN.{replicate, length-replicate}
 use Rattle.own_holds.specs.OwnLaws.{also_fits, edges_fit}
-use borrow.Author.Rules.{rules}
 use Rattle.own_holds.proofs.writing_holds.Goals as goal
 
 pub held_sets-requires : goal.held_sets-requires

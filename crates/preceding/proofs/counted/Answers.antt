@@ -3,7 +3,6 @@ use Prim.Native.Nat.{ℕ}
 use mathlib.Core.Path.{sym, ap, ap₂, ◌∙◌}
 use mathlib.Core.Bool.{Bool, cond, ◌||◌}
 use lib.ListN.{get_or}
-use borrow.Author.Rules.{rules}
 use Rattle.preceding.proofs.counted.Goals as goal
 
 pub returns-then-is_marked : goal.returns-then-is_marked

@@ -1,8 +1,5 @@
 -- `preceding::counted_holds` meets its contract. Assumes nothing.
-use mathlib.Core.Path.{◌∙◌}
-use native.Mathlib.Omega.{arith}
 use Rattle.preceding.specs.LeaveLaws.{places_long, put_long, put_counted}
-use borrow.Author.Rules.{rules}
 use Rattle.preceding.proofs.counted_holds.Goals as goal
 
 pub find_preceded-requires : goal.find_preceded-requires

@@ -1,9 +1,6 @@
 -- `preceding::fill_marked` meets its contract. Its loop has made the sets below p empty. Assumes nothing.
-use Prim.Native.Nat.{◌-◌}
 use native.Mathlib.Omega.{arith}
-use lib.ListN.{length-set}
-use Rattle.preceding.specs.MarkedLaws.{Emptying, emptying_start, emptying_next, emptying_done}
-use borrow.Author.Rules.{rules}
+use Rattle.preceding.specs.MarkedLaws.{emptying_start, emptying_next, emptying_done}
 use Rattle.preceding.proofs.fill_marked.Goals as goal
 
 pub loop-p-init : goal.loop-p-init

@@ -9,7 +9,6 @@ use Rattle.table.proofs.LookupLaws.{routines_length}
 use Rattle.report.specs.Layout.{one_each}
 use Rattle.report.specs.Preceded.{preceded_sets}
 use Rattle.table.proofs.FrontLaws.{front_fits, front_is, front_long}
-use borrow.Author.Rules.{rules}
 use Rattle.preceding.proofs.find_preceded.Goals as goal
 
 pub slice_bounds-reach-end : goal.slice_bounds-reach-end

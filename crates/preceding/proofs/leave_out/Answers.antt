@@ -1,10 +1,8 @@
 -- `preceding::leave_out` meets its contract. Its loop has gone through the statements below s. Assumes nothing.
-use Prim.Native.Nat.{◌-◌}
 use mathlib.Core.Path.{ap, ◌∙◌}
 use native.Mathlib.Omega.{arith}
 use Rattle.sets.specs.Set.{firsts}
-use Rattle.preceding.specs.LeaveLaws.{Leaving, leaving_start, leaving_next, leaving_before, leaving_done}
-use borrow.Author.Rules.{rules}
+use Rattle.preceding.specs.LeaveLaws.{leaving_start, leaving_next, leaving_before, leaving_done}
 use Rattle.preceding.proofs.leave_out.Goals as goal
 
 pub loop-s-init : goal.loop-s-init

@@ -1,10 +1,6 @@
 -- `preceding::leave_out` meets its contract. Its loop has gone through the statements below s. Assumes nothing.
 use Prim.Native.Nat.{◌-◌}
-use mathlib.Core.Path.{ap, ◌∙◌}
-use native.Mathlib.Omega.{arith}
-use Rattle.sets.specs.Set.{firsts}
-use Rattle.preceding.specs.LeaveLaws.{Leaving, leaving_start, leaving_next, leaving_before, leaving_done}
-use borrow.Author.Rules.{rules}
+use Rattle.preceding.specs.LeaveLaws.{Leaving}
 use Rattle.preceding.proofs.leave_out.Given as goal
 
 abbrev pub invariant-loop-s : goal.invariant-loop-s

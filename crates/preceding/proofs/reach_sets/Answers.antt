@@ -2,7 +2,6 @@
 use mathlib.Core.Path.{sym}
 use lib.Seq.{length-take-le}
 use Rattle.preceding.specs.AnswerLaws.{reach_answer}
-use borrow.Author.Rules.{rules}
 use Rattle.preceding.proofs.reach_sets.Goals as goal
 
 pub slice_bounds-solve_plain-end-2 : goal.slice_bounds-solve_plain-end-2

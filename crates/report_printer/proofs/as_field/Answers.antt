@@ -1,6 +1,5 @@
 -- `report_printer::as_field` meets its contract. Assumes nothing.
 use Rattle.report_printer.proofs.Numbers.{word}
-use borrow.Author.Rules.{rules}
 use Rattle.report_printer.proofs.as_field.Goals as goal
 
 pub returns : goal.returns

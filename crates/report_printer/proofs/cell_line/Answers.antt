@@ -3,7 +3,6 @@ use mathlib.Core.Bool.{◌&&◌}
 use Rattle.report.specs.Findings.{is_unguarded}
 use Rattle.report_printer.specs.Lines.{cell_numbers}
 use Rattle.report_printer.proofs.Numbers.{back, back_flag, cell_small}
-use borrow.Author.Rules.{rules}
 use Rattle.report_printer.proofs.cell_line.Goals as goal
 
 pub as_field-requires : goal.as_field-requires

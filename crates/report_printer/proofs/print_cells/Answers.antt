@@ -1,11 +1,9 @@
 -- `report_printer::print_cells` meets its contract. Assumes nothing.
 use native.Mathlib.Omega.{arith}
 use mathlib.Core.Path.{refl}
-use Prim.Native.Nat.{◌-◌}
 use Rattle.report_printer.proofs.Numbers.{cell_small}
 use Rattle.report_printer.specs.Lines.{cells_by}
-use Rattle.report_printer.specs.WriteLaws.{Writing, writing_start, writing_length, writing_eight, writing_room, writing_line, writing_place, writing_done}
-use borrow.Author.Rules.{rules}
+use Rattle.report_printer.specs.WriteLaws.{writing_start, writing_eight, writing_room, writing_line, writing_place, writing_done}
 use Rattle.report_printer.proofs.print_cells.Goals as goal
 
 pub loop-x-init : goal.loop-x-init

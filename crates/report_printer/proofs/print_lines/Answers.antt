@@ -3,7 +3,6 @@ use mathlib.Core.Path.{◌∙◌, ap}
 use Rattle.report_printer.specs.Lines.{put_at}
 use Rattle.report_printer.specs.WriteLaws.{cells_room, strays_room, total_room, report_put}
 use Rattle.report_printer.specs.ReportedLaws.{room_for_all, report_is}
-use borrow.Author.Rules.{rules}
 use Rattle.report_printer.proofs.print_lines.Goals as goal
 
 pub print_cells-behind_cells-requires : goal.print_cells-behind_cells-requires

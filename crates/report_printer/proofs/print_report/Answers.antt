@@ -3,11 +3,9 @@ use mathlib.Core.Path.{◌≡◌, ◌∙◌}
 use Prim.Native.Nat.{◌+◌, ◌*◌, ◌≤◌, ◌<◌}
 use native.Mathlib.Omega.{arith}
 use lib.ListN.{length}
-use Rattle.table.specs.Header.{cells}
 use Rattle.table.specs.Table.{table_of}
 use Rattle.report.specs.Report.{report_text}
 use Rattle.report_printer.specs.ReportedLaws.{report_bytes, totals_are, no_room, has_room}
-use borrow.Author.Rules.{rules}
 use Rattle.report_printer.proofs.print_report.Goals as goal
 
 pub returns-then-out-bytes : goal.returns-then-out-bytes

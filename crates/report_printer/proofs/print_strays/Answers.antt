@@ -2,14 +2,13 @@
 use native.Mathlib.Omega.{arith}
 use mathlib.Core.Path.{◌≡◌}
 use mathlib.Core.List.{◌∷◌, []}
-use Prim.Native.Nat.{◌-◌, ◌<◌, ◌^◌}
-use Rattle.table.specs.Header.{statements, statement_line}
+use Prim.Native.Nat.{◌<◌}
+use Rattle.table.specs.Header.{statements}
 use Rattle.report.specs.Report.{stray_line}
 use Rattle.findings.specs.Steps.{stray_in}
 use Rattle.report_printer.specs.Lines.{strays_by}
-use Rattle.report_printer.specs.WriteLaws.{Writing, writing_start, writing_length, writing_eight, writing_room, writing_line, writing_none, writing_place, writing_done, stray_line_lem, no_line}
+use Rattle.report_printer.specs.WriteLaws.{writing_start, writing_eight, writing_room, writing_line, writing_none, writing_place, writing_done, stray_line_lem, no_line}
 use Rattle.report_printer.proofs.Numbers.{back, stray_small}
-use borrow.Author.Rules.{rules}
 use Rattle.report_printer.proofs.print_strays.Goals as goal
 
 pub first_line-base-requires : goal.first_line-base-requires

@@ -1,15 +1,9 @@
 -- `report_printer::print_strays` meets its contract. Assumes nothing.
-use native.Mathlib.Omega.{arith}
 use mathlib.Core.Path.{◌≡◌}
-use mathlib.Core.List.{◌∷◌, []}
 use Prim.Native.Nat.{◌-◌, ◌<◌, ◌^◌}
 use Rattle.table.specs.Header.{statements, statement_line}
-use Rattle.report.specs.Report.{stray_line}
-use Rattle.findings.specs.Steps.{stray_in}
 use Rattle.report_printer.specs.Lines.{strays_by}
-use Rattle.report_printer.specs.WriteLaws.{Writing, writing_start, writing_length, writing_eight, writing_room, writing_line, writing_none, writing_place, writing_done, stray_line_lem, no_line}
-use Rattle.report_printer.proofs.Numbers.{back, stray_small}
-use borrow.Author.Rules.{rules}
+use Rattle.report_printer.specs.WriteLaws.{Writing}
 use Rattle.report_printer.proofs.print_strays.Given as goal
 
 abbrev pub invariant-loop-s : goal.invariant-loop-s

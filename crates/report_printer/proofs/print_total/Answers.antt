@@ -2,7 +2,6 @@
 use Rattle.report_printer.specs.Lines.{total_numbers}
 use Rattle.report_printer.specs.WriteLaws.{put_line}
 use Rattle.report_printer.proofs.Numbers.{back, total_small}
-use borrow.Author.Rules.{rules}
 use Rattle.report_printer.proofs.print_total.Goals as goal
 
 pub as_field-requires : goal.as_field-requires

@@ -8,7 +8,6 @@ use Rattle.stages.specs.Lent.{lent_edges}
 use Rattle.stages.specs.SetsLaws.{flow_known}
 use Rattle.table.proofs.AcceptedLaws.{handles_few}
 use Rattle.table.proofs.FrontLaws.{front_fits, front_is, front_long}
-use borrow.Author.Rules.{rules}
 use Rattle.stages.proofs.examine.Goals as goal
 
 pub slice_bounds-flow-end : goal.slice_bounds-flow-end

@@ -7,7 +7,6 @@ use Rattle.table.proofs.CutLaws.{cut_long}
 use Rattle.stages.specs.SetsLaws.{reads_known, writes_known}
 use Rattle.table.proofs.AcceptedLaws.{routines_few}
 use Rattle.table.proofs.FrontLaws.{front_fits, front_is, front_long}
-use borrow.Author.Rules.{rules}
 use Rattle.stages.proofs.find_shared.Goals as goal
 
 pub slice_bounds-reads-end : goal.slice_bounds-reads-end

@@ -3,7 +3,6 @@ use mathlib.Core.Path.{◌∙◌}
 use Rattle.table.specs.Table.{table_of}
 use Rattle.findings.specs.FoundLaws.{shared_found}
 use Rattle.stages.specs.SetsLaws.{later_known}
-use borrow.Author.Rules.{rules}
 use Rattle.stages.proofs.shared_from.Goals as goal
 
 pub future_sets-requires : goal.future_sets-requires

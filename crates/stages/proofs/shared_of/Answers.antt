@@ -1,7 +1,6 @@
 -- `stages::shared_of` meets its contract. Assumes nothing.
 use mathlib.Core.Path.{sym, ◌∙◌}
 use Rattle.findings.specs.StartLaws.{none_shared}
-use borrow.Author.Rules.{rules}
 use Rattle.stages.proofs.shared_of.Goals as goal
 
 pub returns-then-started-eq0 : goal.returns-then-started-eq0

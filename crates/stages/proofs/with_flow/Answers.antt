@@ -1,6 +1,5 @@
 -- `stages::with_flow` meets its contract. Assumes nothing.
 use native.Mathlib.Omega.{arith}
-use borrow.Author.Rules.{rules}
 use Rattle.stages.proofs.with_flow.Goals as goal
 
 pub own_holds-requires : goal.own_holds-requires

@@ -2,7 +2,6 @@
 use mathlib.Core.Path.{◌∙◌}
 use native.Mathlib.Omega.{arith}
 use Rattle.stages.specs.SetsLaws.{later_long, later_put}
-use borrow.Author.Rules.{rules}
 use Rattle.stages.proofs.with_held.Goals as goal
 
 pub shared_of-shared-requires : goal.shared_of-shared-requires

@@ -2,7 +2,6 @@
 use mathlib.Core.Path.{◌∙◌}
 use native.Mathlib.Omega.{arith}
 use Rattle.stages.specs.SetsLaws.{counted_known}
-use borrow.Author.Rules.{rules}
 use Rattle.stages.proofs.with_shared.Goals as goal
 
 pub print_found-requires : goal.print_found-requires

@@ -1,11 +1,6 @@
 -- `station::station_report_packed` meets its contract: `analysis::report`'s, in one number. Assumes nothing.
 use mathlib.Core.Path.{ap, ◌∙◌}
 use Rattle.station.specs.Packed.{packed_answer}
-use borrow.Author.Rules.{rules}
-use Rattle.station.proofs.station_report_packed.Reads as reads
-use Rattle.station.proofs.station_report_packed.Lts as lts
-use Rattle.analysis.proofs.report.Reads as report-reads
-use Rattle.packing.proofs.pack.Reads as pack-reads
 use Rattle.station.proofs.station_report_packed.Goals as goal
 
 pub returns : goal.returns

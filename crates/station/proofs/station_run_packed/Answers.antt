@@ -1,11 +1,6 @@
 -- `station::station_run_packed` meets its contract: `engine::run`'s, in one number. Assumes nothing.
 use mathlib.Core.Path.{ap, ◌∙◌}
 use Rattle.station.specs.Packed.{packed_outcome}
-use borrow.Author.Rules.{rules}
-use Rattle.station.proofs.station_run_packed.Reads as reads
-use Rattle.station.proofs.station_run_packed.Lts as lts
-use Rattle.engine.proofs.run.Reads as run-reads
-use Rattle.packing.proofs.pack.Reads as pack-reads
 use Rattle.station.proofs.station_run_packed.Goals as goal
 
 pub returns-clause-outcome : goal.returns-clause-outcome

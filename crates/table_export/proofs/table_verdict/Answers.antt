@@ -2,7 +2,6 @@
 use mathlib.Core.Path.{sym, ap, ◌∙◌}
 use Rattle.table.specs.Verdict.{reading_of}
 use Rattle.table_export.specs.Packed.{packed_verdict}
-use borrow.Author.Rules.{rules}
 use Rattle.table_export.proofs.table_verdict.Goals as goal
 
 pub returns-in-Accepted : goal.returns-in-Accepted
