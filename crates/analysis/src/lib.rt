@@ -13,7 +13,7 @@ use report_printer::Printed;
 use table::Verdict;
 
 // What `report` answers: the number of the refusal, or 0, the line that goes with it, and how many bytes are written.
-#[derive(Drop)]
+#[derive(Clone, Copy)]
 pub struct Answer {
     pub number: u32,
     pub line: usize,
@@ -21,7 +21,7 @@ pub struct Answer {
 }
 
 // The same, and whether the table may be loaded.
-#[derive(Drop)]
+#[derive(Clone, Copy)]
 struct Examined {
     number: u32,
     line: usize,

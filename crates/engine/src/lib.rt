@@ -12,7 +12,7 @@ ghost use Rattle.engine.specs.Run.{outcome_of, answers_left, cells_left};
 use table::Verdict;
 
 // What a call is answered with: 0 and line 0, or the number of a refusal 1 to 13 and its line.
-#[derive(Drop)]
+#[derive(Clone, Copy)]
 pub struct Outcome {
     pub number: u32,
     pub line: usize,

@@ -6,14 +6,14 @@ ghost use Rattle.fields.specs.FieldLoops.{PastSpaces};
 ghost use Rattle.fields.specs.QuickFields.{Four, Hundreds, Quick, ZeroField};
 
 // What six characters say: a number, or nothing.
-#[derive(Drop)]
+#[derive(Clone, Copy)]
 pub enum Field {
     Number(i32),
     Bad,
 }
 
 // What characters say that are to be digits alone.
-#[derive(Drop)]
+#[derive(Clone, Copy)]
 enum Decimal {
     Value(u32),
     Bad,

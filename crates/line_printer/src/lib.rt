@@ -7,7 +7,7 @@ ghost use Rattle.lines.specs.Line.{all_in_field, line_text};
 ghost use Rattle.line_printer.specs.Print.{print_answer, printed_at};
 
 // What printing a line did: wrote it whole, or nothing.
-#[derive(Drop)]
+#[derive(Clone, Copy)]
 pub enum Printed {
     Whole,
     NoRoom,

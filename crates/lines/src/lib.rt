@@ -8,21 +8,21 @@ ghost use Rattle.lines.specs.Line.{line_of, line_count, first_bad, numbers_of, l
 use fields::Field;
 
 // Whether 49 bytes are a line.
-#[derive(Drop)]
+#[derive(Clone, Copy)]
 pub enum Form {
     Good,
     Bad,
 }
 
 // A line that was read: its form, and its numbers, zeros where the form is bad.
-#[derive(Drop)]
+#[derive(Clone, Copy)]
 pub struct Line {
     pub form: Form,
     pub numbers: [i32; 8],
 }
 
 // The lowest line of a text that is none.
-#[derive(Drop)]
+#[derive(Clone, Copy)]
 pub enum FirstBad {
     Line(usize),
     Nothing,
@@ -30,7 +30,7 @@ pub enum FirstBad {
 
 // A text that was read: its first bad line, and the numbers of 673 lines, eight a line. Zeros stand where a text has fewer
 // lines, and everywhere where a line is bad.
-#[derive(Drop)]
+#[derive(Clone, Copy)]
 pub struct Page {
     pub first_bad: FirstBad,
     pub numbers: [i32; 5384],

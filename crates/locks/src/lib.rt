@@ -11,7 +11,7 @@ use run_state::places::{lock_at, put_lock};
 use sets::{difference, has, one, with_element};
 
 // What becomes of a lock that a thread asks for or gives up: its word then, or the number of a refusal.
-#[derive(Drop)]
+#[derive(Clone, Copy)]
 pub enum LockTurn {
     Pass(u64),
     Stop(u32),

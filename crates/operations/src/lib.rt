@@ -20,7 +20,7 @@ use table::{Arguments, Statement};
 
 // What a step is answered with: the statement that ran, the statement that was refused and the number 16 to 18 of its refusal, or that the thread
 // has no next statement: 14, it is not started, or 15, it has ended.
-#[derive(Drop)]
+#[derive(Clone, Copy)]
 pub enum Step {
     Ran(Statement),
     Refused { number: u32, statement: Statement },
@@ -37,7 +37,7 @@ pub struct Place {
 
 // What an operation leaves: its frame goes to a statement, which the caller stores; its frame is closed; or it was stopped with the number of its
 // refusal, and nothing has changed.
-#[derive(Drop)]
+#[derive(Clone, Copy)]
 pub enum Move {
     To(usize),
     Closed,

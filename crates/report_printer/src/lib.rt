@@ -14,7 +14,7 @@ ghost use Rattle.report_printer.specs.Lines.{cell_numbers, total_numbers, cells_
 ghost use Rattle.report_printer.specs.Printed.{bytes_in, printed_over, counts_nothing};
 
 // What was printed: how many bytes, 0 if the report does not fit; and whether both totals in line 59 are 0.
-#[derive(Drop)]
+#[derive(Clone, Copy)]
 pub struct Printed {
     pub bytes: usize,
     pub clean: bool,

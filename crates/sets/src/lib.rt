@@ -4,7 +4,7 @@ ghost use Rattle.std.specs.Prelude.{◌≡◌};
 ghost use Rattle.sets.specs.Set.{has, firsts, one, with, union, inter, minus, subset, is_empty, count, is_single, only, lowest};
 
 // The element that a question finds, or that there is none.
-#[derive(Drop)]
+#[derive(Clone, Copy)]
 pub enum Which {
     Element(usize),
     Nothing,

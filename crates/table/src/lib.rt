@@ -13,7 +13,7 @@ pub enum Verdict {
 }
 
 // A text that was read: the verdict, and the numbers of its lines, eight a line; zeros behind its last line, and everywhere if it is refused.
-#[derive(Drop)]
+#[derive(Clone, Copy)]
 pub struct Reading {
     pub verdict: Verdict,
     pub numbers: [i32; 5384],
@@ -108,7 +108,7 @@ pub struct View {
 }
 
 // What a handle line says: its routine, its kind (1 cell, 2 lock), its origin (0 parameter, 1 local), and where a local starts.
-#[derive(Drop)]
+#[derive(Clone, Copy)]
 pub struct Declaration {
     pub routine: usize,
     pub kind: usize,
@@ -117,7 +117,7 @@ pub struct Declaration {
 }
 
 // A routine: its first statement and how many it has, its first handle, how many handles it has and how many of them are parameters.
-#[derive(Drop)]
+#[derive(Clone, Copy)]
 pub struct Routine {
     pub first: usize,
     pub count: usize,

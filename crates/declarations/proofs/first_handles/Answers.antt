@@ -12,13 +12,13 @@ pub loop-r-init : goal.loop-r-init
 loop-r-init c = (zero-le, skipping_start _)
 
 pub offset_bounds-from-r : goal.offset_bounds-from-r
-offset_bounds-from-r c = let few-here : c.loop-r.r < 32 = omega (arith, c.routine_count-count.ensures, c.loop-r-test.true) in record { fits = omega (arith, few-here) }
+offset_bounds-from-r c = let few_here : c.loop-r.r < 32 = omega (arith, c.routine_count-count.ensures, c.loop-r-test.true) in record { fits = omega (arith, few_here) }
 
 pub bounds-from-r : goal.bounds-from-r
-bounds-from-r c = let few-here : c.loop-r.r < 32 = omega (arith, c.routine_count-count.ensures, c.loop-r-test.true) in omega (arith, few-here)
+bounds-from-r c = let few_here : c.loop-r.r < 32 = omega (arith, c.routine_count-count.ensures, c.loop-r-test.true) in omega (arith, few_here)
 
 pub loop-r-preserved : goal.loop-r-preserved
-loop-r-preserved c = let few-here : c.loop-r.r < 32 = omega (arith, c.routine_count-count.ensures, c.loop-r-test.true) in (omega arith, skipping_next _ _ _ _ _ _ c.loop-r.invariant.1 few-here c.field_of-handles.ensures.is c.skip-h.ensures)
+loop-r-preserved c = let few_here : c.loop-r.r < 32 = omega (arith, c.routine_count-count.ensures, c.loop-r-test.true) in (omega arith, skipping_next _ _ _ _ _ _ c.loop-r.invariant.1 few_here c.field_of-handles.ensures.is c.skip-h.ensures)
 
 pub returns : goal.returns
 returns c = begun_below _ _ _ _ _ c.loop-r.invariant.1.begun (omega (arith, c.routine_count-count.ensures))

@@ -9,19 +9,19 @@ pub loop-r-init : goal.loop-r-init
 loop-r-init c = (zero-le, summing_start _)
 
 pub count_at-sum-requires : goal.count_at-sum-requires
-count_at-sum-requires c = let few-here : c.loop-r.r < 32 = omega (arith, c.routine_count-count.ensures, c.loop-r-test.true) in omega (arith, few-here)
+count_at-sum-requires c = let few_here : c.loop-r.r < 32 = omega (arith, c.routine_count-count.ensures, c.loop-r-test.true) in omega (arith, few_here)
 
 pub overflow_add-sum : goal.overflow_add-sum
-overflow_add-sum c = let few-here : c.loop-r.r < 32 = omega (arith, c.routine_count-count.ensures, c.loop-r-test.true) in record { fits = omega (arith, c.loop-r.invariant.1.small, c.count_at-sum.ensures.small, few-here) }
+overflow_add-sum c = let few_here : c.loop-r.r < 32 = omega (arith, c.routine_count-count.ensures, c.loop-r-test.true) in record { fits = omega (arith, c.loop-r.invariant.1.small, c.count_at-sum.ensures.small, few_here) }
 
 pub offset_bounds-first-r : goal.offset_bounds-first-r
-offset_bounds-first-r c = let few-here : c.loop-r.r < 32 = omega (arith, c.routine_count-count.ensures, c.loop-r-test.true) in record { fits = omega (arith, few-here) }
+offset_bounds-first-r c = let few_here : c.loop-r.r < 32 = omega (arith, c.routine_count-count.ensures, c.loop-r-test.true) in record { fits = omega (arith, few_here) }
 
 pub bounds-first-r : goal.bounds-first-r
-bounds-first-r c = let few-here : c.loop-r.r < 32 = omega (arith, c.routine_count-count.ensures, c.loop-r-test.true) in omega (arith, few-here)
+bounds-first-r c = let few_here : c.loop-r.r < 32 = omega (arith, c.routine_count-count.ensures, c.loop-r-test.true) in omega (arith, few_here)
 
 pub loop-r-preserved : goal.loop-r-preserved
-loop-r-preserved c = let few-here : c.loop-r.r < 32 = omega (arith, c.routine_count-count.ensures, c.loop-r-test.true) in (omega arith, summing_next _ _ _ _ _ c.loop-r.invariant.1 few-here c.count_at-sum.ensures.is c.count_at-sum.ensures.small)
+loop-r-preserved c = let few_here : c.loop-r.r < 32 = omega (arith, c.routine_count-count.ensures, c.loop-r-test.true) in (omega arith, summing_next _ _ _ _ _ c.loop-r.invariant.1 few_here c.count_at-sum.ensures.is c.count_at-sum.ensures.small)
 
 pub returns : goal.returns
 returns c = begun_below _ _ _ _ _ c.loop-r.invariant.1.begun (omega (arith, c.routine_count-count.ensures))

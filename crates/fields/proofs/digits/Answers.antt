@@ -17,13 +17,13 @@ pub returns-then-c-gt57 : goal.returns-then-c-gt57
 returns-then-c-gt57 c = ap decimal_answer (sym (digits_stop c.loop-i.invariant (search rules) (above_digit _ c.if-c-gt57.true)))
 
 pub overflow_mul-m : goal.overflow_mul-m
-overflow_mul-m c = let small-here : c.loop-i.m < 100000 = digits_fit c.loop-i.invariant (search rules) in omega (arith, small-here)
+overflow_mul-m c = let small_here : c.loop-i.m < 100000 = digits_fit c.loop-i.invariant (search rules) in omega (arith, small_here)
 
 pub overflow_cast-m : goal.overflow_cast-m
 overflow_cast-m c = omega (arith, c.if-c-lt48.false, c.if-c-gt57.false)
 
 pub overflow_add-m : goal.overflow_add-m
-overflow_add-m c = let small-here : c.loop-i.m < 100000 = digits_fit c.loop-i.invariant (search rules) in omega (arith, small-here, c.if-c-lt48.false, c.if-c-gt57.false)
+overflow_add-m c = let small_here : c.loop-i.m < 100000 = digits_fit c.loop-i.invariant (search rules) in omega (arith, small_here, c.if-c-lt48.false, c.if-c-gt57.false)
 
 pub loop-i-smaller : goal.loop-i-smaller
 loop-i-smaller c = omega (arith, c.loop-i.invariant.size)

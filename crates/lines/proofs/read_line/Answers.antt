@@ -34,13 +34,13 @@ pub bounds-numbers-j : goal.bounds-numbers-j
 bounds-numbers-j c = c.loop-j-test.true
 
 pub returns-then-text-at-ne10 : goal.returns-then-text-at-ne10
-returns-then-text-at-ne10 c = let whole-here : length (take 49 (drop c.args.at c.args.text.now)) ≡ 49 = line_whole c.args.text.now c.args.at (omega arith) in
-    ap line_answer (sym (reading_no_end c.loop-j.invariant c.loop-j-test.false whole-here
+returns-then-text-at-ne10 c = let whole_here : length (take 49 (drop c.args.at c.args.text.now)) ≡ 49 = line_whole c.args.text.now c.args.at (omega arith) in
+    ap line_answer (sym (reading_no_end c.loop-j.invariant c.loop-j-test.false whole_here
     (λ e. c.if-text-at-ne10.true (sym (line_last c.args.text.now c.args.at) ∙ e))))
 
 pub returns : goal.returns
-returns c = let whole-here : length (take 49 (drop c.args.at c.args.text.now)) ≡ 49 = line_whole c.args.text.now c.args.at (omega arith) in
-    let w = whole-here in
+returns c = let whole_here : length (take 49 (drop c.args.at c.args.text.now)) ≡ 49 = line_whole c.args.text.now c.args.at (omega arith) in
+    let w = whole_here in
     let k = reading_kept c.loop-j.invariant c.loop-j-test.false w in
     let e = reading_end c.loop-j.invariant c.loop-j-test.false w (line_last c.args.text.now c.args.at ∙ c.if-text-at-ne10.false) in
     let l : length c.loop-j.numbers ≤ 8 = omega (arith, c.loop-j.invariant.sized) in

@@ -28,22 +28,22 @@ pub loop-j-init : goal.loop-j-init
 loop-j-init c = page_in c.lines.invariant c.lines-test.true c.quick_fields-j.ensures
 
 pub overflow_mul-i-in-loop-j : goal.overflow_mul-i-in-loop-j
-overflow_mul-i-in-loop-j c = let inside-here : (49 * c.lines.i + 49 ≤ length c.args.text.now) × (c.lines.i < 673) = (line_inside c.loop-j.invariant, omega (arith, c.loop-j.invariant.more, (page_few c.args.text.now c.line_count-lines.result c.loop-j.invariant.counted).0)) in omega (arith, inside-here)
+overflow_mul-i-in-loop-j c = let inside_here : (49 * c.lines.i + 49 ≤ length c.args.text.now) × (c.lines.i < 673) = (line_inside c.loop-j.invariant, omega (arith, c.loop-j.invariant.more, (page_few c.args.text.now c.line_count-lines.result c.loop-j.invariant.counted).0)) in omega (arith, inside_here)
 
 pub overflow_mul-j : goal.overflow_mul-j
 overflow_mul-j c = omega (arith, c.loop-j-test.true)
 
 pub overflow_add-i : goal.overflow_add-i
-overflow_add-i c = let inside-here : (49 * c.lines.i + 49 ≤ length c.args.text.now) × (c.lines.i < 673) = (line_inside c.loop-j.invariant, omega (arith, c.loop-j.invariant.more, (page_few c.args.text.now c.line_count-lines.result c.loop-j.invariant.counted).0)) in omega (arith, inside-here, c.loop-j-test.true)
+overflow_add-i c = let inside_here : (49 * c.lines.i + 49 ≤ length c.args.text.now) × (c.lines.i < 673) = (line_inside c.loop-j.invariant, omega (arith, c.loop-j.invariant.more, (page_few c.args.text.now c.line_count-lines.result c.loop-j.invariant.counted).0)) in omega (arith, inside_here, c.loop-j-test.true)
 
 pub overflow_mul-z : goal.overflow_mul-z
-overflow_mul-z c = let inside-here : (49 * c.lines.i + 49 ≤ length c.args.text.now) × (c.lines.i < 673) = (line_inside c.loop-j.invariant, omega (arith, c.loop-j.invariant.more, (page_few c.args.text.now c.line_count-lines.result c.loop-j.invariant.counted).0)) in omega (arith, inside-here)
+overflow_mul-z c = let inside_here : (49 * c.lines.i + 49 ≤ length c.args.text.now) × (c.lines.i < 673) = (line_inside c.loop-j.invariant, omega (arith, c.loop-j.invariant.more, (page_few c.args.text.now c.line_count-lines.result c.loop-j.invariant.counted).0)) in omega (arith, inside_here)
 
 pub overflow_add-z : goal.overflow_add-z
-overflow_add-z c = let inside-here : (49 * c.lines.i + 49 ≤ length c.args.text.now) × (c.lines.i < 673) = (line_inside c.loop-j.invariant, omega (arith, c.loop-j.invariant.more, (page_few c.args.text.now c.line_count-lines.result c.loop-j.invariant.counted).0)) in omega (arith, inside-here, c.loop-j-test.true)
+overflow_add-z c = let inside_here : (49 * c.lines.i + 49 ≤ length c.args.text.now) × (c.lines.i < 673) = (line_inside c.loop-j.invariant, omega (arith, c.loop-j.invariant.more, (page_few c.args.text.now c.line_count-lines.result c.loop-j.invariant.counted).0)) in omega (arith, inside_here, c.loop-j-test.true)
 
 pub offset_bounds-numbers-i : goal.offset_bounds-numbers-i
-offset_bounds-numbers-i c = let inside-here : (49 * c.lines.i + 49 ≤ length c.args.text.now) × (c.lines.i < 673) = (line_inside c.loop-j.invariant, omega (arith, c.loop-j.invariant.more, (page_few c.args.text.now c.line_count-lines.result c.loop-j.invariant.counted).0)) in omega (arith, inside-here, c.loop-j-test.true)
+offset_bounds-numbers-i c = let inside_here : (49 * c.lines.i + 49 ≤ length c.args.text.now) × (c.lines.i < 673) = (line_inside c.loop-j.invariant, omega (arith, c.loop-j.invariant.more, (page_few c.args.text.now c.line_count-lines.result c.loop-j.invariant.counted).0)) in omega (arith, inside_here, c.loop-j-test.true)
 
 pub bounds-numbers-i : goal.bounds-numbers-i
 bounds-numbers-i c = omega (arith, line_room c.loop-j.invariant, c.loop-j-test.true)
@@ -55,16 +55,16 @@ pub loop-j-smaller : goal.loop-j-smaller
 loop-j-smaller c = omega (arith, c.loop-j-test.true)
 
 pub overflow_mul-i-in-lines-2 : goal.overflow_mul-i-in-lines-2
-overflow_mul-i-in-lines-2 c = let inside-here : (49 * c.lines.i + 49 ≤ length c.args.text.now) × (c.lines.i < 673) = (line_inside c.loop-j.invariant, omega (arith, c.loop-j.invariant.more, (page_few c.args.text.now c.line_count-lines.result c.loop-j.invariant.counted).0)) in omega (arith, inside-here)
+overflow_mul-i-in-lines-2 c = let inside_here : (49 * c.lines.i + 49 ≤ length c.args.text.now) × (c.lines.i < 673) = (line_inside c.loop-j.invariant, omega (arith, c.loop-j.invariant.more, (page_few c.args.text.now c.line_count-lines.result c.loop-j.invariant.counted).0)) in omega (arith, inside_here)
 
 pub overflow_add-i-in-lines : goal.overflow_add-i-in-lines
-overflow_add-i-in-lines c = let inside-here : (49 * c.lines.i + 49 ≤ length c.args.text.now) × (c.lines.i < 673) = (line_inside c.loop-j.invariant, omega (arith, c.loop-j.invariant.more, (page_few c.args.text.now c.line_count-lines.result c.loop-j.invariant.counted).0)) in omega (arith, inside-here)
+overflow_add-i-in-lines c = let inside_here : (49 * c.lines.i + 49 ≤ length c.args.text.now) × (c.lines.i < 673) = (line_inside c.loop-j.invariant, omega (arith, c.loop-j.invariant.more, (page_few c.args.text.now c.line_count-lines.result c.loop-j.invariant.counted).0)) in omega (arith, inside_here)
 
 pub bounds-text-i : goal.bounds-text-i
-bounds-text-i c = let inside-here : (49 * c.lines.i + 49 ≤ length c.args.text.now) × (c.lines.i < 673) = (line_inside c.loop-j.invariant, omega (arith, c.loop-j.invariant.more, (page_few c.args.text.now c.line_count-lines.result c.loop-j.invariant.counted).0)) in omega (arith, inside-here)
+bounds-text-i c = let inside_here : (49 * c.lines.i + 49 ≤ length c.args.text.now) × (c.lines.i < 673) = (line_inside c.loop-j.invariant, omega (arith, c.loop-j.invariant.more, (page_few c.args.text.now c.line_count-lines.result c.loop-j.invariant.counted).0)) in omega (arith, inside_here)
 
 pub overflow_add-i-in-lines-2 : goal.overflow_add-i-in-lines-2
-overflow_add-i-in-lines-2 c = let inside-here : (49 * c.lines.i + 49 ≤ length c.args.text.now) × (c.lines.i < 673) = (line_inside c.loop-j.invariant, omega (arith, c.loop-j.invariant.more, (page_few c.args.text.now c.line_count-lines.result c.loop-j.invariant.counted).0)) in omega (arith, inside-here)
+overflow_add-i-in-lines-2 c = let inside_here : (49 * c.lines.i + 49 ≤ length c.args.text.now) × (c.lines.i < 673) = (line_inside c.loop-j.invariant, omega (arith, c.loop-j.invariant.more, (page_few c.args.text.now c.line_count-lines.result c.loop-j.invariant.counted).0)) in omega (arith, inside_here)
 
 pub lines-smaller : goal.lines-smaller
 lines-smaller c = omega (arith, c.lines-test.true)

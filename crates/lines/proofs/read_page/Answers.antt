@@ -13,10 +13,10 @@ use Rattle.lines.specs.declared.Page as P
 use Rattle.lines.proofs.read_page.Goals as goal
 
 pub slice_bounds-read_numbers-end : goal.slice_bounds-read_numbers-end
-slice_bounds-read_numbers-end c = let few-here : 8 * c.line_count-count.result ≤ 5384 = omega (arith, (page_few c.args.text.now c.line_count-count.result c.line_count-count.ensures).0) in zeros_part (8 * c.line_count-count.result) 5384 few-here
+slice_bounds-read_numbers-end c = let few_here : 8 * c.line_count-count.result ≤ 5384 = omega (arith, (page_few c.args.text.now c.line_count-count.result c.line_count-count.ensures).0) in zeros_part (8 * c.line_count-count.result) 5384 few_here
 
 pub read_numbers-first_bad-requires : goal.read_numbers-first_bad-requires
-read_numbers-first_bad-requires c = let few-here : 8 * c.line_count-count.result ≤ 5384 = omega (arith, (page_few c.args.text.now c.line_count-count.result c.line_count-count.ensures).0) in sym (zeros_part (8 * c.line_count-count.result) 5384 few-here) ∙ ap (λ (n : ℕ). 8 * n) c.line_count-count.ensures
+read_numbers-first_bad-requires c = let few_here : 8 * c.line_count-count.result ≤ 5384 = omega (arith, (page_few c.args.text.now c.line_count-count.result c.line_count-count.ensures).0) in sym (zeros_part (8 * c.line_count-count.result) 5384 few_here) ∙ ap (λ (n : ℕ). 8 * n) c.line_count-count.ensures
 
 pub returns-in-Line : goal.returns-in-Line
 returns-in-Line c = sym (page_bad c.args.text.now _ (answer_line _ _ (sym c.read_numbers-first_bad.ensures.found ∙ c.in-Line.is)))

@@ -22,7 +22,7 @@ unfolding named_by
 named f s e is at = ap {B = ℕ} (λ r. set_on r one) (sym at ∙ is ∙ ap (λ (v : View). v.names) (view_line f s e refl))
 
 pub returns-in-To : goal.returns-in-To
-returns-in-To c = let line_is-here : c.first_line.result + c.args.s ≡ statement_line c.args.numbers.now c.args.s = ap (λ (n : ℕ). n + c.args.s) c.first_line.ensures.is ∙ statement_line_lem c.args.numbers.now c.args.s in c.one.ensures ∙ named _ _ line_is-here c.names_at-names.ensures c.in-To.is
+returns-in-To c = let line_is_here : c.first_line.result + c.args.s ≡ statement_line c.args.numbers.now c.args.s = ap (λ (n : ℕ). n + c.args.s) c.first_line.ensures.is ∙ statement_line_lem c.args.numbers.now c.args.s in c.one.ensures ∙ named _ _ line_is_here c.names_at-names.ensures c.in-To.is
 
 pub returns-in-Nothing : goal.returns-in-Nothing
-returns-in-Nothing c = let line_is-here : c.first_line.result + c.args.s ≡ statement_line c.args.numbers.now c.args.s = ap (λ (n : ℕ). n + c.args.s) c.first_line.ensures.is ∙ statement_line_lem c.args.numbers.now c.args.s in named _ _ line_is-here c.names_at-names.ensures c.in-Nothing.is
+returns-in-Nothing c = let line_is_here : c.first_line.result + c.args.s ≡ statement_line c.args.numbers.now c.args.s = ap (λ (n : ℕ). n + c.args.s) c.first_line.ensures.is ∙ statement_line_lem c.args.numbers.now c.args.s in named _ _ line_is_here c.names_at-names.ensures c.in-Nothing.is

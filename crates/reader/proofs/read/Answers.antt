@@ -11,10 +11,10 @@ use Rattle.table.specs.declared.Reading.{Reading}
 use Rattle.reader.proofs.read.Goals as goal
 
 pub slice_bounds-read_into-end : goal.slice_bounds-read_into-end
-slice_bounds-read_into-end c = let few-here : 8 * c.line_count-count.result ≤ 5384 = omega (arith, (page_few c.args.text.now c.line_count-count.result c.line_count-count.ensures).0) in zeros_part (8 * c.line_count-count.result) 5384 few-here
+slice_bounds-read_into-end c = let few_here : 8 * c.line_count-count.result ≤ 5384 = omega (arith, (page_few c.args.text.now c.line_count-count.result c.line_count-count.ensures).0) in zeros_part (8 * c.line_count-count.result) 5384 few_here
 
 pub read_into-requires : goal.read_into-requires
-read_into-requires c = let few-here : 8 * c.line_count-count.result ≤ 5384 = omega (arith, (page_few c.args.text.now c.line_count-count.result c.line_count-count.ensures).0) in sym (zeros_part (8 * c.line_count-count.result) 5384 few-here) ∙ ap (λ (n : ℕ). 8 * n) c.line_count-count.ensures
+read_into-requires c = let few_here : 8 * c.line_count-count.result ≤ 5384 = omega (arith, (page_few c.args.text.now c.line_count-count.result c.line_count-count.ensures).0) in sym (zeros_part (8 * c.line_count-count.result) 5384 few_here) ∙ ap (λ (n : ℕ). 8 * n) c.line_count-count.ensures
 
 pub returns-in-Accepted : goal.returns-in-Accepted
 returns-in-Accepted c =

@@ -28,24 +28,24 @@ is_stray-requires c = omega arith
 
 pub as_field-requires : goal.as_field-requires
 unfolding stray_in
-as_field-requires c = let is_one-here : strays_by c.args.numbers.now c.args.flow.now c.args.held.now c.loop-s.s ≡ stray_line c.loop-s.s ∷ [] = stray_line_lem _ _ _ _ (rw (← c.set_at.ensures, ← c.is_stray.ensures) c.if-is_stray.true) in
-    stray_small _ (writing_eight c.loop-s.invariant.0 (omega arith) _ is_one-here)
+as_field-requires c = let is_one_here : strays_by c.args.numbers.now c.args.flow.now c.args.held.now c.loop-s.s ≡ stray_line c.loop-s.s ∷ [] = stray_line_lem _ _ _ _ (rw (← c.set_at.ensures, ← c.is_stray.ensures) c.if-is_stray.true) in
+    stray_small _ (writing_eight c.loop-s.invariant.0 (omega arith) _ is_one_here)
 
 pub print_line-requires : goal.print_line-requires
 print_line-requires c = tt
 
 pub overflow_add-place : goal.overflow_add-place
 unfolding stray_in
-overflow_add-place c = let is_one-here : strays_by c.args.numbers.now c.args.flow.now c.args.held.now c.loop-s.s ≡ stray_line c.loop-s.s ∷ [] = stray_line_lem _ _ _ _ (rw (← c.set_at.ensures, ← c.is_stray.ensures) c.if-is_stray.true) in
-    record { fits = omega (arith, writing_room c.loop-s.invariant.0 (omega arith) _ is_one-here) }
+overflow_add-place c = let is_one_here : strays_by c.args.numbers.now c.args.flow.now c.args.held.now c.loop-s.s ≡ stray_line c.loop-s.s ∷ [] = stray_line_lem _ _ _ _ (rw (← c.set_at.ensures, ← c.is_stray.ensures) c.if-is_stray.true) in
+    record { fits = omega (arith, writing_room c.loop-s.invariant.0 (omega arith) _ is_one_here) }
 
 pub loop-s-smaller-then-is_stray : goal.loop-s-smaller-then-is_stray
 loop-s-smaller-then-is_stray c = omega arith
 
 pub loop-s-preserved-then-is_stray : goal.loop-s-preserved-then-is_stray
 unfolding stray_line stray_in
-loop-s-preserved-then-is_stray c = let is_one-here : strays_by c.args.numbers.now c.args.flow.now c.args.held.now c.loop-s.s ≡ stray_line c.loop-s.s ∷ [] = stray_line_lem _ _ _ _ (rw (← c.set_at.ensures, ← c.is_stray.ensures) c.if-is_stray.true) in
-    let e = is_one-here in
+loop-s-preserved-then-is_stray c = let is_one_here : strays_by c.args.numbers.now c.args.flow.now c.args.held.now c.loop-s.s ≡ stray_line c.loop-s.s ∷ [] = stray_line_lem _ _ _ _ (rw (← c.set_at.ensures, ← c.is_stray.ensures) c.if-is_stray.true) in
+    let e = is_one_here in
     let more : c.loop-s.s < statements c.args.numbers.now = omega arith in
     let small = stray_small _ (writing_eight c.loop-s.invariant.0 more _ e) in
     (rw (c.print_line.ensures.buffer, back c.loop-s.s c.as_field.ensures small) (writing_line c.loop-s.invariant.0 more _ e), c.loop-s.invariant.1, c.loop-s.invariant.2, c.loop-s.invariant.3, c.loop-s.invariant.4)
@@ -55,8 +55,8 @@ loop-s-smaller c = omega arith
 
 pub loop-s-preserved : goal.loop-s-preserved
 unfolding stray_in
-loop-s-preserved c = let is_none-here : strays_by c.args.numbers.now c.args.flow.now c.args.held.now c.loop-s.s ≡ [] = no_line _ _ _ _ (rw (← c.set_at.ensures, ← c.is_stray.ensures) c.if-is_stray.false) in
-    (writing_none c.loop-s.invariant.0 (omega arith) is_none-here, c.loop-s.invariant.1, c.loop-s.invariant.2, c.loop-s.invariant.3, c.loop-s.invariant.4)
+loop-s-preserved c = let is_none_here : strays_by c.args.numbers.now c.args.flow.now c.args.held.now c.loop-s.s ≡ [] = no_line _ _ _ _ (rw (← c.set_at.ensures, ← c.is_stray.ensures) c.if-is_stray.false) in
+    (writing_none c.loop-s.invariant.0 (omega arith) is_none_here, c.loop-s.invariant.1, c.loop-s.invariant.2, c.loop-s.invariant.3, c.loop-s.invariant.4)
 
 pub returns : goal.returns
 returns c =

@@ -12,8 +12,8 @@ take_split a b old new h front =
     let same : a + (b - a) ≡ b = omega arith in
     ap (λ l. l ++ slice_range new a b) (sym front) ∙ sym (take-add a (b - a) new) ∙ ap (λ n. take n new) same
 
-slice_range-put_mid : (a k n : ℕ) (xs ys : List ℕ) → a ≤ length xs → n ≤ length ys → slice_range (put_mid a k xs ys) a (a + n) ≡ take n ys
-slice_range-put_mid a k n xs ys within fits =
+slice_range_put_mid : (a k n : ℕ) (xs ys : List ℕ) → a ≤ length xs → n ≤ length ys → slice_range (put_mid a k xs ys) a (a + n) ≡ take n ys
+slice_range_put_mid a k n xs ys within fits =
     let same : (a + n) - a ≡ n = omega arith in
     let after = post_of a k xs in
     ap (take ((a + n) - a)) (drop_at (take a xs) (ys ++ after) a (length-take-le a xs within)) ∙ ap (λ m. take m (ys ++ after)) same ∙ take-append-le n ys after fits
@@ -25,7 +25,7 @@ loop-done-preserved g c =
     let within = c.loop-done.invariant.within in
     let count = c.in_ok-n.n in
     let fits : count ≤ length c.read.new.buf = c.in_ok-n.ensures.bound.0 in
-    let part = slice_range-put_mid from room count c.loop-done.buffer c.read.new.buf within fits in
+    let part = slice_range_put_mid from room count c.loop-done.buffer c.read.new.buf within fits in
     let joined = take_split from (from + count) c.loop-done.buffer (put_mid from room c.loop-done.buffer c.read.new.buf) (omega arith) (take-put_mid_below _ _ _ _ _ (le_refl _) within) in
     record {
       within = search rules;

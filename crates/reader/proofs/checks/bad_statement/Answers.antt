@@ -49,7 +49,7 @@ returns c =
     ∙ searching_done _ _ _ c.loop-r.invariant c.loop-r-test.false ∙ ap (bad_statement f 0) c.field_of-count.ensures.is
 
 pub returns-then-s-end : goal.returns-then-s-end
-returns-then-s-end c = let at-here : Turn c.args.numbers.now c.loop-r.r c.number_at-end.result c.bad_among-s.result = let f = c.args.numbers.now in
+returns-then-s-end c = let at_here : Turn c.args.numbers.now c.loop-r.r c.number_at-end.result c.bad_among-s.result = let f = c.args.numbers.now in
     let r = c.loop-r.r in
     let inside : r < routines f = omega (arith, c.field_of-count.ensures.is, c.loop-r-test.true) in
     let e = c.number_at-end.ensures ∙ statements_begin c.requires.statements_begin (r + 1) (omega arith) in
@@ -57,11 +57,11 @@ returns-then-s-end c = let at-here : Turn c.args.numbers.now c.loop-r.r c.number
       end = e;
       found = searched f r _ _ _ c.bad_among-s.ensures (c.number_at.ensures ∙ statements_begin c.requires.statements_begin r (omega arith)) e;
     } in
-    at-here.found ∙ searching_stop _ _ _ c.loop-r.invariant c.loop-r-test.true (rw (at-here.found, at-here.end) at c.if-s-end.true)
+    at_here.found ∙ searching_stop _ _ _ c.loop-r.invariant c.loop-r-test.true (rw (at_here.found, at_here.end) at c.if-s-end.true)
     ∙ ap (bad_statement _ 0) c.field_of-count.ensures.is
 
 pub loop-r-preserved : goal.loop-r-preserved
-loop-r-preserved c = let at-here : Turn c.args.numbers.now c.loop-r.r c.number_at-end.result c.bad_among-s.result = let f = c.args.numbers.now in
+loop-r-preserved c = let at_here : Turn c.args.numbers.now c.loop-r.r c.number_at-end.result c.bad_among-s.result = let f = c.args.numbers.now in
     let r = c.loop-r.r in
     let inside : r < routines f = omega (arith, c.field_of-count.ensures.is, c.loop-r-test.true) in
     let e = c.number_at-end.ensures ∙ statements_begin c.requires.statements_begin (r + 1) (omega arith) in
@@ -69,4 +69,4 @@ loop-r-preserved c = let at-here : Turn c.args.numbers.now c.loop-r.r c.number_a
       end = e;
       found = searched f r _ _ _ c.bad_among-s.ensures (c.number_at.ensures ∙ statements_begin c.requires.statements_begin r (omega arith)) e;
     } in
-    searching_next _ _ _ c.loop-r.invariant c.loop-r-test.true (rw (at-here.found, at-here.end) at c.if-s-end.false)
+    searching_next _ _ _ c.loop-r.invariant c.loop-r-test.true (rw (at_here.found, at_here.end) at c.if-s-end.false)

@@ -22,15 +22,15 @@ field_of-requires c = tt
 
 pub returns-then-r-count : goal.returns-then-r-count
 unfolding naming_verdict
-returns-then-r-count c = let unnamed-here : c.lowest-r.result ≡ until (is_named c.args.names.now) 1 (c.field_of-count.result - 1) = c.lowest-r.ensures ∙ named_by_all _ _ _ c.all_named-all.ensures in rw (← c.field_of-count.ensures.is, ← unnamed-here, lt-ltb _ _ c.if-r-count.true, c.field_of.ensures.is)
+returns-then-r-count c = let unnamed_here : c.lowest-r.result ≡ until (is_named c.args.names.now) 1 (c.field_of-count.result - 1) = c.lowest-r.ensures ∙ named_by_all _ _ _ c.all_named-all.ensures in rw (← c.field_of-count.ensures.is, ← unnamed_here, lt-ltb _ _ c.if-r-count.true, c.field_of.ensures.is)
 
 pub field_of-requires-then-q-count : goal.field_of-requires-then-q-count
 field_of-requires-then-q-count c = tt
 
 pub returns-then-q-count : goal.returns-then-q-count
 unfolding naming_verdict
-returns-then-q-count c = let unnamed-here : c.lowest-r.result ≡ until (is_named c.args.names.now) 1 (c.field_of-count.result - 1) = c.lowest-r.ensures ∙ named_by_all _ _ _ c.all_named-all.ensures in let cyclic-here : c.lowest-q.result ≡ until (is_acyclic c.args.names.now) 0 c.field_of-count.result = c.lowest-q.ensures ∙ ap (until _ 0) (sub-zero _) in rw (← c.field_of-count.ensures.is, ← unnamed-here, le-ltb _ _ c.if-r-count.false, ← cyclic-here, lt-ltb _ _ c.if-q-count.true, c.field_of-then-q-count.ensures.is)
+returns-then-q-count c = let unnamed_here : c.lowest-r.result ≡ until (is_named c.args.names.now) 1 (c.field_of-count.result - 1) = c.lowest-r.ensures ∙ named_by_all _ _ _ c.all_named-all.ensures in let cyclic_here : c.lowest-q.result ≡ until (is_acyclic c.args.names.now) 0 c.field_of-count.result = c.lowest-q.ensures ∙ ap (until _ 0) (sub-zero _) in rw (← c.field_of-count.ensures.is, ← unnamed_here, le-ltb _ _ c.if-r-count.false, ← cyclic_here, lt-ltb _ _ c.if-q-count.true, c.field_of-then-q-count.ensures.is)
 
 pub returns : goal.returns
 unfolding naming_verdict
-returns c = let unnamed-here : c.lowest-r.result ≡ until (is_named c.args.names.now) 1 (c.field_of-count.result - 1) = c.lowest-r.ensures ∙ named_by_all _ _ _ c.all_named-all.ensures in let cyclic-here : c.lowest-q.result ≡ until (is_acyclic c.args.names.now) 0 c.field_of-count.result = c.lowest-q.ensures ∙ ap (until _ 0) (sub-zero _) in rw (← c.field_of-count.ensures.is, ← unnamed-here, le-ltb _ _ c.if-r-count.false, ← cyclic-here, le-ltb _ _ c.if-q-count.false)
+returns c = let unnamed_here : c.lowest-r.result ≡ until (is_named c.args.names.now) 1 (c.field_of-count.result - 1) = c.lowest-r.ensures ∙ named_by_all _ _ _ c.all_named-all.ensures in let cyclic_here : c.lowest-q.result ≡ until (is_acyclic c.args.names.now) 0 c.field_of-count.result = c.lowest-q.ensures ∙ ap (until _ 0) (sub-zero _) in rw (← c.field_of-count.ensures.is, ← unnamed_here, le-ltb _ _ c.if-r-count.false, ← cyclic_here, le-ltb _ _ c.if-q-count.false)

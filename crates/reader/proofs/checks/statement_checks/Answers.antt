@@ -41,7 +41,7 @@ overflow_add-result-then-r-count c =
 
 pub returns-then-r-count : goal.returns-then-r-count
 unfolding statement_verdict
-returns-then-r-count c = let runs_on-here : c.lowest-r.result ≡ until (end_ok c.args.numbers.now) 0 (routines c.args.numbers.now) = c.lowest-r.ensures ∙ ap (until _ 0) (sub-zero _ ∙ c.field_of-count.ensures.is) in
+returns-then-r-count c = let runs_on_here : c.lowest-r.result ≡ until (end_ok c.args.numbers.now) 0 (routines c.args.numbers.now) = c.lowest-r.ensures ∙ ap (until _ 0) (sub-zero _ ∙ c.field_of-count.ensures.is) in
     let f = c.args.numbers.now in
     let r = c.lowest-r.result in
     let inside : r < routines f = omega (arith, c.field_of-count.ensures.is, c.if-r-count.true) in
@@ -51,17 +51,17 @@ returns-then-r-count c = let runs_on-here : c.lowest-r.result ≡ until (end_ok 
       line,
       ← c.bad_statement-s.ensures,
       le-ltb _ _ (rw c.field_of.ensures.is at c.if-s-field_of.false),
-      ← runs_on-here,
+      ← runs_on_here,
       lt-ltb _ _ (rw c.field_of-count.ensures.is at c.if-r-count.true),
     )
 
 pub returns : goal.returns
 unfolding statement_verdict
-returns c = let runs_on-here : c.lowest-r.result ≡ until (end_ok c.args.numbers.now) 0 (routines c.args.numbers.now) = c.lowest-r.ensures ∙ ap (until _ 0) (sub-zero _ ∙ c.field_of-count.ensures.is) in
+returns c = let runs_on_here : c.lowest-r.result ≡ until (end_ok c.args.numbers.now) 0 (routines c.args.numbers.now) = c.lowest-r.ensures ∙ ap (until _ 0) (sub-zero _ ∙ c.field_of-count.ensures.is) in
     rw (
       ← c.bad_statement-s.ensures,
       le-ltb _ _ (rw c.field_of.ensures.is at c.if-s-field_of.false),
-      ← runs_on-here,
+      ← runs_on_here,
       le-ltb _ _ (rw c.field_of-count.ensures.is at c.if-r-count.false),
       ← c.names_in-names.ensures,
     ) c.naming_verdict.ensures
