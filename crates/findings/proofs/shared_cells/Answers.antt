@@ -14,15 +14,15 @@ field_of-count-requires c = tt
 pub field_of-requires : goal.field_of-requires
 field_of-requires c = tt
 
-pub shared_at_here-requires : goal.shared_at_here-requires
-shared_at_here-requires c = record { line_value = omega arith; s_bound = omega arith }
+pub shared_at-here-requires : goal.shared_at-here-requires
+shared_at-here-requires c = record { line_value = omega arith; s_bound = omega arith }
 
 pub union-shared-requires : goal.union-shared-requires
 union-shared-requires c = tt
 
 pub loop-s-preserved : goal.loop-s-preserved
 loop-s-preserved c = let inv = c.loop-s.invariant in
-    (rw (c.union-shared.ensures, c.shared_at_here.ensures, inv.4) (folding_next _ _ _ _ _ inv.0 c.loop-s-test.true), inv.1, inv.2, inv.3, inv.4, inv.5)
+    (rw (c.union-shared.ensures, c.shared_at-here.ensures, inv.4) (folding_next _ _ _ _ _ inv.0 c.loop-s-test.true), inv.1, inv.2, inv.3, inv.4, inv.5)
 
 pub returns : goal.returns
 returns c = folding_done _ _ _ _ _ c.loop-s.invariant.0 c.loop-s-test.false ∙ fold_union _ _ _
