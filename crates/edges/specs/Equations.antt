@@ -67,12 +67,12 @@ unfoldable pub own_set : Bool → Bool → List ℕ → Statement → ℕ
 own_set locks w flow σ = set_on (touched locks w (view σ)) (λ (h : ℕ). get_or flow h 0)
 
 -- those of statement s
-abbrev pub field_own : Bool → Bool → List ℕ → Table → ℕ → ℕ
-field_own locks w flow t s = own_set locks w flow (statement t s)
+abbrev pub own_at : Bool → Bool → List ℕ → Table → ℕ → ℕ
+own_at locks w flow t s = own_set locks w flow (statement t s)
 
 -- the union of these over the statements of routine r
 unfoldable pub in_routine : Bool → Bool → List ℕ → Table → ℕ → ℕ
-in_routine locks w flow t r = union_from (routine t r).first (routine t r).count (field_own locks w flow t)
+in_routine locks w flow t r = union_from (routine t r).first (routine t r).count (own_at locks w flow t)
 
 -- the effect of statement s
 unfoldable pub effect_at : Bool → List ℕ → List ℕ → Table → ℕ → ℕ
