@@ -9,8 +9,9 @@ ghost use Rattle.report.specs.Layout.{one_each};
 ghost use Rattle.report.specs.FlowPasses.{flow_passes};
 ghost use Rattle.flow_vectors.specs.Passes.{passes_in};
 
-use std::rt::Files;
-use std::{env, io};
+use std::env::FillError;
+use std::io;
+use std::rt::{Env, Files};
 use table::Verdict;
 
 // How many passes the flow sets of an accepted table take.
@@ -53,12 +54,13 @@ fn passes_for(text: &[u8]) -> usize
 }
 
 // Prints the line of a text: its name, a space, how many passes it takes, and a line feed.
-fn print_line(rt: &impl Print, name: &str, passes: usize) -> io::Result<()> {
-    println!(rt; "{name} {passes}")
+fn print_line(rt: &impl Print, name: &[u8], passes: usize) -> io::Result<()> {
+    rt.write_all(name)?;
+    println!(rt; " {passes}")
 }
 
 // Prints the line of one argument: of the file that it names.
-fn try_argument(rt: &(impl Files + Print + Eprint), path: &str) -> io::Result<()> {
+fn try_argument(rt: &(impl Files + Print + Eprint), path: &[u8]) -> io::Result<()> {
     let Some(mut file) = run_printer::open(rt, path)? else {
         return Ok(());
     };
@@ -68,9 +70,15 @@ fn try_argument(rt: &(impl Files + Print + Eprint), path: &str) -> io::Result<()
     print_line(rt, path, passes)
 }
 
+// A name that is longer than the buffer counts as empty.
 fn main(rt: HostRuntime) -> io::Result<()> {
-    for path in env::args(&rt)?.skip(1) {
-        try_argument(&rt, path.as_str())?;
+    let mut path = [0u8; 4096];
+    for i in 1..usize::MAX {
+        match rt.arg(i, &mut path) {
+            Ok(n) => try_argument(&rt, &path[..n])?,
+            Err(FillError::TooLong) => try_argument(&rt, b"")?,
+            Err(FillError::NotPresent) => break,
+        }
     }
     Ok(())
 }

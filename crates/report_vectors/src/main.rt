@@ -1,11 +1,12 @@
 // Prints the report of each table text that an argument names, line 50 for a refused one, one behind the other.
 #![tactic(auto)]
 
-use std::rt::Files;
-use std::{env, io};
+use std::env::FillError;
+use std::io;
+use std::rt::{Env, Files};
 
 // One argument: the report of the file that it names.
-fn try_argument(rt: &(impl Files + Print + Eprint), path: &str) -> io::Result<()> {
+fn try_argument(rt: &(impl Files + Print + Eprint), path: &[u8]) -> io::Result<()> {
     let Some(mut file) = run_printer::open(rt, path)? else {
         return Ok(());
     };
@@ -16,9 +17,15 @@ fn try_argument(rt: &(impl Files + Print + Eprint), path: &str) -> io::Result<()
     rt.write_all(&out[..bytes])
 }
 
+// A name that is longer than the buffer counts as empty.
 fn main(rt: HostRuntime) -> io::Result<()> {
-    for path in env::args(&rt)?.skip(1) {
-        try_argument(&rt, path.as_str())?;
+    let mut path = [0u8; 4096];
+    for i in 1..usize::MAX {
+        match rt.arg(i, &mut path) {
+            Ok(n) => try_argument(&rt, &path[..n])?,
+            Err(FillError::TooLong) => try_argument(&rt, b"")?,
+            Err(FillError::NotPresent) => break,
+        }
     }
     Ok(())
 }

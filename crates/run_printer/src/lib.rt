@@ -116,12 +116,23 @@ pub fn put_cells(out: &mut [u8], start: usize, cells: &[i32]) -> usize
     at
 }
 
-// Opens a file to be read; none where it cannot be opened, which is said on standard error.
-pub fn open<R: Files + Eprint>(rt: &R, path: &str) -> io::Result<Option<R::File>> {
+// Opens the file of a name that is text; none where it cannot be opened, which is said on standard error.
+fn open_text<R: Files + Eprint>(rt: &R, path: &str) -> io::Result<Option<R::File>> {
     match fs::open(rt, path) {
         Ok(file) => Ok(Some(file)),
         Err(error) => {
             eprintln!(rt; "{path}: {error}")?;
+            Ok(None)
+        }
+    }
+}
+
+// Opens a file to be read; none where it cannot be opened, which is said on standard error. A name that is not UTF-8 cannot be.
+pub fn open<R: Files + Eprint>(rt: &R, path: &[u8]) -> io::Result<Option<R::File>> {
+    match str::from_utf8(path) {
+        Ok(name) => open_text(rt, name),
+        Err(error) => {
+            eprintln!(rt; "the name of a file: {error}")?;
             Ok(None)
         }
     }
@@ -148,14 +159,7 @@ pub fn read_full<R: Read>(input: &mut R, buffer: &mut [u8]) -> io::Result<usize>
 pub fn load<R: Files + Eprint>(rt: &R, path: &[u8], buffer: &mut [u8]) -> io::Result<usize>
     ensures { ReadsAtMost result buffer.new }
 {
-    let file = match str::from_utf8(path) {
-        Ok(name) => open(rt, name)?,
-        Err(error) => {
-            eprintln!(rt; "the name of a file: {error}")?;
-            None
-        }
-    };
-    match file {
+    match open(rt, path)? {
         Some(mut file) => read_full(&mut file, buffer),
         None => Ok(0),
     }

@@ -5,8 +5,10 @@ ghost use Rattle.std.specs.Prelude.{IfSome, OnOk};
 ghost use Rattle.std.specs.Io.KnownBytes.{Appends};
 ghost use Rattle.answer.specs.Said.{said_of};
 
+use std::env::FillError;
+use std::io;
 use std::io::{Read, Write};
-use std::{env, io};
+use std::rt::Env;
 
 // Reads a text to its end, or past the longest one, and prints what is said of it.
 fn check_file<R: Read, W: Write>(file: &mut R, out: &mut W) -> io::Result<()>
@@ -19,12 +21,16 @@ fn check_file<R: Read, W: Write>(file: &mut R, out: &mut W) -> io::Result<()>
     out.write_all(&said[..bytes])
 }
 
+// A name that is longer than the buffer counts as empty.
 fn main(rt: HostRuntime) -> io::Result<()> {
     let mut out = io::writer(&rt);
-    let Some(path) = env::args(&rt)?.nth(1) else {
-        return check_file(&mut rt.reader(), &mut out);
+    let mut path = [0u8; 4096];
+    let n = match rt.arg(1, &mut path) {
+        Ok(n) => n,
+        Err(FillError::TooLong) => 0,
+        Err(FillError::NotPresent) => return check_file(&mut rt.reader(), &mut out),
     };
-    let Some(mut file) = run_printer::open(&rt, path.as_str())? else {
+    let Some(mut file) = run_printer::open(&rt, &path[..n])? else {
         return Ok(());
     };
     check_file(&mut file, &mut out)

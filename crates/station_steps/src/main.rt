@@ -2,8 +2,8 @@
 // table text, the second a file with the schedule, each byte a thread number.
 #![tactic(auto)]
 
+use std::io;
 use std::rt::{Env, Files};
-use std::{env, io};
 
 // One step: its thread and its answer.
 fn print_step(rt: &impl Print, thread: u8, answer: u8) -> io::Result<()> {
@@ -64,15 +64,15 @@ fn step_through(rt: &impl Print, text: &[u8], schedule: &[u8]) -> io::Result<()>
     }
 }
 
-// Opens the file that argument `i` names; none where it cannot be opened, which is said on standard error.
-fn open_argument<R: Files + Eprint + Env + Alloc>(rt: &R, i: usize) -> io::Result<Option<R::File>> {
-    let Some(path) = env::args(rt)?.nth(i) else {
-        return run_printer::open(rt, "");
-    };
-    run_printer::open(rt, path.as_str())
+// Opens the file that argument `i` names; none where it cannot be opened, which is said on standard error. A name
+// that is missing or longer than the buffer counts as empty.
+fn open_argument<R: Files + Eprint + Env>(rt: &R, i: usize) -> io::Result<Option<R::File>> {
+    let mut path = [0u8; 4096];
+    let n = rt.arg(i, &mut path).unwrap_or(0);
+    run_printer::open(rt, &path[..n])
 }
 
-fn with_table<R: Files + Print + Eprint + Env + Alloc>(rt: &R, text: &[u8]) -> io::Result<()> {
+fn with_table<R: Files + Print + Eprint + Env>(rt: &R, text: &[u8]) -> io::Result<()> {
     let Some(mut file) = open_argument(rt, 2)? else {
         return Ok(());
     };

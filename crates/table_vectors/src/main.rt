@@ -1,8 +1,9 @@
 // Reads each table text that an argument names, and prints its name and then line 50 of its refusal, or that it is accepted.
 #![tactic(auto)]
 
-use std::rt::Files;
-use std::{env, io};
+use std::env::FillError;
+use std::io;
+use std::rt::{Env, Files};
 use table::Verdict;
 
 // Prints line 50: the number and the line of a refusal.
@@ -24,8 +25,9 @@ fn print_verdict(rt: &impl Print, text: &[u8]) -> io::Result<()> {
 }
 
 // One argument: the file's name, and what is said of its text.
-fn try_argument(rt: &(impl Files + Print + Eprint), path: &str) -> io::Result<()> {
-    println!(rt; "{path}")?;
+fn try_argument(rt: &(impl Files + Print + Eprint), path: &[u8]) -> io::Result<()> {
+    rt.write_all(path)?;
+    rt.write_all(b"\n")?;
     let Some(mut file) = run_printer::open(rt, path)? else {
         return Ok(());
     };
@@ -34,9 +36,15 @@ fn try_argument(rt: &(impl Files + Print + Eprint), path: &str) -> io::Result<()
     print_verdict(rt, &text[..count])
 }
 
+// A name that is longer than the buffer counts as empty.
 fn main(rt: HostRuntime) -> io::Result<()> {
-    for path in env::args(&rt)?.skip(1) {
-        try_argument(&rt, path.as_str())?;
+    let mut path = [0u8; 4096];
+    for i in 1..usize::MAX {
+        match rt.arg(i, &mut path) {
+            Ok(n) => try_argument(&rt, &path[..n])?,
+            Err(FillError::TooLong) => try_argument(&rt, b"")?,
+            Err(FillError::NotPresent) => break,
+        }
     }
     Ok(())
 }
