@@ -10,7 +10,8 @@ use Rattle.table.specs.Table.{Table, table_of}
 use Rattle.report.specs.Layout.{one_each}
 use Rattle.report.specs.Preceded.{marked, reach_sets, preceded_sets}
 use Rattle.edges.specs.EdgeLaws.{Ready}
-use Rattle.start_edges.specs.StartEdges.{reach_for, preceding_for, reach_edges_lem, preceding_edges_lem}
+use Rattle.start_edges.specs.StartEdges.{reach_for, preceding_for}
+use Rattle.start_edges.proofs.StartEdges.{reach_edges_lem, preceding_edges_lem}
 
 module _ (f : List ℤ) where
   abbrev t : Table

@@ -1,0 +1,3 @@
+pub mod StartEdges
+pub mod StartLaws
+pub mod StartRoom

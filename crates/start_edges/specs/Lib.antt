@@ -1,3 +1,1 @@
 pub mod StartEdges
-pub mod StartLaws
-pub mod StartRoom

@@ -1,25 +1,16 @@
 -- C-13's two equations over the table's own numbers: which routines reach a START, and which statements a START can precede. With one copy of each routine
 -- these are the edges of the report's definitions, as the code goes through them. Assumes nothing.
-use Rattle.std.specs.Prelude.{ℕ, ◌+◌, ◌≡◌, refl, cond, length}
-use Rattle.std.proofs.Math.Path.{ap}
-use Rattle.std.proofs.Common.{◌∙◌}
+use Rattle.std.specs.Prelude.{ℕ, ◌+◌, cond, length}
 use mathlib.Core.List.{List, [], ◌∷◌, ◌++◌, map}
 use Rattle.sets.specs.Least.{Edge}
 use Rattle.table.specs.Table.{Table, statement}
-use Rattle.table.specs.View.{view, list_on, calls, starts}
-use Rattle.table.specs.declared.Reference.{Reference}
-use Rattle.table.specs.declared.Reference.TheVariants.{To, Nothing}
+use Rattle.table.specs.View.{view, list_on, starts}
 use Rattle.table.specs.declared.Statement.{Statement}
 use Rattle.report.specs.Over.{joined_from}
-use Rattle.report.proofs.OverLaws.{within_below}
 use Rattle.report.specs.Layout.{named, owner_of, one_each}
 use Rattle.report.specs.Operations.{nexts}
-use Rattle.report.specs.Preceded.{reach_edges, brings_start, entered, preceding_edges}
+use Rattle.report.specs.Preceded.{reach_edges, brings_start}
 use Rattle.edges.specs.Equations.{edge, call_edges}
-use Rattle.edges.specs.EdgeLaws.{joined_same}
-use Rattle.edges.specs.RoutineLaws.{copy_of}
-
--- ---- which routines hold a START, or reach one by CALLs
 
 -- those of statement s
 unfoldable pub reach_at : Table → ℕ → List Edge
@@ -28,8 +19,6 @@ reach_at t s = reach_edges (one_each t) (owner_of t s) s (statement t s)
 -- those of all statements
 unfoldable pub reach_for : Table → List Edge
 reach_for t = joined_from 0 (length t.statements) (reach_at t)
-
--- ---- which statements a START can precede
 
 -- from a place to what may follow statement s
 unfoldable pub following_edges : ℕ → ℕ → Statement → List Edge
@@ -56,33 +45,3 @@ preceding_at t reach s =
 -- those of all statements
 unfoldable pub preceding_for : Table → List ℕ → List Edge
 preceding_for t reach = joined_from 0 (length t.statements) (preceding_at t reach)
-
--- ---- they are the report's
-
--- two edges of what is referred to
-pub both_on : (r : Reference) (a b : Edge) → (list_on r (λ q. a ∷ []) ++ list_on r (λ q. b ∷ [])) ≡ list_on r (λ q. a ∷ b ∷ [])
-both_on (To n) a b = refl
-both_on Nothing a b = refl
-
-module _ (t : Table) where
-  pub reach_edges_lem : reach_for t ≡ joined_from 0 (one_each t).statements (λ p. reach_edges (one_each t) ((one_each t).statement_copy p) ((one_each t).statement_at p) (statement t ((one_each t).statement_at p)))
-  unfolding reach_for reach_at one_each
-  reach_edges_lem =
-      joined_same 0 (length t.statements) _ _
-      (λ s w. ap {B = List Edge} (λ (c : ℕ). reach_edges (one_each t) c s (statement t s)) (copy_of t s (within_below w)))
-
-  preceding_at_lem : (reach : List ℕ) (s : ℕ) → preceding_at t reach s ≡ preceding_edges (one_each t) reach s (owner_of t s) s (statement t s)
-  unfolding preceding_at following_edges entering_edges origin_of call_edges preceding_edges entered one_each
-  preceding_at_lem reach s =
-      ap {B = List Edge}
-      (λ (l : List Edge). map (λ (n : ℕ). edge (origin_of t reach s) n) (nexts s (statement t s))
-      ++ (list_on (starts (view (statement t s))) (λ q. edge (last_of t) (length t.statements + named (statement t s)) ∷ []) ++ l))
-      (both_on (calls (view (statement t s))) (edge s (length t.statements + named (statement t s)))
-      (edge (length t.statements + owner_of t s) (length t.statements + named (statement t s))))
-
-  pub preceding_edges_lem : (reach : List ℕ)
-      → preceding_for t reach ≡ joined_from 0 (one_each t).statements (λ p. preceding_edges (one_each t) reach p ((one_each t).statement_copy p) ((one_each t).statement_at p) (statement t ((one_each t).statement_at p)))
-  unfolding preceding_for one_each
-  preceding_edges_lem reach =
-      joined_same 0 (length t.statements) _ _
-      (λ s w. preceding_at_lem reach s ∙ ap {B = List Edge} (λ (c : ℕ). preceding_edges (one_each t) reach s c s (statement t s)) (copy_of t s (within_below w)))

@@ -2,7 +2,7 @@
 use mathlib.Core.Path.{refl}
 use Rattle.sets.proofs.AppendLaws.{appended_same, appended_both}
 use Rattle.edges.specs.LineLaws.{viewed}
-use Rattle.start_edges.specs.StartLaws.{following_parts}
+use Rattle.start_edges.proofs.StartLaws.{following_parts}
 use Rattle.start_edges.proofs.append_following.Goals as goal
 
 pub returns : goal.returns

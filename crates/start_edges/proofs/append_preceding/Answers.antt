@@ -1,6 +1,6 @@
 -- `start_edges::append_preceding` meets its contract. Assumes nothing.
 use Rattle.sets.proofs.AppendLaws.{appended_same, appended_both}
-use Rattle.start_edges.specs.StartLaws.{preceding_parts}
+use Rattle.start_edges.proofs.StartLaws.{preceding_parts}
 use Rattle.start_edges.proofs.append_preceding.Goals as goal
 
 pub returns : goal.returns

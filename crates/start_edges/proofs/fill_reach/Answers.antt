@@ -3,7 +3,7 @@ use native.Mathlib.Omega.{arith}
 use Rattle.edges.specs.EdgeLaws.{growing_start, growing_next}
 use Rattle.edges.specs.LineLaws.{lined}
 use Rattle.edges.specs.RoutineLaws.{near_start}
-use Rattle.start_edges.specs.StartRoom.{reach_ready}
+use Rattle.start_edges.proofs.StartRoom.{reach_ready}
 use Rattle.start_edges.proofs.fill_reach.Goals as goal
 
 pub loop-s-init : goal.loop-s-init

@@ -1,7 +1,7 @@
 -- `start_edges::origin_of` meets its contract. Assumes nothing.
 use mathlib.Core.Path.{refl}
 use Rattle.edges.specs.LineLaws.{viewed}
-use Rattle.start_edges.specs.StartLaws.{origin_start, origin_own}
+use Rattle.start_edges.proofs.StartLaws.{origin_start, origin_own}
 use Rattle.start_edges.proofs.origin_of.Goals as goal
 
 pub returns-then-brings_start : goal.returns-then-brings_start

@@ -24,8 +24,9 @@ use Rattle.report.specs.Preceded.{brings_start, reach_edges}
 use Rattle.edges.specs.Equations.{edge, call_edges}
 use Rattle.edges.specs.EdgeLaws.{Growing, growing_done, Ready, ready}
 use Rattle.edges.specs.RoomLaws.{room_edge, room_joined, room_on, room_when, named_small, owner_small, target_small}
-use Rattle.start_edges.specs.StartEdges.{both_on, reach_at, reach_for, following_edges, entering_edges, last_of, origin_of, preceding_at, preceding_for}
-use Rattle.start_edges.specs.StartLaws.{following_split}
+use Rattle.start_edges.specs.StartEdges.{reach_at, reach_for, following_edges, entering_edges, last_of, origin_of, preceding_at, preceding_for}
+use Rattle.start_edges.proofs.StartEdges.{both_on}
+use Rattle.start_edges.proofs.StartLaws.{following_split}
 
 -- a statement is no START and CALL at once
 room_either : (m : ℕ) (v : View) (a b : ℕ → List Edge) → ((q : ℕ) → Room m (a q)) → ((q : ℕ) → Room m (b q)) → Room m (list_on (starts v) a ++ list_on (calls v) b)
