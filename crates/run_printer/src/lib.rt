@@ -2,11 +2,12 @@
 // begins at `start`, and the answer is where the whole then begins; what has no room before it is lost.
 #![tactic(auto)]
 
-ghost use Rattle.std.specs.Prelude.{◌≡◌, ◌<◌, ◌≤◌, IfOk, length, take};
+ghost use Rattle.std.specs.Prelude.{◌≡◌, ◌<◌, ◌≤◌, IfOk, IfSome, length, take};
 ghost use Rattle.fields.specs.Field.{decimal_text};
 ghost use Rattle.run_printer.specs.Words.{ending, put, puts, word_text, answers_text, values_text, cell_text, cells_text};
 ghost use Rattle.std.specs.Io.{ReadsAtMost};
 ghost use Rattle.std.specs.Io.KnownBytes.{Consumes, IsAtEnd};
+ghost use Rattle.std.specs.Str.{IsUtf8};
 
 use std::io::Read;
 use std::rt::Files;
@@ -128,7 +129,9 @@ fn open_text<R: Files + Eprint>(rt: &R, path: &str) -> io::Result<Option<R::File
 }
 
 // Opens a file to be read; none where it cannot be opened, which is said on standard error. A name that is not UTF-8 cannot be.
-pub fn open<R: Files + Eprint>(rt: &R, path: &[u8]) -> io::Result<Option<R::File>> {
+pub fn open<R: Files + Eprint>(rt: &R, path: &[u8]) -> io::Result<Option<R::File>>
+    ensures { IfOk result (λ file. IfSome file (λ opened. IsUtf8 path.now)) }
+{
     match str::from_utf8(path) {
         Ok(name) => open_text(rt, name),
         Err(error) => {

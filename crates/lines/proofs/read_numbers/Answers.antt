@@ -77,8 +77,8 @@ loop-j-preserved c =
     rw (to_z-of_z {w = w32} {z = c.in-Number.z} (search rules))
     (page_field c.loop-j.invariant c.in-Number.z c.loop-j-test.true (told_number (sym c.in-Number.is ∙ c.field_in.ensures)))
 
-pub returns-then-i-lines-clause-found : goal.returns-then-i-lines-clause-found
-returns-then-i-lines-clause-found c =
+pub returns-then-i-lines : goal.returns-then-i-lines
+returns-then-i-lines c =
     let l : Left c.args.text.now c.line_count-lines.result c.lines.i c.lines-test.numbers =
     elim c.lines-test.branch [
       | else-lines-test w ↦ rw w.numbers-is (page_done c.lines.invariant w.lines-test.false)
@@ -87,10 +87,11 @@ returns-then-i-lines-clause-found c =
       | then-lines-test+else-loop-j-test+then-text-i-ne10 w ↦
           rw w.numbers-is (page_bad_feed w.loop-j.invariant w.loop-j-test.false w.if-text-i-ne10.true)
     ] in
-    (answer_bad _ _ c.lines-test.numbers (l.bad c.if-i-lines.true)).0
+    let told = answer_bad _ _ c.lines-test.numbers (l.bad c.if-i-lines.true) in
+    record { found = told.0; numbers = told.1 }
 
-pub returns-then-i-lines-clause-numbers : goal.returns-then-i-lines-clause-numbers
-returns-then-i-lines-clause-numbers c =
+pub returns : goal.returns
+returns c =
     let l : Left c.args.text.now c.line_count-lines.result c.lines.i c.lines-test.numbers =
     elim c.lines-test.branch [
       | else-lines-test w ↦ rw w.numbers-is (page_done c.lines.invariant w.lines-test.false)
@@ -99,28 +100,5 @@ returns-then-i-lines-clause-numbers c =
       | then-lines-test+else-loop-j-test+then-text-i-ne10 w ↦
           rw w.numbers-is (page_bad_feed w.loop-j.invariant w.loop-j-test.false w.if-text-i-ne10.true)
     ] in
-    (answer_bad _ _ _ (l.bad c.if-i-lines.true)).1
-
-pub returns-clause-found : goal.returns-clause-found
-returns-clause-found c =
-    let l : Left c.args.text.now c.line_count-lines.result c.lines.i c.lines-test.numbers =
-    elim c.lines-test.branch [
-      | else-lines-test w ↦ rw w.numbers-is (page_done c.lines.invariant w.lines-test.false)
-      | then-lines-test+then-loop-j-test+in_default w ↦
-          rw w.numbers-is (page_bad_field w.loop-j.invariant w.loop-j-test.true (told_no_field (sym w.in_default.is ∙ w.field_in.ensures)))
-      | then-lines-test+else-loop-j-test+then-text-i-ne10 w ↦
-          rw w.numbers-is (page_bad_feed w.loop-j.invariant w.loop-j-test.false w.if-text-i-ne10.true)
-    ] in
-    (answer_good _ c.lines-test.numbers (l.good c.if-i-lines.false)).0
-
-pub returns-clause-numbers : goal.returns-clause-numbers
-returns-clause-numbers c =
-    let l : Left c.args.text.now c.line_count-lines.result c.lines.i c.lines-test.numbers =
-    elim c.lines-test.branch [
-      | else-lines-test w ↦ rw w.numbers-is (page_done c.lines.invariant w.lines-test.false)
-      | then-lines-test+then-loop-j-test+in_default w ↦
-          rw w.numbers-is (page_bad_field w.loop-j.invariant w.loop-j-test.true (told_no_field (sym w.in_default.is ∙ w.field_in.ensures)))
-      | then-lines-test+else-loop-j-test+then-text-i-ne10 w ↦
-          rw w.numbers-is (page_bad_feed w.loop-j.invariant w.loop-j-test.false w.if-text-i-ne10.true)
-    ] in
-    (answer_good _ _ (l.good c.if-i-lines.false)).1
+    let told = answer_good _ c.lines-test.numbers (l.good c.if-i-lines.false) in
+    record { found = told.0; numbers = told.1 }
