@@ -1,14 +1,15 @@
 -- "The program `check` reads the text .. and prints the report. On refusal it prints one line: 50, number, line, five zeros": the bytes, for every
 -- text and buffer. Assumes nothing.
-use Rattle.std.specs.Prelude.{ℕ, cond, List, eqb}
+use Rattle.std.specs.Prelude.{ℕ, List, Ok, Err}
 use Rattle.report.specs.Report.{report_text}
 use Rattle.refusal.specs.Refusal.{refusal_in}
-use Rattle.analysis.specs.declared.Answer.{Answer}
-use Rattle.analysis.specs.Reported.{table_in, report_answer}
+use Rattle.table.specs.Refusals.{number_of, line_of}
+use Rattle.analysis.specs.Reported.{Answer, table_in, report_answer}
 
--- the report where the answer is 0, else line 50 with the answer's number and line; nothing where there is no room for line 50
+-- the report, or line 50 with the number and the line of the refusal; nothing where there is no room for line 50
 abbrev pub said_by : Answer → List ℕ → ℕ → List ℕ
-said_by a report room = cond (eqb a.number 0) report (refusal_in a.number a.line room)
+said_by (Ok bytes) report room = report
+said_by (Err r) report room = refusal_in (number_of r) (line_of r) room
 
 -- what is printed for a text, by a program whose buffer has so many bytes
 unfoldable pub said_of : List ℕ → ℕ → List ℕ

@@ -11,9 +11,8 @@ pub fn print_answer(text: &[u8], out: &mut [u8]) -> usize
     ensures room { result ≤ length out.old }
     ensures buffer { out.new ≡ over (said_of text.now (length out.old)) out.old }
 {
-    let answer = analysis::report(text, out);
-    if answer.number == 0 {
-        return answer.bytes;
+    match analysis::report(text, out) {
+        Ok(bytes) => bytes,
+        Err(refusal) => refusal::print_refusal(out, refusal.number(), refusal.line()),
     }
-    refusal::print_refusal(out, answer.number, answer.line)
 }

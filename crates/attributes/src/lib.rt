@@ -6,16 +6,16 @@ ghost use Rattle.table.specs.Table.{passed, statement_in};
 ghost use Rattle.table.specs.View.{view, set_on, calls, starts, in_mode, takes_to_read};
 ghost use Rattle.table.specs.ViewLaws.{first_if, second_if, arguments_if};
 
-use table::{Arguments, Reference, View, field_of};
+use table::{Arguments, View, field_of};
 
 // A reference to the first operand in `line`, if a test holds.
-fn first_if(numbers: &[i32], line: usize, test: bool) -> Reference
+fn first_if(numbers: &[i32], line: usize, test: bool) -> Option<usize>
     ensures { result ≡ first_if numbers.now line test }
 {
     if test {
-        Reference::To(field_of(numbers, line, 2))
+        Some(field_of(numbers, line, 2))
     } else {
-        Reference::Nothing
+        None
     }
 }
 
@@ -71,7 +71,8 @@ pub fn view_at(numbers: &[i32], line: usize, writing: bool) -> View
     }
 }
 
-// The attributes one by one, for code that asks for few of them: to build the whole view takes longer than such code itself.
+// The attributes one by one, for code that asks for few of them: to build the whole view takes longer than such code itself. They differ by the operation's
+// number: a const parameter for it would leave each contract to choose its attribute by number.
 
 // Whether the statement in `line` may go on to the next one.
 pub fn onward_at(numbers: &[i32], line: usize) -> bool
@@ -82,7 +83,7 @@ pub fn onward_at(numbers: &[i32], line: usize) -> bool
 }
 
 // The statement that the one in `line` may jump to.
-pub fn target_at(numbers: &[i32], line: usize) -> Reference
+pub fn target_at(numbers: &[i32], line: usize) -> Option<usize>
     ensures { result ≡ (view (statement_in numbers.now line (field numbers.now line 1))).target }
 {
     let op = field_of(numbers, line, 1);
@@ -90,14 +91,14 @@ pub fn target_at(numbers: &[i32], line: usize) -> Reference
 }
 
 // The handle whose cell the statement in `line` reads.
-pub fn reads_at(numbers: &[i32], line: usize) -> Reference
+pub fn reads_at(numbers: &[i32], line: usize) -> Option<usize>
     ensures { result ≡ (view (statement_in numbers.now line (field numbers.now line 1))).reads }
 {
     first_if(numbers, line, field_of(numbers, line, 1) == 1)
 }
 
 // The handle whose cell the statement in `line` writes.
-pub fn writes_at(numbers: &[i32], line: usize) -> Reference
+pub fn writes_at(numbers: &[i32], line: usize) -> Option<usize>
     ensures { result ≡ (view (statement_in numbers.now line (field numbers.now line 1))).writes }
 {
     first_if(numbers, line, field_of(numbers, line, 1) == 2)
@@ -111,14 +112,14 @@ pub fn takes_to_read_at(numbers: &[i32], line: usize) -> bool
 }
 
 // The handle whose lock the statement in `line` gives up.
-pub fn gives_at(numbers: &[i32], line: usize) -> Reference
+pub fn gives_at(numbers: &[i32], line: usize) -> Option<usize>
     ensures { result ≡ (view (statement_in numbers.now line (field numbers.now line 1))).gives }
 {
     first_if(numbers, line, field_of(numbers, line, 1) == 6)
 }
 
 // The handle that the statement in `line` makes refer elsewhere.
-pub fn points_at(numbers: &[i32], line: usize) -> Reference
+pub fn points_at(numbers: &[i32], line: usize) -> Option<usize>
     ensures { result ≡ (view (statement_in numbers.now line (field numbers.now line 1))).points }
 {
     first_if(numbers, line, field_of(numbers, line, 1) == 7)
@@ -132,7 +133,7 @@ pub fn source_at(numbers: &[i32], line: usize) -> usize
 }
 
 // The routine that the statement in `line` names, by CALL or START.
-pub fn names_at(numbers: &[i32], line: usize) -> Reference
+pub fn names_at(numbers: &[i32], line: usize) -> Option<usize>
     ensures { result ≡ (view (statement_in numbers.now line (field numbers.now line 1))).names }
 {
     let op = field_of(numbers, line, 1);
@@ -148,14 +149,14 @@ pub fn arguments_at(numbers: &[i32], line: usize) -> Arguments
 }
 
 // The routine that the statement in `line` CALLs.
-pub fn calls_at(numbers: &[i32], line: usize) -> Reference
+pub fn calls_at(numbers: &[i32], line: usize) -> Option<usize>
     ensures { result ≡ calls (view (statement_in numbers.now line (field numbers.now line 1))) }
 {
     first_if(numbers, line, field_of(numbers, line, 1) == 8)
 }
 
 // The routine that the statement in `line` STARTs.
-pub fn starts_at(numbers: &[i32], line: usize) -> Reference
+pub fn starts_at(numbers: &[i32], line: usize) -> Option<usize>
     ensures { result ≡ starts (view (statement_in numbers.now line (field numbers.now line 1))) }
 {
     first_if(numbers, line, field_of(numbers, line, 1) == 9)
@@ -175,11 +176,11 @@ pub fn argument_of(arguments: Arguments, k: usize) -> usize
 }
 
 // The set of what is referred to, by its place in a list; the empty set if it is nothing.
-pub fn set_on(reference: Reference, list: &[u64]) -> u64
+pub fn set_on(reference: Option<usize>, list: &[u64]) -> u64
     ensures { result ≡ set_on reference (λ n. get_or list.now n 0) }
 {
     match reference {
-        Reference::To(n) => lists::set_at(list, n),
-        Reference::Nothing => 0,
+        Some(n) => lists::value_at(list, n, 0),
+        None => 0,
     }
 }

@@ -1,5 +1,5 @@
 -- The report's sets solve the equations: their edges and the sets that they begin with are those of the report's definitions. Assumes nothing.
-use Rattle.std.specs.Prelude.{ℕ, ◌*◌, ◌≤◌, max, ◌≡◌, Bool, ℤ, length, take}
+use Rattle.std.specs.Prelude.{ℕ, ◌≤◌, max, ◌≡◌, ℤ, length}
 use Rattle.std.proofs.Common.{arith, ◌∙◌}
 use Rattle.std.proofs.Math.Path.{refl, sym, ap, ap₂, subst}
 use Rattle.std.proofs.Math.Bool.{true, false}
@@ -7,7 +7,7 @@ use mathlib.Core.List.{List, map}
 use Rattle.sets.specs.Least.{Edge, edge_of, least, settled}
 use Rattle.round_robin.specs.RoundRobin.{pass_down, passes_made, Among}
 use Rattle.round_robin.proofs.PassLaws.{settled_down}
-use Rattle.table.specs.Header.{handles, routines, statements}
+use Rattle.table.specs.Header.{handles, routines}
 use Rattle.table.proofs.LookupLaws.{handles_length, routines_length}
 use Rattle.table.specs.Table.{Table, table_of, statement}
 use Rattle.table.specs.Accepted.{Accepted}
@@ -22,9 +22,11 @@ use Rattle.report.proofs.FlowLaws.{initials_sets}
 use Rattle.report.specs.FlowPasses.{flow_passes, HelpersFirst}
 use Rattle.report.proofs.FlowPassesLaws.{flow_among, passes_by_edges, passes_at_most_handles, three_passes_at_most}
 use Rattle.report.specs.Effect.{over_copy, up_from, naming_edges, call_edges as up_call_edges, effects, gives}
-use Rattle.edges.specs.Equations.{Equation, Flow, Effects, Gives, up_edges, edges_at, edges_for, own_set, in_routine}
-use Rattle.edges.specs.EdgeLaws.{joined_same, Appended}
-use Rattle.edges.specs.RoomLaws.{ready_for}
+use Rattle.edges.specs.Equations.{Equation, Flow, Effects, Gives, up_edges, edges_at, edges_for}
+use Rattle.initial.specs.declared.Act.{Act}
+use Rattle.initial.specs.declared.Act.TheVariants.{Reads, Writes, Gives as InitialGives}
+use Rattle.initial.specs.InitialSets.{own_set, in_routine}
+use Rattle.edges.specs.EdgeLaws.{joined_same}
 use Rattle.edges.specs.RoutineLaws.{copy_of}
 
 -- ---- the edges
@@ -49,24 +51,18 @@ module _ (t : Table) where
 
   -- ---- the sets
 
-  module _ (w : Bool) (flow : List ℕ) where
-    effect_sets : least (naming_edges t (one_each t)) (tabulate (length t.routines) (in_routine false w flow t)) ≡ effects t (one_each t) flow w
+  module _ (flow : List ℕ) where
+    read_sets : least (naming_edges t (one_each t)) (tabulate (length t.routines) (in_routine Reads flow t)) ≡ effects t (one_each t) flow false
     unfolding effects in_routine own_set over_copy accessed one_each
-    effect_sets = refl
+    read_sets = refl
 
-    given_sets : least (up_call_edges t (one_each t)) (tabulate (length t.routines) (in_routine true w flow t)) ≡ gives t (one_each t) flow
+    written_sets : least (naming_edges t (one_each t)) (tabulate (length t.routines) (in_routine Writes flow t)) ≡ effects t (one_each t) flow true
+    unfolding effects in_routine own_set over_copy accessed one_each
+    written_sets = refl
+
+    given_sets : least (up_call_edges t (one_each t)) (tabulate (length t.routines) (in_routine InitialGives flow t)) ≡ gives t (one_each t) flow
     unfolding gives in_routine own_set over_copy given one_each
     given_sets = refl
-
--- ---- what the solver leaves, by the equation's edges
-
-module _ (q : Equation) (f : List ℤ) (acc : Accepted (table_of f)) {edges edges' : List ℕ} {count : ℕ} (room : 4 * statements f ≤ length edges)
-    (filled : Appended edges 0 edges' count (edges_for q (table_of f))) where
-  pub count_there : count ≤ length edges'
-  count_there = (ready_for q f acc room filled).there
-
-  pub solved : (s : List ℕ) {out : List ℕ} → out ≡ least (map edge_of (take count edges')) s → out ≡ least (edges_for q (table_of f)) s
-  solved s p = p ∙ ap (λ (es : List Edge). least es s) (ready_for q f acc room filled).is
 
 -- ---- the report's sets are the answers
 
@@ -74,26 +70,33 @@ module _ (f : List ℤ) where
   abbrev t : Table
   t = table_of f
 
-  pub effect_answer : (w : Bool) (flow : List ℕ) {n : ℕ} → n ≡ routines f → least (edges_for Effects t) (tabulate n (in_routine false w flow t)) ≡ effects t (one_each t) flow w
-  effect_answer w flow e =
-      ap₂ (λ (es : List Edge) (k : ℕ). least es (tabulate k (in_routine false w flow t))) (up_edges_lem t) (e ∙ sym (routines_length f)) ∙ effect_sets t w flow
+  module _ (flow : List ℕ) {n : ℕ} (e : n ≡ routines f) (l : List ℕ) {out : List ℕ} where
+    -- from what each routine does itself, along an equation's edges
+    along : (q : Equation) (act : Act) {es : List Edge} → map edge_of l ≡ edges_for q t → edges_for q t ≡ es
+        → out ≡ least (map edge_of l) (tabulate n (in_routine act flow t)) → out ≡ least es (tabulate (length t.routines) (in_routine act flow t))
+    along q act is same p =
+        p ∙ ap₂ (λ (es : List Edge) (k : ℕ). least es (tabulate k (in_routine act flow t))) (is ∙ same) (e ∙ sym (routines_length f))
 
-  pub given_answer : (w : Bool) (flow : List ℕ) {n : ℕ} → n ≡ routines f → least (edges_for Gives t) (tabulate n (in_routine true w flow t)) ≡ gives t (one_each t) flow
-  given_answer w flow e =
-      ap₂ (λ (es : List Edge) (k : ℕ). least es (tabulate k (in_routine true w flow t))) (given_edges t) (e ∙ sym (routines_length f)) ∙ given_sets t w flow
+    pub reads_answer : map edge_of l ≡ edges_for Effects t → out ≡ least (map edge_of l) (tabulate n (in_routine Reads flow t)) → out ≡ effects t (one_each t) flow false
+    reads_answer is p = along Effects Reads is (up_edges_lem t) p ∙ read_sets t flow
+
+    pub writes_answer : map edge_of l ≡ edges_for Effects t → out ≡ least (map edge_of l) (tabulate n (in_routine Writes flow t)) → out ≡ effects t (one_each t) flow true
+    writes_answer is p = along Effects Writes is (up_edges_lem t) p ∙ written_sets t flow
+
+    pub given_answer : map edge_of l ≡ edges_for Gives t → out ≡ least (map edge_of l) (tabulate n (in_routine InitialGives flow t)) → out ≡ gives t (one_each t) flow
+    given_answer is p = along Gives InitialGives is (given_edges t) p ∙ given_sets t flow
 
 -- ---- flow, by passes over the statements
 
-module _ (f : List ℤ) (acc : Accepted (table_of f)) {edges edges' : List ℕ} {count : ℕ} (room : 4 * statements f ≤ length edges)
-    (filled : Appended edges 0 edges' count (edges_for Flow (table_of f))) {n : ℕ} (e : n ≡ handles f) where
-  all_flow : map edge_of (take count edges') ≡ all_flow_edges (t f) (one_each (t f))
-  all_flow = (ready_for Flow f acc room filled).is ∙ flow_edges_lem (t f)
+module _ (f : List ℤ) (acc : Accepted (table_of f)) (l : List ℕ) (is : map edge_of l ≡ edges_for Flow (table_of f)) {n : ℕ} (e : n ≡ handles f) where
+  all_flow : map edge_of l ≡ all_flow_edges (t f) (one_each (t f))
+  all_flow = is ∙ flow_edges_lem (t f)
 
   initial_flow : tabulate n (start_of (t f)) ≡ flow_initials (t f) (one_each (t f))
   unfolding flow_initials one_each
   initial_flow = ap {B = List ℕ} (λ (k : ℕ). tabulate k (start_of (t f))) (e ∙ sym (handles_length f))
 
-  pub flow_ends : Among n (map edge_of (take count edges'))
+  pub flow_ends : Among n (map edge_of l)
   flow_ends =
       subst (Among n) (sym all_flow)
       (subst (λ (k : ℕ). Among k (all_flow_edges (t f) (one_each (t f)))) (handles_length f ∙ sym e) (flow_among (t f) acc))
@@ -106,7 +109,7 @@ module _ (f : List ℤ) (acc : Accepted (table_of f)) {edges edges' : List ℕ} 
     flow_places = ap length begun ∙ length_tabulate n (start_of (t f))
 
     -- the sets that they come to
-    pub flow_answer : {out : List ℕ} → out ≡ settled (pass_down (map edge_of (take count edges'))) flow → out ≡ flow_sets (t f) (one_each (t f))
+    pub flow_answer : {out : List ℕ} → out ≡ settled (pass_down (map edge_of l)) flow → out ≡ flow_sets (t f) (one_each (t f))
     unfolding flow_sets
     flow_answer p =
         p
@@ -114,7 +117,7 @@ module _ (f : List ℤ) (acc : Accepted (table_of f)) {edges edges' : List ℕ} 
         ∙ settled_down (one_each (t f)).handles (all_flow_edges (t f) (one_each (t f))) (flow_initials (t f) (one_each (t f))) (initials_sets (t f) (one_each (t f)))
 
     -- how many are made: no more than handles, and few where helpers come first
-    pub made_answer : {r : ℕ} → r ≡ passes_made (pass_down (map edge_of (take count edges'))) flow
+    pub made_answer : {r : ℕ} → r ≡ passes_made (pass_down (map edge_of l)) flow
         → (r ≡ flow_passes (t f) (one_each (t f))) × ((r ≤ max 1 (handles f)) × (HelpersFirst (t f) → r ≤ 3))
     unfolding one_each
     made_answer {r} p =

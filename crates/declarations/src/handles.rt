@@ -1,11 +1,12 @@
 // The handle lines: their rule.
 ghost use Rattle.std.specs.Prelude.{◌≡◌, ◌<◌, ◌^◌, ◌-◌};
 ghost use Rattle.table.specs.Until.{until};
+ghost use Rattle.table.specs.Found.{below};
 ghost use Rattle.table.specs.Header.{handles};
 ghost use Rattle.table.specs.Handles.{things, handle_fields_ok, same_above, handle_order_ok, parameter_ok, handle_ok};
 
 use crate::header::is_within;
-use table::{field_of, is_unused};
+use table::{field_of, first_failing, is_unused};
 
 // How many things there are of a kind.
 fn things_of(numbers: &[i32], kind: usize) -> usize
@@ -43,19 +44,12 @@ fn same_above(numbers: &[i32], h: usize, k: usize) -> bool
     field_of(numbers, 1 + (h - k), 1) == field_of(numbers, 1 + h, 1)
 }
 
-// The number before h, or 0.
-fn previous(h: usize) -> usize
-    ensures { result ≡ h - 1 }
-{
-    if 0 < h { h - 1 } else { 0 }
-}
-
 // Whether handle `h`'s routine is not below the one before and has no more than eight handles.
 fn handle_order_ok(numbers: &[i32], h: usize) -> bool
     requires { h < 2 ^ 32 }
     ensures { result ≡ handle_order_ok numbers.now h }
 {
-    let before = previous(h);
+    let before = h.saturating_sub(1);
     (field_of(numbers, 1 + before, 1) <= field_of(numbers, 1 + h, 1)) & !same_above(numbers, h, 8)
 }
 
@@ -64,7 +58,7 @@ fn parameter_ok(numbers: &[i32], h: usize) -> bool
     requires { h < 2 ^ 32 }
     ensures { result ≡ parameter_ok numbers.now h }
 {
-    let before = previous(h);
+    let before = h.saturating_sub(1);
     (field_of(numbers, 1 + h, 3) == 1)
         | !(field_of(numbers, 1 + h, 1) == 0)
             & !(same_above(numbers, h, 1) & (field_of(numbers, 1 + before, 3) == 1))
@@ -79,17 +73,9 @@ fn handle_ok(numbers: &[i32], h: usize) -> bool
     handle_fields_ok(numbers, h) & handle_order_ok(numbers, h) & parameter_ok(numbers, h)
 }
 
-// The lowest handle that breaks refusal 6's rule, or the number of handles.
-pub fn bad_handle(numbers: &[i32]) -> usize
-    ensures { result ≡ until (handle_ok numbers.now) 0 (handles numbers.now) }
+// The lowest handle that breaks refusal 6's rule.
+pub fn bad_handle(numbers: &[i32]) -> Option<usize>
+    ensures { result ≡ below (until (handle_ok numbers.now) 0 (handles numbers.now)) (handles numbers.now) }
 {
-    let count = field_of(numbers, 0, 3);
-    let mut h = 0;
-    while h < count {
-        if !handle_ok(numbers, h) {
-            return h;
-        }
-        h += 1;
-    }
-    h
+    first_failing(0, field_of(numbers, 0, 3), |h| handle_ok(numbers, h))
 }

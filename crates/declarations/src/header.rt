@@ -1,15 +1,16 @@
 // The header's rule, and the first field of each line.
 ghost use Rattle.std.specs.Prelude.{◌≡◌, ◌-◌};
 ghost use Rattle.table.specs.Until.{until};
+ghost use Rattle.table.specs.Found.{below};
 ghost use Rattle.table.specs.Header.{within, header_ok, length_ok, leading, leading_ok};
 
-use table::{field_of, is_unused};
+use table::{field_of, first_failing, is_unused};
 
 // Whether n is from low to high.
 pub fn is_within(low: usize, high: usize, n: usize) -> bool
     ensures { result ≡ within low high n }
 {
-    (low <= n) & (n <= high)
+    (low..=high).contains(&n)
 }
 
 // Refusal 3's rule.
@@ -53,16 +54,9 @@ fn leading_ok(numbers: &[i32], line: usize) -> bool
     field_of(numbers, line, 0) == leading_of(numbers, line)
 }
 
-// The lowest later line that breaks refusal 5's rule, or the number of lines.
-pub fn bad_leading(numbers: &[i32], lines: usize) -> usize
-    ensures { result ≡ until (leading_ok numbers.now) 1 (lines - 1) }
+// The lowest later line that breaks refusal 5's rule.
+pub fn bad_leading(numbers: &[i32], lines: usize) -> Option<usize>
+    ensures { result ≡ below (until (leading_ok numbers.now) 1 (lines - 1)) lines }
 {
-    let mut line = 1;
-    while line < lines {
-        if !leading_ok(numbers, line) {
-            return line;
-        }
-        line += 1;
-    }
-    line
+    first_failing(1, lines, |line| leading_ok(numbers, line))
 }

@@ -2,6 +2,7 @@
 // Where each routine's statements and handles begin, and how many parameters it has; and the rules of the lines that say it.
 pub mod handles;
 pub mod header;
+pub mod program;
 pub mod routines;
 
 ghost use Rattle.std.specs.Prelude.{◌≡◌, ◌≤◌, ◌+◌, ◌-◌, min, eqb};
@@ -11,33 +12,22 @@ ghost use Rattle.table.specs.Header.{routines, handle_line};
 ghost use Rattle.table.specs.Routines.{sum_ok};
 ghost use Rattle.table.specs.Extents.{first_statements, first_handles, parameter_counts};
 
-use lists::number_at;
+use lists::value_at;
 use routines::count_at;
-use table::field_of;
+use table::{field_of, first_failing};
 
-// The first handle from `from` on, below `end`, whose field `j` is not `value`; `end` if there is none.
+// The first handle from `from` on, below `end`, whose field `j` is not `value`; the higher of both if there is none.
 fn skip(numbers: &[i32], j: usize, value: usize, from: usize, end: usize) -> usize
     ensures { result ≡ until (λ h. eqb (field numbers.now (handle_line h) j) value) from (end - from) }
 {
-    let mut h = from;
-    while h < end {
-        if field_of(numbers, 1 + h, j) != value {
-            return h;
-        }
-        h += 1;
-    }
-    h
+    first_failing(from, end, |h| field_of(numbers, 1 + h, j) == value).unwrap_or(from.max(end))
 }
 
 // The number of routines, 32 at most.
 fn routine_count(numbers: &[i32]) -> usize
     ensures { result ≡ min 32 (routines numbers.now) }
 {
-    let count = field_of(numbers, 0, 4);
-    if 32 < count {
-        return 32;
-    }
-    count
+    field_of(numbers, 0, 4).min(32)
 }
 
 // The first statement of each routine, behind the last routine's the number of statements dealt out, then zeros.
@@ -47,11 +37,9 @@ pub fn first_statements(numbers: &[i32]) -> [usize; 33]
     let count = routine_count(numbers);
     let mut first = [0usize; 33];
     let mut sum = 0;
-    let mut r = 0;
-    while r < count {
+    for r in 0..count {
         sum += count_at(numbers, r);
         first[r + 1] = sum;
-        r += 1;
     }
     first
 }
@@ -62,7 +50,7 @@ pub fn sum_ok(numbers: &[i32], first: &[usize]) -> bool
     requires numbers_bound { routines numbers.now ≤ 32 }
     ensures { result ≡ sum_ok numbers.now }
 {
-    number_at(first, field_of(numbers, 0, 4)) == field_of(numbers, 0, 5)
+    value_at(first, field_of(numbers, 0, 4), 0) == field_of(numbers, 0, 5)
 }
 
 // The first handle of each routine, behind the last routine's the number of handles, then zeros.
@@ -73,11 +61,9 @@ pub fn first_handles(numbers: &[i32]) -> [usize; 33]
     let count = routine_count(numbers);
     let mut from = [0usize; 33];
     let mut h = 0;
-    let mut r = 0;
-    while r < count {
+    for r in 0..count {
         h = skip(numbers, 1, r, h, handles);
         from[r + 1] = h;
-        r += 1;
     }
     from
 }
@@ -89,12 +75,10 @@ pub fn parameter_counts(numbers: &[i32], handle: &[usize]) -> [usize; 32]
 {
     let count = routine_count(numbers);
     let mut counts = [0usize; 32];
-    let mut r = 0;
-    while r < count {
-        let from = number_at(handle, r);
-        let end = skip(numbers, 3, 0, from, number_at(handle, r + 1));
+    for r in 0..count {
+        let from = value_at(handle, r, 0);
+        let end = skip(numbers, 3, 0, from, value_at(handle, r + 1, 0));
         counts[r] = end - from;
-        r += 1;
     }
     counts
 }

@@ -1,11 +1,12 @@
 // The routine lines: their rule.
 ghost use Rattle.std.specs.Prelude.{◌≡◌, ◌<◌, ◌^◌};
 ghost use Rattle.table.specs.Until.{until};
+ghost use Rattle.table.specs.Found.{below};
 ghost use Rattle.table.specs.Header.{routines};
 ghost use Rattle.table.specs.Routines.{count_of, routine_ok};
 
 use crate::header::is_within;
-use table::{field_of, is_unused};
+use table::{field_of, first_failing, is_unused};
 
 // The statement count of routine `r`.
 pub fn count_at(numbers: &[i32], r: usize) -> usize
@@ -25,17 +26,9 @@ fn routine_ok(numbers: &[i32], r: usize) -> bool
         & is_unused(numbers, 1 + field_of(numbers, 0, 3) + r, 2)
 }
 
-// The lowest routine that breaks refusal 7's rule, or the number of routines.
-pub fn bad_routine(numbers: &[i32]) -> usize
-    ensures { result ≡ until (routine_ok numbers.now) 0 (routines numbers.now) }
+// The lowest routine that breaks refusal 7's rule.
+pub fn bad_routine(numbers: &[i32]) -> Option<usize>
+    ensures { result ≡ below (until (routine_ok numbers.now) 0 (routines numbers.now)) (routines numbers.now) }
 {
-    let count = field_of(numbers, 0, 4);
-    let mut r = 0;
-    while r < count {
-        if !routine_ok(numbers, r) {
-            return r;
-        }
-        r += 1;
-    }
-    r
+    first_failing(0, field_of(numbers, 0, 4), |r| routine_ok(numbers, r))
 }

@@ -1,14 +1,11 @@
--- The dataflow equations that least sets along edges solve: the edges of each, and the sets that it begins with, over the table's own numbers.
+-- The dataflow equations that least sets along edges solve: the edges of each, over the table's own numbers.
 -- What `dataflow` promises cites the report's definitions; these are the same, as the code goes through them. Assumes nothing.
-use Rattle.std.specs.Prelude.{ℕ, ◌+◌, Bool, true, false, cond, List, [], ◌∷◌, ◌++◌, map, ltb, length, get_or}
-use Rattle.sets.specs.Set.{union}
+use Rattle.std.specs.Prelude.{ℕ, ◌+◌, Bool, true, false, cond, List, [], ◌∷◌, ◌++◌, map, length}
 use Rattle.sets.specs.Least.{Edge, plain}
-use Rattle.table.specs.Table.{Table, routine, statement}
-use Rattle.table.specs.View.{view, set_on, list_on, calls, accesses}
-use Rattle.table.specs.declared.Reference.{Reference}
-use Rattle.table.specs.declared.View.{View}
+use Rattle.table.specs.Table.{Table, statement}
+use Rattle.table.specs.View.{view, list_on, calls}
 use Rattle.table.specs.declared.Statement.{Statement}
-use Rattle.report.specs.Over.{joined_from, union_from, union_at}
+use Rattle.report.specs.Over.{joined_from}
 use Rattle.report.specs.Layout.{named, owner_of, one_each}
 use Rattle.report.specs.Operations.{nexts}
 use Rattle.report.specs.Flow.{flow_edges}
@@ -47,42 +44,6 @@ edges_at Nexts t s = next_edges s (statement t s)
 edges_at Callers t s =
     call_edges (length t.statements) s (statement t s) ++ call_edges (length t.statements) (length t.statements + owner_of t s) (statement t s)
 
--- up CALLs and STARTs, or up CALLs only
-abbrev pub upwards : Bool → Equation
-upwards true = Effects
-upwards false = Gives
-
 -- those of all statements
 unfoldable pub edges_for : Equation → Table → List Edge
 edges_for q t = joined_from 0 (length t.statements) (edges_at q t)
-
--- ---- initial sets
-
--- the handle through which a statement gives up a lock, or reads or writes a cell
-abbrev pub touched : Bool → Bool → View → Reference
-touched locks w v = cond locks v.gives (accesses w v)
-
--- the locks that a statement itself may give up, or the cells that it reads or writes
-unfoldable pub own_set : Bool → Bool → List ℕ → Statement → ℕ
-own_set locks w flow σ = set_on (touched locks w (view σ)) (λ (h : ℕ). get_or flow h 0)
-
--- those of statement s
-abbrev pub own_at : Bool → Bool → List ℕ → Table → ℕ → ℕ
-own_at locks w flow t s = own_set locks w flow (statement t s)
-
--- the union of these over the statements of routine r
-unfoldable pub in_routine : Bool → Bool → List ℕ → Table → ℕ → ℕ
-in_routine locks w flow t r = union_from (routine t r).first (routine t r).count (own_at locks w flow t)
-
--- the effect of statement s
-unfoldable pub effect_at : Bool → List ℕ → List ℕ → Table → ℕ → ℕ
-effect_at w flow effect t s =
-    union (own_set false w flow (statement t s)) (set_on (view (statement t s)).names (λ q. get_or effect (named (statement t s)) 0))
-
--- the effects of the statements that may come after statement s
-unfoldable pub nexts_effect : Bool → List ℕ → List ℕ → Table → ℕ → ℕ
-nexts_effect w flow effect t s = union_at (nexts s (statement t s)) (effect_at w flow effect t)
-
--- what the future at place p begins with: nothing behind the last statement
-unfoldable pub future_initial : Bool → List ℕ → List ℕ → Table → ℕ → ℕ
-future_initial w flow effect t p = cond (ltb p (length t.statements)) (nexts_effect w flow effect t p) 0

@@ -3,3 +3,4 @@ pub mod EdgeLaws
 pub mod RoomLaws
 pub mod LineLaws
 pub mod RoutineLaws
+pub mod Grown

@@ -1,10 +1,10 @@
 -- A list of four places a statement has room for the edges of every equation: at most four a statement, and every number small. Assumes nothing.
-use Rattle.std.specs.Prelude.{ℕ, zero, suc, ◌+◌, ◌*◌, ◌≤◌, ◌<◌, ◌≡◌, refl, Bool, cond, ◌⊎◌, ℤ, get_or}
-use Rattle.std.proofs.Common.{sym, subst, inl, inr, mul-suc, arith, length-append}
+use Rattle.std.specs.Prelude.{ℕ, zero, suc, ◌+◌, ◌*◌, ◌≤◌, ◌<◌, ◌≡◌, refl, Bool, cond, ◌⊎◌, ℤ, get_or, take, map, Option, Some, None}
+use Rattle.std.proofs.Common.{sym, ap, ◌∙◌, subst, inl, inr, mul-suc, arith, length-append}
 use Rattle.std.proofs.Math.Bool.{true, false, not}
 use mathlib.Core.List.{List, [], ◌∷◌, ◌++◌, Memᴰ}
 use Rattle.std.proofs.Math.ListN.{length}
-use Rattle.sets.specs.Least.{Edge}
+use Rattle.sets.specs.Least.{Edge, edge_of}
 use Rattle.sets.proofs.AppendLaws.{Room, room_none, room_one, room_both, room_more}
 use Rattle.table.specs.Header.{statements}
 use Rattle.table.specs.Table.{Table, table_of, routine, statement, passed, InRoutine}
@@ -15,15 +15,14 @@ use Rattle.table.specs.declared.Arguments.{Arguments}
 use Rattle.table.specs.declared.Statement.{Statement}
 use Rattle.table.specs.View.{view, list_on, when, calls}
 use Rattle.table.proofs.ViewLaws.{on_or_lem, points_or_names}
-use Rattle.table.specs.declared.Reference.{Reference}
-use Rattle.table.specs.declared.Reference.TheVariants.{To, Nothing}
 use Rattle.report.specs.Over.{joined_from}
 use Rattle.report.proofs.OverLaws.{Within, joined_from_lem, within_below}
 use Rattle.report.specs.Layout.{named, is_in, owner_of, one_each}
 use Rattle.report.proofs.OneEach.{statement_below}
 use Rattle.report.specs.Flow.{passing, flow_edges}
 use Rattle.edges.specs.Equations.{Equation, Flow, Effects, Gives, Nexts, Callers, edge, up_edges, next_edges, call_edges, edges_at, edges_for}
-use Rattle.edges.specs.EdgeLaws.{Appended, Ready, ready, Parts, parts}
+use Rattle.edges.specs.declared.list.EdgeList.{EdgeList}
+use Rattle.edges.specs.Grown.{Grown, edges_in, filled, Halves, parts}
 use Rattle.edges.specs.LineLaws.{next_parts}
 
 pub room_edge : (m f t : ℕ) → f < 65536 → t < 65536 → Room (m + 1) (edge f t ∷ [])
@@ -44,7 +43,7 @@ room_joined m from n f h = record {
   small = λ e i. let r : (j : ℕ) × Within from n j × Memᴰ e (f j) = joined_from_lem from n f e i in (h r.0 r.1).small e r.2;
 }
 
-pub room_on : {m : ℕ} (r : Reference) (f : ℕ → List Edge) → ((n : ℕ) → r ≡ To n → Room m (f n)) → Room m (list_on r f)
+pub room_on : {m : ℕ} (r : Option ℕ) (f : ℕ → List Edge) → ((n : ℕ) → r ≡ Some n → Room m (f n)) → Room m (list_on r f)
 room_on {m} r f h = on_or_lem (Room m) r f [] h room_none
 
 pub room_when : {m : ℕ} (b : Bool) (l : List Edge) → Room m l → Room m (when b l)
@@ -79,13 +78,13 @@ module _ (t : Table) (acc : Accepted t) where
   unfolding flow_edges one_each passing
   room_flow r s σ o = go (points_or_names σ)
     where
-      points : Reference → List Edge
+      points : Option ℕ → List Edge
       points r = list_on r (λ h. edge (view σ).source h ∷ [])
 
-      named_edges : Reference → List Edge
+      named_edges : Option ℕ → List Edge
       named_edges r = list_on r (λ q. passing t (one_each t) 0 0 q (view σ).arguments)
 
-      go : ((view σ).points ≡ Nothing) ⊎ ((view σ).names ≡ Nothing) → Room 4 (flow_edges t (one_each t) 0 s σ)
+      go : ((view σ).points ≡ None) ⊎ ((view σ).names ≡ None) → Room 4 (flow_edges t (one_each t) 0 s σ)
       go (inl e) =
           room_both {m = 0} {n = 4} (points (view σ).points) (named_edges (view σ).names) (subst (λ r. Room 0 (points r)) (sym e) room_none)
           (room_on (view σ).names _ (λ q n. room_passing r q (view σ).arguments (o.passes q n)))
@@ -167,12 +166,19 @@ module _ (t : Table) (acc : Accepted t) where
       at_callers s l o = room_callers s o.0 (omega (arith, acc.statements_most)) o.1 (statement t s) (acc.operands o.0 s o.1 o.2)
 
 -- so a list with that much room holds an equation's edges, whatever stood in it before
-pub ready_for : (q : Equation) (f : List ℤ) → Accepted (table_of f) → {edges edges' : List ℕ} {n : ℕ} → 4 * statements f ≤ length edges
-    → Appended edges 0 edges' n (edges_for q (table_of f)) → Ready edges' n (edges_for q (table_of f))
-ready_for q f acc {edges} room h = ready h (edges_room (table_of f) acc q (length edges) (omega (arith, statements_length f)))
+filled_for : (q : Equation) (f : List ℤ) → Accepted (table_of f) → {a b : EdgeList} → 4 * statements f ≤ length a.room.now → a.used ≡ 0
+    → Grown a b (edges_for q (table_of f)) → edges_in b ≡ edges_for q (table_of f)
+filled_for q f acc {a} room e g = filled e g (edges_room (table_of f) acc q (length a.room.now) (omega (arith, statements_length f)))
+
+-- as the list gives them
+pub edges_are : (q : Equation) (f : List ℤ) → Accepted (table_of f) → {a b : EdgeList} → 4 * statements f ≤ length a.room.now → a.used ≡ 0
+    → Grown a b (edges_for q (table_of f)) → {l : List ℕ} → l ≡ take b.used b.room.now → map edge_of l ≡ edges_for q (table_of f)
+edges_are q f acc room e g p = ap {B = List Edge} (λ (l : List ℕ). map edge_of l) p ∙ filled_for q f acc room e g
 
 -- and those of both stages of futures behind each other
-pub ready_stages : (f : List ℤ) → Accepted (table_of f) → {edges edges' edges'' : List ℕ} {n m : ℕ} → 4 * statements f ≤ length edges
-    → Appended edges 0 edges' n (edges_for Nexts (table_of f)) → Appended edges' n edges'' m (edges_for Callers (table_of f))
-    → Parts edges'' n m (edges_for Nexts (table_of f)) (edges_for Callers (table_of f))
-ready_stages f acc {edges} room p q = parts p q (stages_room (table_of f) acc (length edges) (omega (arith, statements_length f)))
+pub stages_are : (f : List ℤ) → Accepted (table_of f) → {a b c : EdgeList} → 4 * statements f ≤ length a.room.now → a.used ≡ 0
+    → Grown a b (edges_for Nexts (table_of f)) → Grown b c (edges_for Callers (table_of f)) → {l : List ℕ} → l ≡ take c.used c.room.now
+    → Halves b.used l (edges_for Nexts (table_of f)) (edges_for Callers (table_of f))
+stages_are f acc {a} {b} room e g h p =
+    subst (λ (l : List ℕ). Halves b.used l (edges_for Nexts (table_of f)) (edges_for Callers (table_of f))) (sym p)
+    (parts e g h (stages_room (table_of f) acc (length a.room.now) (omega (arith, statements_length f))))

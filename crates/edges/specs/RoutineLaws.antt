@@ -1,9 +1,10 @@
 -- The parts of each routine from the lists that lay them out, and the routine of each statement, going through the statements in order. Assumes nothing.
-use Rattle.std.specs.Prelude.{ℕ, ◌+◌, ◌^◌, ◌≤◌, ◌<◌, ◌≡◌, refl, Bool, true, false, ltb, ℤ, length, get_or}
+use Rattle.std.specs.Prelude.{ℕ, ◌+◌, ◌^◌, ◌≤◌, ◌<◌, ◌≡◌, refl, Bool, true, false, ltb, ℤ, length, get_or, Some}
 use Rattle.std.proofs.Common.{sym, ap₂, ◌∙◌, ltb-true, ltb-false}
 use Rattle.std.proofs.Math.Path.{ap}
 use mathlib.Core.List.{List, [], ◌∷◌, ◌++◌}
 use native.Mathlib.Omega.{arith}
+use Rattle.std.specs.Coded.{le_prop}
 use Rattle.table.specs.Header.{routines, statements}
 use Rattle.table.specs.Routines.{first_statement}
 use Rattle.table.specs.Table.{Table, table_of, routine, statement, InRoutine}
@@ -15,7 +16,6 @@ use Rattle.table.proofs.RoutineLaws.{ends_before}
 use Rattle.sets.specs.Least.{Edge}
 use Rattle.table.specs.View.{view, list_on}
 use Rattle.table.specs.declared.Arguments.{Arguments}
-use Rattle.table.specs.declared.Reference.TheVariants.{To}
 use Rattle.table.specs.declared.View.{View}
 use Rattle.table.specs.Accepted.{Accepted, RoutineFacts}
 use Rattle.report.specs.Layout.{owner_of, one_each}
@@ -30,6 +30,14 @@ pub record Near (f : List ℤ) (r s : ℕ) : Type 0 where
   pub small : r < 32
   pub low : first_statement f r ≤ s
   pub high : s ≤ first_statement f (r + 1)
+
+pub Near-prop : (f : List ℤ) (r s : ℕ) → IsProp (Near f r s)
+Near-prop f r s x y = λ i. record {
+  there = le_prop x.there y.there i;
+  small = le_prop x.small y.small i;
+  low = le_prop x.low y.low i;
+  high = le_prop x.high y.high i;
+}
 
 -- arguments go to the parameters of routine q: `count` handles from `begin` on
 pub record PassingParts (f : List ℤ) (a : Arguments) (q begin count : ℕ) : Type 0 where
@@ -84,7 +92,7 @@ module _ (f : List ℤ) (acc : Accepted (table_of f)) where
     }
 
     -- what a statement puts into what, that names routine q
-    pub flow_passing : (s : ℕ) {v : View} → v ≡ view (statement t s) → v.names ≡ To q → {begin count : ℕ} → begin ≡ get_or handle q 0 → count ≡ get_or counts q 0
+    pub flow_passing : (s : ℕ) {v : View} → v ≡ view (statement t s) → v.names ≡ Some q → {begin count : ℕ} → begin ≡ get_or handle q 0 → count ≡ get_or counts q 0
         → (list_on v.points (λ (h : ℕ). edge v.source (0 + h) ∷ []) ++ passing_from v.arguments begin count) ≡ edges_at Flow t s
     unfolding edges_at
     flow_passing s {v} is e {begin} {count} eb ec =

@@ -8,245 +8,170 @@ ghost use Rattle.table.specs.Extents.{first_statements, first_handles, parameter
 ghost use Rattle.table.specs.Accepted.{Accepted};
 ghost use Rattle.report.specs.Layout.{owner_of};
 ghost use Rattle.table.specs.View.{list_on, when};
-ghost use Rattle.edges.specs.Equations.{Flow, Nexts, Callers, upwards, edge, edges_at, up_edges, edges_for};
+ghost use Rattle.edges.specs.Equations.{Flow, Effects, Gives, Nexts, Callers, edges_at, edges_for};
 ghost use Rattle.edges.specs.EdgeLaws.{Appended};
-ghost use Rattle.edges.specs.LineLaws.{Lined, passing_from};
+ghost use Rattle.edges.specs.LineLaws.{passing_from};
 ghost use Rattle.edges.specs.RoutineLaws.{Near};
 
-use table::{Arguments, Reference};
+pub mod list;
+
+ghost use Rattle.std.specs.Prelude.{List, ℕ};
+ghost use Rattle.std.specs.Borrow.{MutBor};
+ghost use Rattle.sets.specs.Least.{Edge};
+ghost use Rattle.report.specs.Over.{joined_from};
+ghost use Rattle.edges.specs.declared.list.EdgeList.{EdgeList};
+ghost use Rattle.edges.specs.Grown.{Appends, Grown};
+
+use declarations::program::Program;
+use list::EdgeList;
+use table::Arguments;
 
 // The routine of statement `s`, where `r` is that of the statement before.
-pub fn owner_of(numbers: &[i32], first: &[usize], r: usize, s: usize) -> usize
-    requires first_value { first.now ≡ first_statements numbers.now }
-    requires accepted { Accepted (table_of numbers.now) }
-    requires s_bound { (s < statements numbers.now) × Near numbers.now r s }
-    ensures is { result ≡ owner_of (table_of numbers.now) s }
-    ensures near { Near numbers.now result (s + 1) }
+pub fn owner_of(program: &Program<'_>, r: usize, s: usize) -> usize
+    requires { (s < statements program.now) × Near program.now r s }
+    ensures is { result ≡ owner_of (table_of program.now) s }
+    ensures near { Near program.now result (s + 1) }
 {
-    if lists::number_at(first, r + 1) <= s {
+    if lists::value_at(program.first, r + 1, 0) <= s {
         return r + 1;
     }
     r
 }
 
-// Appends the edge from `f` to `t` behind the first `n`, and returns how many there are then. Where there is no room, or a number is too
-// large, nothing changes.
-fn append(edges: &mut [u32], n: usize, f: usize, t: usize) -> usize
-    ensures { Appended edges.old n edges.new result (edge f t ∷ []) }
+// Appends the edges of each statement `s` in turn, of routine `c`, as `append` does.
+pub fn append_each<F: Fn(&mut EdgeList<'_>, usize, usize)>(
+    program: &Program<'_>,
+    list: &mut EdgeList<'_>,
+    append: F,
+)
+    requires { (x : MutBor EdgeList) (s c : ℕ) → s < statements program.now → c ≡ owner_of (table_of program.now) s → F.pre append x s c }
+    ensures accepted { Accepted (table_of program.now) }
+    ensures grown { (part : ℕ → List Edge) → Appends (F.post append) program.now part → Grown list.old list.new (joined_from 0 (statements program.now) part) }
 {
-    if n < edges.len() {
-        if f < 65536 {
-            if t < 65536 {
-                edges[n] = (f * 65536 + t) as u32;
-                return n + 1;
-            }
-        }
-    }
-    n
-}
-
-// Appends the edge to `t` from what is referred to, if to anything.
-pub fn append_from(r: Reference, t: usize, edges: &mut [u32], n: usize) -> usize
-    ensures { Appended edges.old n edges.new result (list_on r (λ q. edge q t ∷ [])) }
-{
-    match r {
-        Reference::To(f) => append(edges, n, f, t),
-        Reference::Nothing => n,
-    }
-}
-
-// Appends the edge from `f` to what is referred to, if to anything, counted from `base`.
-pub fn append_to(f: usize, base: usize, r: Reference, edges: &mut [u32], n: usize) -> usize
-    requires { base < 2 ^ 32 }
-    ensures { Appended edges.old n edges.new result (list_on r (λ q. edge f (base + q) ∷ [])) }
-{
-    match r {
-        Reference::To(q) => {
-            if q < 65536 {
-                return append(edges, n, f, base + q);
-            }
-            n
-        }
-        Reference::Nothing => n,
+    let mut c = 0;
+    for s in 0..table::field_of(program.numbers, 0, 5) {
+        c = owner_of(program, c, s);
+        append(list, s, c);
     }
 }
 
 // Appends the edges from arguments to `count` parameters from `begin` on.
-fn append_passing(
-    arguments: Arguments,
-    begin: usize,
-    count: usize,
-    edges: &mut [u32],
-    n: usize,
-) -> usize
+fn append_passing(arguments: Arguments, begin: usize, count: usize, list: &mut EdgeList<'_>)
     requires { (begin < 2 ^ 32) × (count ≤ 4) }
-    ensures { Appended edges.old n edges.new result (passing_from arguments begin count) }
+    ensures { Grown list.old list.new (passing_from arguments begin count) }
 {
-    let mut m = n;
-    let mut j = 0;
-    while j < count {
-        m = append(edges, m, attributes::argument_of(arguments, j), begin + j);
-        j += 1;
+    for j in 0..count {
+        list.push(attributes::argument_of(arguments, j), begin + j);
     }
-    m
 }
 
-// Appends what statement `s` puts into what; `base` is the line of statement 0.
-fn append_flow(
-    numbers: &[i32],
-    handle: &[usize],
-    counts: &[usize],
-    base: usize,
-    s: usize,
-    edges: &mut [u32],
-    n: usize,
-) -> usize
-    requires handle_value { (handle.now ≡ first_handles numbers.now) × (counts.now ≡ parameter_counts numbers.now) }
-    requires accepted { Accepted (table_of numbers.now) }
-    requires lined { Lined numbers.now base × (s < statements numbers.now) }
-    ensures { Appended edges.old n edges.new result (edges_at Flow (table_of numbers.now) s) }
+// Appends what statement `s` puts into what.
+fn append_flow(program: &Program<'_>, s: usize, list: &mut EdgeList<'_>)
+    requires { s < statements program.now }
+    ensures { Grown list.old list.new (edges_at Flow (table_of program.now) s) }
 {
-    let line = base + s;
+    let numbers = program.numbers;
+    let line = program.line_of(s);
     let points = attributes::points_at(numbers, line);
-    let m = append_to(attributes::source_at(numbers, line), 0, points, edges, n);
-    let names = attributes::names_at(numbers, line);
-    match names {
-        Reference::To(q) => {
-            let arguments = attributes::arguments_at(numbers, line);
-            let begin = lists::number_at(handle, q);
-            append_passing(arguments, begin, lists::number_at(counts, q), edges, m)
-        }
-        Reference::Nothing => m,
+    list.push_to(attributes::source_at(numbers, line), 0, points);
+    if let Some(q) = attributes::names_at(numbers, line) {
+        let arguments = attributes::arguments_at(numbers, line);
+        let begin = lists::value_at(program.handle, q, 0);
+        append_passing(
+            arguments,
+            begin,
+            lists::value_at(program.counts, q, 0),
+            list,
+        );
     }
 }
 
-// Fills the list with the edges of flow, from the front on, and returns how many there are.
-pub fn fill_flow(numbers: &[i32], handle: &[usize], counts: &[usize], edges: &mut [u32]) -> usize
-    requires handle_value { (handle.now ≡ first_handles numbers.now) × (counts.now ≡ parameter_counts numbers.now) }
-    requires accepted { Accepted (table_of numbers.now) }
-    ensures { Appended edges.old 0 edges.new result (edges_for Flow (table_of numbers.now)) }
+// Appends the edges of flow.
+pub fn fill_flow(program: &Program<'_>, list: &mut EdgeList<'_>)
+    ensures accepted { Accepted (table_of program.now) }
+    ensures grown { Grown list.old list.new (edges_for Flow (table_of program.now)) }
 {
-    let base = table::first_line(numbers);
-    let end = table::field_of(numbers, 0, 5);
-    let mut n = 0;
-    let mut s = 0;
-    while s < end {
-        n = append_flow(numbers, handle, counts, base, s, edges, n);
-        s += 1;
-    }
-    n
+    append_each(program, list, |list, s, _c| append_flow(program, s, list));
 }
 
-// Appends the edge up a CALL, or also up a START, from the routine that statement `s` names to the routine `c` that it stands in.
-fn append_naming(
-    numbers: &[i32],
-    base: usize,
-    s: usize,
-    starts: bool,
-    c: usize,
-    edges: &mut [u32],
-    n: usize,
-) -> usize
-    requires { Lined numbers.now base × (s < statements numbers.now) }
-    ensures { Appended edges.old n edges.new result (up_edges starts c (statement (table_of numbers.now) s)) }
+// Appends the edge up a CALL or START, from the routine that statement `s` names to the routine `c` that it stands in.
+fn append_naming(program: &Program<'_>, s: usize, c: usize, list: &mut EdgeList<'_>)
+    requires { (s < statements program.now) × (c ≡ owner_of (table_of program.now) s) }
+    ensures { Grown list.old list.new (edges_at Effects (table_of program.now) s) }
 {
-    let line = base + s;
-    if starts {
-        return append_from(attributes::names_at(numbers, line), c, edges, n);
-    }
-    append_from(attributes::calls_at(numbers, line), c, edges, n)
+    list.push_from(attributes::names_at(program.numbers, program.line_of(s)), c);
 }
 
-// Fills the list with the edges up CALLs, or also up STARTs, and returns how many there are.
-pub fn fill_naming(numbers: &[i32], first: &[usize], starts: bool, edges: &mut [u32]) -> usize
-    requires first_value { first.now ≡ first_statements numbers.now }
-    requires accepted { Accepted (table_of numbers.now) }
-    ensures { Appended edges.old 0 edges.new result (edges_for (upwards starts) (table_of numbers.now)) }
+// Appends the edges up CALLs and STARTs.
+pub fn fill_naming(program: &Program<'_>, list: &mut EdgeList<'_>)
+    ensures accepted { Accepted (table_of program.now) }
+    ensures grown { Grown list.old list.new (edges_for Effects (table_of program.now)) }
 {
-    let base = table::first_line(numbers);
-    let end = table::field_of(numbers, 0, 5);
-    let mut n = 0;
-    let mut c = 0;
-    let mut s = 0;
-    while s < end {
-        c = owner_of(numbers, first, c, s);
-        n = append_naming(numbers, base, s, starts, c, edges, n);
-        s += 1;
-    }
-    n
+    append_each(
+        program,
+        list,
+        |list, s, c| append_naming(program, s, c, list),
+    );
 }
 
-// Appends the edge from `f` to `t`, if the test holds.
-pub fn append_if(test: bool, f: usize, t: usize, edges: &mut [u32], n: usize) -> usize
-    ensures { Appended edges.old n edges.new result (when test (edge f t ∷ [])) }
+// Appends the edge up a CALL, from the routine that statement `s` calls to the routine `c` that it stands in.
+fn append_calls(program: &Program<'_>, s: usize, c: usize, list: &mut EdgeList<'_>)
+    requires { (s < statements program.now) × (c ≡ owner_of (table_of program.now) s) }
+    ensures { Grown list.old list.new (edges_at Gives (table_of program.now) s) }
 {
-    if test {
-        return append(edges, n, f, t);
-    }
-    n
+    list.push_from(attributes::calls_at(program.numbers, program.line_of(s)), c);
+}
+
+// Appends the edges up CALLs.
+pub fn fill_calls(program: &Program<'_>, list: &mut EdgeList<'_>)
+    ensures accepted { Accepted (table_of program.now) }
+    ensures grown { Grown list.old list.new (edges_for Gives (table_of program.now)) }
+{
+    append_each(
+        program,
+        list,
+        |list, s, c| append_calls(program, s, c, list),
+    );
 }
 
 // Appends the edges to statement `s` from what may come next.
-fn append_nexts(numbers: &[i32], base: usize, s: usize, edges: &mut [u32], n: usize) -> usize
-    requires { Lined numbers.now base × (s < statements numbers.now) }
-    ensures { Appended edges.old n edges.new result (edges_at Nexts (table_of numbers.now) s) }
+fn append_nexts(program: &Program<'_>, s: usize, list: &mut EdgeList<'_>)
+    requires { s < statements program.now }
+    ensures { Grown list.old list.new (edges_at Nexts (table_of program.now) s) }
 {
-    let line = base + s;
-    let m = append_from(attributes::target_at(numbers, line), s, edges, n);
-    append_if(attributes::onward_at(numbers, line), s + 1, s, edges, m)
+    let line = program.line_of(s);
+    list.push_from(attributes::target_at(program.numbers, line), s);
+    list.push_if(attributes::onward_at(program.numbers, line), s + 1, s);
 }
 
-// Fills the list with the edges to each statement from what may come next, and returns how many there are.
-pub fn fill_nexts(numbers: &[i32], edges: &mut [u32]) -> usize
-    requires { Accepted (table_of numbers.now) }
-    ensures { Appended edges.old 0 edges.new result (edges_for Nexts (table_of numbers.now)) }
+// Appends the edges to each statement from what may come next.
+pub fn fill_nexts(program: &Program<'_>, list: &mut EdgeList<'_>)
+    ensures accepted { Accepted (table_of program.now) }
+    ensures grown { Grown list.old list.new (edges_for Nexts (table_of program.now)) }
 {
-    let base = table::first_line(numbers);
-    let end = table::field_of(numbers, 0, 5);
-    let mut n = 0;
-    let mut s = 0;
-    while s < end {
-        n = append_nexts(numbers, base, s, edges, n);
-        s += 1;
-    }
-    n
+    append_each(program, list, |list, s, _c| append_nexts(program, s, list));
 }
 
 // Appends the edges from statement `s`, if it is a CALL, and from the CALLs of its routine `c`, to those of the routine that it names; the places of
-// a routine's CALLs stand from `end` on, the number of statements.
-pub fn append_callers(
-    numbers: &[i32],
-    base: usize,
-    s: usize,
-    end: usize,
-    c: usize,
-    edges: &mut [u32],
-    n: usize,
-) -> usize
-    requires lined { Lined numbers.now base × (s < statements numbers.now) }
-    requires end_value { (end ≡ statements numbers.now) × (c ≡ owner_of (table_of numbers.now) s) × (c < 2 ^ 32) }
-    ensures { Appended edges.old n edges.new result (edges_at Callers (table_of numbers.now) s) }
+// a routine's CALLs stand behind the statements.
+pub fn append_callers(program: &Program<'_>, s: usize, c: usize, list: &mut EdgeList<'_>)
+    requires { (s < statements program.now) × (c ≡ owner_of (table_of program.now) s) }
+    ensures { Grown list.old list.new (edges_at Callers (table_of program.now) s) }
 {
-    let called = attributes::calls_at(numbers, base + s);
-    let m = append_to(s, end, called, edges, n);
-    append_to(end + c, end, called, edges, m)
+    let end = program.statements();
+    let called = attributes::calls_at(program.numbers, program.line_of(s));
+    list.push_to(s, end, called);
+    list.push_to(end + c, end, called);
 }
 
-// Appends behind the first `from` edges those by which futures come from the CALLs of each routine, and returns how many there are then.
-pub fn append_all_callers(numbers: &[i32], first: &[usize], edges: &mut [u32], from: usize) -> usize
-    requires first_value { first.now ≡ first_statements numbers.now }
-    requires accepted { Accepted (table_of numbers.now) }
-    ensures { Appended edges.old from edges.new result (edges_for Callers (table_of numbers.now)) }
+// Appends the edges by which futures come from the CALLs of each routine.
+pub fn fill_callers(program: &Program<'_>, list: &mut EdgeList<'_>)
+    ensures accepted { Accepted (table_of program.now) }
+    ensures grown { Grown list.old list.new (edges_for Callers (table_of program.now)) }
 {
-    let base = table::first_line(numbers);
-    let end = table::field_of(numbers, 0, 5);
-    let mut n = from;
-    let mut c = 0;
-    let mut s = 0;
-    while s < end {
-        c = owner_of(numbers, first, c, s);
-        n = append_callers(numbers, base, s, end, c, edges, n);
-        s += 1;
-    }
-    n
+    append_each(
+        program,
+        list,
+        |list, s, c| append_callers(program, s, c, list),
+    );
 }

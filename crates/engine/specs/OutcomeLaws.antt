@@ -1,5 +1,5 @@
 -- What a call answers and leaves, by what is read of its text. Assumes nothing.
-use Rattle.std.specs.Prelude.{ℕ, ◌*◌, ◌<◌, ◌≤◌, ◌≡◌, true, false, ℤ, get_or}
+use Rattle.std.specs.Prelude.{ℕ, ◌*◌, ◌<◌, ◌≤◌, ◌≡◌, true, false, ℤ, get_or, Ok, Err}
 use Rattle.std.proofs.Common.{sym, ◌∙◌, subst}
 use Rattle.std.proofs.Math.Path.{ap}
 use mathlib.Core.List.{List, ◌++◌}
@@ -8,34 +8,33 @@ use Rattle.std.proofs.Math.ListN.{length, drop, get_or-append}
 use Rattle.lines.specs.Line.{numbers_of}
 use Rattle.table.specs.Header.{statements, statement_line}
 use Rattle.table.specs.Table.{table_of, counts_of}
-use Rattle.table.specs.Verdict.{verdict}
+use Rattle.table.specs.Verdict.{Verdict, verdict}
 use Rattle.table.specs.Accepted.{Accepted}
 use Rattle.table.proofs.AcceptedLaws.{accepted}
 use Rattle.table.proofs.CheckLaws.{text_long}
-use Rattle.table.specs.declared.Verdict.{Verdict}
-use Rattle.table.specs.declared.Verdict as Declared
 use Rattle.table.specs.declared.Counts.{Counts}
 use Rattle.machine.specs.State.{State, start}
 use Rattle.machine.specs.Step.{run}
 use Rattle.machine.proofs.EngineLaws.{unlimited, engine_runs_as_machine, Answered, answers_answered, answers_long}
 use Rattle.machine.specs.Engine.{engine_run, answers}
-use Rattle.engine.specs.declared.Outcome.{Outcome}
+use Rattle.table.specs.declared.Refusal.{Refusal}
+use Rattle.table.specs.declared.Refusal.TheVariants.{Room}
 use Rattle.engine.specs.Run.{table_in, has_room, outcome_of, answers_left, cells_left}
 
 -- ---- what is read of a text
 
 pub record ReadFacts (text : List ℕ) (numbers : List ℤ) (k : Counts) : Type 0 where
-  pub verdict_is : verdict text ≡ Declared.Verdict.Accepted
+  pub verdict_is : verdict text ≡ Ok tt
   pub numbers_are : numbers ≡ numbers_of text
   pub facts : Accepted (table_of numbers)
   pub long : length numbers ≡ 8 * statement_line numbers (statements numbers)
   pub cells_are : k.cells ≡ (table_of numbers).cells
 
-pub read_facts : (text : List ℕ) (v : Verdict) (numbers : List ℤ) (k : Counts) → v ≡ verdict text → (v ≡ Declared.Verdict.Accepted → numbers ≡ numbers_of text)
-    → v ≡ Declared.Verdict.Accepted → k ≡ counts_of numbers → ReadFacts text numbers k
+pub read_facts : (text : List ℕ) (v : Verdict) (numbers : List ℤ) (k : Counts) → v ≡ verdict text → (v ≡ Ok tt → numbers ≡ numbers_of text)
+    → v ≡ Ok tt → k ≡ counts_of numbers → ReadFacts text numbers k
 unfolding counts_of table_of
 read_facts text v numbers k said filled q c =
-    let e : verdict text ≡ Declared.Verdict.Accepted = sym said ∙ q in
+    let e : verdict text ≡ Ok tt = sym said ∙ q in
     let n : numbers ≡ numbers_of text = filled q in
     record {
       verdict_is = e;
@@ -47,16 +46,16 @@ read_facts text v numbers k said filled q c =
 
 -- ---- what is left
 
-abbrev pub Left : List ℕ → List ℕ → List ℕ → List ℤ → Outcome → List ℕ → List ℤ → Type 0
+abbrev pub Left : List ℕ → List ℕ → List ℕ → List ℤ → Verdict → List ℕ → List ℤ → Type 0
 Left text schedule lent cells r lent' cells' =
     (r ≡ outcome_of text schedule lent cells) × ((lent' ≡ answers_left text schedule lent cells) × (cells' ≡ cells_left text schedule lent cells))
 
 module _ (text schedule lent : List ℕ) (cells : List ℤ) where
-  pub left_refused : (number line : ℕ) → verdict text ≡ Declared.Verdict.Refused number line → Left text schedule lent cells (record { number = number; line = line }) lent cells
+  pub left_refused : (r : Refusal) → verdict text ≡ Err r → Left text schedule lent cells (Err r) lent cells
   unfolding outcome_of answers_left cells_left
-  left_refused number line e = (rw e, (rw e, rw e))
+  left_refused r e = (rw e, (rw e, rw e))
 
-  left_short : verdict text ≡ Declared.Verdict.Accepted → has_room text schedule lent cells ≡ false → Left text schedule lent cells (record { number = 13; line = 0 }) lent cells
+  left_short : verdict text ≡ Ok tt → has_room text schedule lent cells ≡ false → Left text schedule lent cells (Err Room) lent cells
   unfolding outcome_of answers_left cells_left
   left_short e f = (rw (e, f), (rw (e, f), rw (e, f)))
 
@@ -64,16 +63,16 @@ module _ (text schedule lent : List ℕ) (cells : List ℤ) where
     count_is : k.cells ≡ (table_in text).cells
     count_is = q.cells_are ∙ ap (λ (f : List ℤ). (table_of f).cells) q.numbers_are
 
-    pub short_answers : length lent < length schedule → Left text schedule lent cells (record { number = 13; line = 0 }) lent cells
+    pub short_answers : length lent < length schedule → Left text schedule lent cells (Err Room) lent cells
     short_answers l = left_short q.verdict_is (rw (lt-leb (length schedule) (length lent) l))
 
-    pub short_cells : length schedule ≤ length lent → length cells < k.cells → Left text schedule lent cells (record { number = 13; line = 0 }) lent cells
+    pub short_cells : length schedule ≤ length lent → length cells < k.cells → Left text schedule lent cells (Err Room) lent cells
     short_cells a l = left_short q.verdict_is (rw (le-leb (length schedule) (length lent) a, lt-leb (table_in text).cells (length cells) (subst (λ (n : ℕ). length cells < n) count_is l)))
 
     pub left_run : (lent' : List ℕ) (part : List ℤ) → length schedule ≤ length lent → k.cells ≤ length cells
         → lent' ≡ answers (table_of numbers) (start (table_of numbers)) schedule ++ drop (length schedule) lent
         → part ≡ (engine_run (table_of numbers) (start (table_of numbers)) schedule).cells
-        → Left text schedule lent cells (record { number = 0; line = 0 }) lent' (part ++ drop k.cells cells)
+        → Left text schedule lent cells (Ok tt) lent' (part ++ drop k.cells cells)
     unfolding outcome_of answers_left cells_left
     left_run lent' part a b x y =
         let fit = le-leb (length schedule) (length lent) a in
@@ -89,7 +88,7 @@ module _ (text schedule lent : List ℕ) (cells : List ℤ) where
         )
 
 -- the cells that an accepted call leaves are the machine's after the schedule without the steps that are answered 18
-pub cells_of_the_machine : (text schedule lent : List ℕ) (cells : List ℤ) → verdict text ≡ Declared.Verdict.Accepted → has_room text schedule lent cells ≡ true
+pub cells_of_the_machine : (text schedule lent : List ℕ) (cells : List ℤ) → verdict text ≡ Ok tt → has_room text schedule lent cells ≡ true
     → cells_left text schedule lent cells
     ≡ (run (table_in text) (start (table_in text)) (unlimited (table_in text) (start (table_in text)) schedule)).cells ++ drop (table_in text).cells cells
 unfolding cells_left
@@ -97,7 +96,7 @@ cells_of_the_machine text schedule lent cells v f =
     rw (v, f) (ap (λ (s : State). s.cells ++ drop (table_in text).cells cells) (engine_runs_as_machine (table_in text) (start (table_in text)) schedule))
 
 -- the answers that an accepted call leaves are 0 and 14 to 18: no 19 (C-16)
-pub answered_numbers : (text schedule lent : List ℕ) (cells : List ℤ) → verdict text ≡ Declared.Verdict.Accepted → has_room text schedule lent cells ≡ true
+pub answered_numbers : (text schedule lent : List ℕ) (cells : List ℤ) → verdict text ≡ Ok tt → has_room text schedule lent cells ≡ true
     → (i : ℕ) → i < length schedule → Answered (get_or (answers_left text schedule lent cells) i 0)
 unfolding answers_left
 answered_numbers text schedule lent cells v f i l =

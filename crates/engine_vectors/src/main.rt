@@ -3,10 +3,10 @@
 // longer than needed.
 #![tactic(auto)]
 
-use engine::Outcome;
 use run_printer::load;
 use std::io;
 use std::rt::Files;
+use table::Refusal;
 
 fn say(rt: &impl Print, text: &[u8]) -> io::Result<()> {
     rt.write_all(text)
@@ -29,8 +29,11 @@ fn say_answers(rt: &impl Print, answers: &[u8]) -> io::Result<()> {
 }
 
 // The number and the line of a call.
-fn say_outcome(rt: &impl Print, outcome: Outcome) -> io::Result<()> {
-    print!(rt; "{} line {}", outcome.number, outcome.line)
+fn say_outcome(rt: &impl Print, outcome: Result<(), Refusal>) -> io::Result<()> {
+    match outcome {
+        Ok(()) => print!(rt; "0 line 0"),
+        Err(refusal) => print!(rt; "{} line {}", refusal.number(), refusal.line()),
+    }
 }
 
 // A run of the engine: its number and line, all the answers and all the cells.
@@ -48,24 +51,18 @@ fn show(
 }
 
 // The number and the line of a call and the cells that it left.
-fn say_left(rt: &impl Print, outcome: Outcome, cells: &[i32]) -> io::Result<()> {
+fn say_left(rt: &impl Print, outcome: Result<(), Refusal>, cells: &[i32]) -> io::Result<()> {
     say_outcome(rt, outcome)?;
     say_cells(rt, cells)
 }
 
 // At how many places, from the first on, two lists have the same.
 fn count_same(answers: &[u8], stored: &[u8]) -> usize {
-    let mut i = 0;
-    while i < answers.len() {
-        if stored.len() <= i {
-            return i;
-        }
-        if answers[i] != stored[i] {
-            return i;
-        }
-        i += 1;
-    }
-    i
+    answers
+        .iter()
+        .zip(stored)
+        .take_while(|(answer, right)| answer == right)
+        .count()
 }
 
 // A run of the engine: its number and line, all the cells, and at how many places the answers, with what is behind them, are as stored.
@@ -116,10 +113,8 @@ fn show_run(rt: &(impl Files + Print + Eprint), r: u8, q: u8, i: usize) -> io::R
 
 // The first runs of a request, so many.
 fn show_runs(rt: &(impl Files + Print + Eprint), r: u8, q: u8, count: usize) -> io::Result<()> {
-    let mut i = 0;
-    while i < count {
+    for i in 0..count {
         show_run(rt, r, q, i)?;
-        i += 1;
     }
     Ok(())
 }

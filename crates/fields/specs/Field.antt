@@ -1,9 +1,8 @@
 -- The number that six characters say, and the six characters of a number: a field of a line, both directions.
 -- Assumes nothing.
 use Rattle.std.specs.Prelude.{ℕ, zero, suc, ◌+◌, ◌*◌, ◌-◌, ◌/◌, ◌%◌, Bool, true, false, List, [], ◌∷◌, ◌++◌, ltb, leb, eqb, ℤ, pos, negsuc, length, take, drop, replicate}
+use Rattle.std.specs.Prelude as R
 use Rattle.std.proofs.Math.Option.{Option, none, some}
-use Rattle.fields.specs.declared.Field as F
-use Rattle.fields.specs.declared.Decimal as D
 
 -- the digits 0 to 9 are the characters 48 to 57
 abbrev pub is_digit : ℕ → Bool
@@ -73,16 +72,12 @@ justified width t = replicate (width - length t) 32 ++ t
 unfoldable pub field_text : ℤ → List ℕ
 field_text z = justified 6 (signed_text z)
 
--- the answer of a reader of digits
-abbrev pub decimal_answer : Option ℕ → D.Decimal
-decimal_answer none = D.Decimal.Bad
-decimal_answer (some n) = D.Decimal.Value n
-
--- the answer of `read_field`
-abbrev pub field_answer : Option ℤ → F.Field
-field_answer none = F.Field.Bad
-field_answer (some z) = F.Field.Number z
+-- what the definitions find, as the code answers it
+module _ {A : Type 0} where
+  abbrev pub answer : Option A → R.Option A
+  answer none = R.None
+  answer (some x) = R.Some x
 
 -- what `read_field` finds at a place: the six characters there, fewer past the end
-abbrev pub field_at : List ℕ → ℕ → F.Field
-field_at text at = field_answer (field_of (take 6 (drop at text)))
+abbrev pub field_at : List ℕ → ℕ → R.Option ℤ
+field_at text at = answer (field_of (take 6 (drop at text)))

@@ -1,20 +1,15 @@
 -- What the loops of the field reader need of its definitions: each step keeps what is left to read, and a number of six digits fits.
 -- Assumes nothing.
-use Rattle.std.specs.Prelude.{◌≡◌, refl, ℕ, zero, suc, ◌+◌, ◌*◌, ◌-◌, ◌≤◌, ◌<◌, ◌^◌, Bool, true, false, List, [], ◌∷◌, leb, eqb, ℤ, pos, negsuc, ◌-ℤ◌, neg_ℤ, length, get_or, drop}
-use Rattle.std.proofs.Common.{sym, ap, ◌∙◌, arith, one-mul, mul_assoc, mul-le-mul_right, lt_of_lt_of_le, add-one, to_z, SFits, drop_of_length-le, length-drop, drop-cons, leb-true, leb-false, eq-eqb, ne_eqb, le-leb, lt-ltb, eqb-true}
-use Rattle.std.proofs.Math.Nat.{pow-zero, one-le-pow, pow-succ', pow-le-pow_right}
+use Rattle.std.specs.Prelude.{◌≡◌, refl, ℕ, zero, suc, ◌+◌, ◌*◌, ◌-◌, ◌≤◌, ◌<◌, ◌^◌, Bool, true, false, ◌⊎◌, cond, not, ◌==◌, List, [], ◌∷◌, leb, ltb, eqb, ℤ, pos, negsuc, ◌-ℤ◌, neg_ℤ, length, get_or, take, drop}
+use Rattle.std.specs.Prelude as R
+use Rattle.std.specs.List.{position, position_or_len}
+use Rattle.std.proofs.Common.{sym, ap, ◌∙◌, inl, inr, arith, one-mul, mul_assoc, mul-le-mul_right, lt_of_lt_of_le, add-one, one-add, to_z, SFits, drop_of_length-le, length-take, length-drop, take_all, drop-cons, leb-true, leb-false, eq-eqb, ne_eqb, le-leb, lt-ltb, ltb-true, ltb-false, eqb-true}
+use Rattle.std.proofs.Math.Nat.{pow-zero, pow-succ', pow-le-pow_right}
 use Rattle.std.proofs.Math.Option.{Option, none, some}
 use Rattle.std.specs.Int.{w32}
 use Rattle.std.proofs.Math.Facts.{to_z_pos}
 use Rattle.std.proofs.lemmas.Bool.{lt-leb, eqb-false}
-use Rattle.fields.specs.Field.{is_digit, digits_from, decimal_of, signed_of, spaced_of, field_of, positive, negative, decimal_answer, field_answer}
-use Rattle.fields.specs.declared.Field as F
-use Rattle.fields.specs.declared.Decimal as D
-
--- what a loop over spaces has passed changes nothing
-pub record PastSpaces (cs : List ℕ) (r : ℕ) : Type 0 where
-  pub within : r ≤ length cs
-  pub rest : spaced_of cs ≡ signed_of (drop r cs)
+use Rattle.fields.specs.Field.{is_digit, digits_from, decimal_of, signed_of, spaced_of, field_of, positive, negative, answer}
 
 -- spaces
 
@@ -30,42 +25,20 @@ pub spaced_none : spaced_of [] ≡ signed_of []
 unfolding spaced_of signed_of
 spaced_none = refl
 
--- before place i stand spaces alone
-pub record Spaces (cs : List ℕ) (i : ℕ) : Type 0 where
-  pub within : i ≤ length cs
-  pub rest : spaced_of cs ≡ spaced_of (drop i cs)
-
-pub spaces_start : (cs : List ℕ) → Spaces cs 0
-spaces_start cs = record { within = omega arith; rest = refl }
-
-pub spaces_next : {cs : List ℕ} {i : ℕ} → Spaces cs i → i < length cs → get_or cs i 0 ≡ 32 → Spaces cs (i + 1)
-spaces_next {cs} {i} s h e = record {
-  within = omega arith;
-  rest = s.rest ∙ rw (add-one, drop-cons cs i 0 h) (spaced_space _ _ e);
-}
-
-pub spaces_stop : {cs : List ℕ} {i : ℕ} → Spaces cs i → i < length cs → (get_or cs i 0 ≡ 32 → ⊥) → PastSpaces cs i
-spaces_stop {cs} {i} s h e = record {
-  within = s.within;
-  rest = s.rest ∙ rw (drop-cons cs i 0 h) (spaced_other _ _ e);
-}
-
-pub spaces_done : {cs : List ℕ} {i : ℕ} → Spaces cs i → length cs ≤ i → PastSpaces cs i
-spaces_done {cs} {i} s h = record {
-  within = s.within;
-  rest = s.rest ∙ rw (drop_of_length-le cs h) spaced_none;
-}
-
 -- digits
 
 pub is_digit_lem : (c : ℕ) → 48 ≤ c → c ≤ 57 → is_digit c ≡ true
 is_digit_lem c h k = rw (le-leb 48 c h, is_digit) (le-leb c 57 k)
 
-pub below_digit : (c : ℕ) → c < 48 → is_digit c ≡ false
+below_digit : (c : ℕ) → c < 48 → is_digit c ≡ false
 below_digit c h = rw (lt-leb 48 c h, is_digit)
 
-pub above_digit : (c : ℕ) → 57 < c → is_digit c ≡ false
+above_digit : (c : ℕ) → 57 < c → is_digit c ≡ false
 above_digit c h = rw (le-leb 48 c (omega arith), is_digit) (lt-leb c 57 h)
+
+pub not_digit : (c : ℕ) → (c < 48) ⊎ (57 < c) → is_digit c ≡ false
+not_digit c (inl h) = below_digit c h
+not_digit c (inr h) = above_digit c h
 
 pub digit_small : (c : ℕ) → is_digit c ≡ true → c - 48 ≤ 9
 digit_small c e = go (leb 48 c) refl
@@ -94,36 +67,26 @@ unfolding digits_from
 digits_none m = refl
 
 -- the digits before place i say m
-pub record Digits (cs : List ℕ) (from i m : ℕ) : Type 0 where
-  pub size : length cs ≡ 6
-  pub within : i ≤ 6
+pub record Digits (cs : List ℕ) (i m : ℕ) : Type 0 where
+  pub size : length cs ≤ 6
   pub small : m < 10 ^ i
-  pub left : digits_from 0 (drop from cs) ≡ digits_from m (drop i cs)
+  pub left : digits_from 0 cs ≡ digits_from m (drop i cs)
 
-pub digits_start : {cs : List ℕ} (from : ℕ) → length cs ≡ 6 → from ≤ 6 → Digits cs from from 0
-digits_start from e h = record { size = e; within = h; small = one-le-pow from 10 (omega arith); left = refl }
+module _ {cs : List ℕ} {i m : ℕ} (d : Digits cs i m) where
+  pub digits_next : i < length cs → 48 ≤ get_or cs i 0 → get_or cs i 0 ≤ 57 → Digits cs (i + 1) (10 * m + (get_or cs i 0 - 48))
+  digits_next h lo hi =
+      let s : m < 10 ^ i = d.small in
+      record {
+        size = d.size;
+        small = rw (add-one, pow-succ') (omega arith);
+        left = d.left ∙ rw (add-one, drop-cons cs i 0 h) (digits_digit _ _ _ (is_digit_lem _ lo hi));
+      }
 
-pub digits_next : {cs : List ℕ} {from i m : ℕ} → Digits cs from i m → i < length cs → 48 ≤ get_or cs i 0 → get_or cs i 0 ≤ 57 → Digits cs from (i + 1) (10 * m + (get_or cs i 0 - 48))
-digits_next {cs} {from} {i} {m} d h lo hi =
-    let s : m < 10 ^ i = d.small in
-    record {
-      size = d.size;
-      within = omega (arith, d.size);
-      small = rw (add-one, pow-succ') (omega arith);
-      left = d.left ∙ rw (add-one, drop-cons cs i 0 h) (digits_digit _ _ _ (is_digit_lem _ lo hi));
-    }
+  pub digits_stop : i < length cs → is_digit (get_or cs i 0) ≡ false → digits_from 0 cs ≡ none
+  digits_stop h e = d.left ∙ rw (drop-cons cs i 0 h) (digits_other _ _ _ e)
 
-pub digits_stop : {cs : List ℕ} {from i m : ℕ} → Digits cs from i m → i < length cs → is_digit (get_or cs i 0) ≡ false → digits_from 0 (drop from cs) ≡ none
-digits_stop {cs} {from} {i} {m} d h e = d.left ∙ rw (drop-cons cs i 0 h) (digits_other _ _ _ e)
-
-pub digits_done : {cs : List ℕ} {from i m : ℕ} → Digits cs from i m → length cs ≤ i → digits_from 0 (drop from cs) ≡ some m
-digits_done {cs} {from} {i} {m} d h = d.left ∙ rw (drop_of_length-le cs h) (digits_none m)
-
--- so m has six digits at most
-pub digits_fit : {cs : List ℕ} {from i m : ℕ} → Digits cs from i m → i < length cs → m < 100000
-digits_fit {cs} {from} {i} {m} d h =
-    let k : i ≤ 5 = omega (arith, d.size) in
-    omega (arith, d.small, pow-le-pow_right {n = 10} (omega arith) k)
+  pub digits_done : length cs ≤ i → digits_from 0 cs ≡ some m
+  digits_done h = d.left ∙ rw (drop_of_length-le cs h) (digits_none m)
 
 -- one case of a definition each
 
@@ -138,6 +101,19 @@ decimal_zero c e = rw (eq-eqb c 48 e, decimal_of)
 pub decimal_leading : (c d : ℕ) (cs : List ℕ) → c ≡ 48 → decimal_of (c ∷ d ∷ cs) ≡ none
 unfolding decimal_of
 decimal_leading c d cs e = rw (eq-eqb c 48 e, decimal_of)
+
+-- nothing, a 0 alone, and a 0 that leads
+pub decimal_nil : (cs : List ℕ) → length cs ≡ 0 → decimal_of cs ≡ none
+decimal_nil [] h = decimal_empty
+decimal_nil (c ∷ cs) h = absurd (omega arith)
+
+pub decimal_lone : (c : ℕ) (rest : List ℕ) → c ≡ 48 → length rest ≡ 0 → decimal_of (c ∷ rest) ≡ some 0
+decimal_lone c [] e h = decimal_zero c e
+decimal_lone c (d ∷ rest) e h = absurd (omega arith)
+
+pub decimal_led : (c : ℕ) (rest : List ℕ) → c ≡ 48 → (length rest ≡ 0 → ⊥) → decimal_of (c ∷ rest) ≡ none
+decimal_led c [] e n = absurd (n refl)
+decimal_led c (d ∷ rest) e n = decimal_leading c d rest e
 
 pub decimal_digits : (c : ℕ) (cs : List ℕ) → (c ≡ 48 → ⊥) → decimal_of (c ∷ cs) ≡ digits_from 0 (c ∷ cs)
 unfolding decimal_of
@@ -190,40 +166,80 @@ pub decimal_below : (n : ℕ) (cs : List ℕ) → decimal_of cs ≡ some n → n
 decimal_below n [] h = let z : ◌≡◌ {A = ℕ} 0 1 = cc (decimal_empty) in absurd (omega arith)
 decimal_below n (c ∷ cs) h = decimal_below' c n cs (eqb c 48) refl h
 
-pub decimal_six : (cs : List ℕ) (k : ℕ) {n : ℕ} → length cs ≡ 6 → decimal_of (drop k cs) ≡ some n → n < 1000000
-decimal_six cs k {n} e h =
-    let l : length (drop k cs) ≤ 6 = rw (length-drop) (omega arith) in
-    omega (arith, decimal_below n (drop k cs) h, pow-le-pow_right {n = 10} (omega arith) l)
+pub decimal_six : (cs : List ℕ) {n : ℕ} → length cs ≤ 6 → decimal_of cs ≡ some n → n < 1000000
+decimal_six cs {n} l h = omega (arith, decimal_below n cs h, pow-le-pow_right {n = 10} (omega arith) l)
+
+-- what is no space
+abbrev no_space : ℕ → Bool
+no_space c = not (c == 32)
+
+-- the spaces that are passed change nothing
+spaces_passed : (cs : List ℕ) → spaced_of cs ≡ signed_of (drop (position_or_len no_space cs) cs)
+spaces_passed [] = spaced_none
+spaces_passed (c ∷ cs) = go (eqb c 32) refl (spaces_passed cs)
+  where
+    go : (b : Bool) → eqb c 32 ≡ b → spaced_of cs ≡ signed_of (drop (position_or_len no_space cs) cs) → spaced_of (c ∷ cs) ≡ signed_of (drop (position_or_len no_space (c ∷ cs)) (c ∷ cs))
+    go true e ih = spaced_space c cs (eqb-true c 32 e) ∙ ih ∙ rw (e, one-add)
+    go false e ih = spaced_other c cs (eqb-false c 32 e) ∙ rw e
+
+-- the first character that is no space: what stands before it changes nothing
+pub record PastSpaces (cs : List ℕ) (r : ℕ) : Type 0 where
+  pub within : r < length cs
+  pub rest : spaced_of cs ≡ signed_of (drop r cs)
+
+pub past_some : {cs : List ℕ} {r : ℕ} → R.Some r ≡ position (λ c. not (c == 32)) cs → PastSpaces cs r
+past_some {cs} {r} e = go (ltb (position_or_len no_space cs) (length cs)) refl
+  where
+    go : (b : Bool) → ltb (position_or_len no_space cs) (length cs) ≡ b → PastSpaces cs r
+    go true t =
+        let h : R.Some r ≡ R.Some (position_or_len no_space cs) = rw t at e in
+        let u : r ≡ position_or_len no_space cs = cc in
+        rw u (record { within = ltb-true (position_or_len no_space cs) (length cs) t; rest = spaces_passed cs })
+    go false t = let h : R.Some r ≡ R.None = rw t at e in let z : ◌≡◌ {A = ℕ} 0 1 = cc in absurd (omega arith)
+
+pub past_none : (cs : List ℕ) → R.None ≡ position (λ c. not (c == 32)) cs → spaced_of cs ≡ none
+past_none cs e = go (ltb (position_or_len no_space cs) (length cs)) refl
+  where
+    go : (b : Bool) → ltb (position_or_len no_space cs) (length cs) ≡ b → spaced_of cs ≡ none
+    go true t = let h : R.None ≡ R.Some (position_or_len no_space cs) = rw t at e in let z : ◌≡◌ {A = ℕ} 0 1 = cc in absurd (omega arith)
+    go false t = spaces_passed cs ∙ rw (drop_of_length-le cs (ltb-false _ _ t)) signed_empty
 
 -- what six characters say, by the first that is no space
 
-module _ {cs : List ℕ} {r : ℕ} (six : length cs ≡ 6) (p : PastSpaces cs r) where
-  pub field_blank : 6 ≤ r → field_of cs ≡ none
-  field_blank h = field_six cs six ∙ p.rest ∙ rw (drop_of_length-le cs {i = r} (rw six h)) signed_empty
+-- the characters from place k on, as code takes them
+abbrev rest_from : ℕ → List ℕ → List ℕ
+rest_from k cs = take (length cs - k) (drop k cs)
 
-  pub field_minus : r < 6 → get_or cs r 0 ≡ 45 → field_of cs ≡ negative (decimal_of (drop (r + 1) cs))
-  field_minus h e = field_six cs six ∙ p.rest ∙ rw (add-one, drop-cons cs r 0 (rw six h)) (signed_minus _ _ e)
+rest_from_lem : (k : ℕ) (cs : List ℕ) → rest_from k cs ≡ drop k cs
+rest_from_lem k cs = take_all (length cs - k) (drop k cs) (rw length-drop (omega arith))
 
-  pub field_plus : r < 6 → (get_or cs r 0 ≡ 45 → ⊥) → field_of cs ≡ positive (decimal_of (drop r cs))
-  field_plus h e = field_six cs six ∙ p.rest ∙ rw (drop-cons cs r 0 (rw six h)) (signed_other _ _ e)
+module _ (cs : List ℕ) {r : ℕ} (first : R.Some r ≡ position (λ c. not (c == 32)) cs) (six : length cs ≡ 6) where
+  pub field_minus : get_or cs r 0 ≡ 45 → field_of cs ≡ negative (decimal_of (rest_from (r + 1) cs))
+  field_minus e =
+      let p = past_some first in
+      field_six cs six ∙ p.rest ∙ rw (rest_from_lem, add-one, drop-cons cs r 0 p.within) (signed_minus _ _ e)
 
--- an answer tells what was read
+  pub field_plus : (get_or cs r 0 ≡ 45 → ⊥) → field_of cs ≡ positive (decimal_of (rest_from r cs))
+  field_plus e =
+      let p = past_some first in
+      field_six cs six ∙ p.rest ∙ rw (rest_from_lem, drop-cons cs r 0 p.within) (signed_other _ _ e)
 
-pub told_value : {o : Option ℕ} {m : ℕ} → D.Decimal.Value m ≡ decimal_answer o → o ≡ some m
-told_value {o = none} e = let z : ◌≡◌ {A = ℕ} 0 1 = cc in absurd (omega arith)
-told_value {o = some n} e = cc
+pub field_blank : (cs : List ℕ) → R.None ≡ position (λ c. not (c == 32)) cs → length cs ≡ 6 → field_of cs ≡ none
+field_blank cs e six = field_six cs six ∙ past_none cs e
 
-pub told_bad : {o : Option ℕ} → D.Decimal.Bad ≡ decimal_answer o → o ≡ none
-told_bad {o = none} e = refl
-told_bad {o = some n} e = let z : ◌≡◌ {A = ℕ} 0 1 = cc in absurd (omega arith)
+pub decimal_rest : (k : ℕ) (cs : List ℕ) {n : ℕ} → length cs ≡ 6 → decimal_of (rest_from k cs) ≡ some n → n < 1000000
+decimal_rest k cs six h = decimal_six (rest_from k cs) (rw (length-take, length-drop) (omega arith)) h
 
-pub told_number : {o : Option ℤ} {z : ℤ} → F.Field.Number z ≡ field_answer o → o ≡ some z
-told_number {o = none} e = let z : ◌≡◌ {A = ℕ} 0 1 = cc in absurd (omega arith)
-told_number {o = some n} e = cc
+-- an answer tells what was found
 
-pub told_no_field : {o : Option ℤ} → F.Field.Bad ≡ field_answer o → o ≡ none
-told_no_field {o = none} e = refl
-told_no_field {o = some n} e = let z : ◌≡◌ {A = ℕ} 0 1 = cc in absurd (omega arith)
+module _ {A : Type 0} where
+  pub told_some : {o : Option A} {x : A} → R.Some x ≡ answer o → o ≡ some x
+  told_some {o = none} e = let z : ◌≡◌ {A = ℕ} 0 1 = cc in absurd (omega arith)
+  told_some {o = some y} e = cc
+
+  pub told_none : {o : Option A} → R.None ≡ answer o → o ≡ none
+  told_none {o = none} e = refl
+  told_none {o = some y} e = let z : ◌≡◌ {A = ℕ} 0 1 = cc in absurd (omega arith)
 
 -- signed words
 
@@ -245,17 +261,3 @@ negative_some (suc k) n = refl
 pub negative_zero : (m : ℕ) → m ≡ 0 → negative (some m) ≡ none
 negative_zero zero e = refl
 negative_zero (suc k) e = absurd (omega arith)
-
-pub decimal_stops : (cs : List ℕ) (from : ℕ) → length cs ≡ 6 → from ≡ 6 → decimal_of (drop from cs) ≡ none
-decimal_stops cs from six e = rw (drop_of_length-le cs {i = from} (omega arith)) decimal_empty
-
-pub decimal_last : (cs : List ℕ) (from : ℕ) → length cs ≡ 6 → from ≡ 5 → get_or cs from 0 ≡ 48 → decimal_of (drop from cs) ≡ some 0
-decimal_last cs from six f e =
-    rw (drop-cons cs from 0 (omega arith), drop_of_length-le cs {i = suc from} (omega arith)) (decimal_zero _ e)
-
-pub decimal_more : (cs : List ℕ) (from : ℕ) → length cs ≡ 6 → from < 5 → get_or cs from 0 ≡ 48 → decimal_of (drop from cs) ≡ none
-decimal_more cs from six f e =
-    rw (drop-cons cs from 0 (omega arith), drop-cons cs (suc from) 0 (omega arith)) (decimal_leading _ _ _ e)
-
-pub decimal_other : (cs : List ℕ) (from : ℕ) → length cs ≡ 6 → from < 6 → (get_or cs from 0 ≡ 48 → ⊥) → decimal_of (drop from cs) ≡ digits_from 0 (drop from cs)
-decimal_other cs from six f e = rw (drop-cons cs from 0 (omega arith)) (decimal_digits _ _ e)

@@ -1,6 +1,6 @@
 -- Fields of one, two or three digits, seen without a loop: six characters, three spaces or more and digits. Assumes nothing.
 use Rattle.std.specs.Prelude.{◌≡◌, refl, ℕ, suc, ◌+◌, ◌*◌, ◌-◌, ◌/◌, ◌%◌, ◌≤◌, ◌<◌, Bool, true, false, ◌&&◌, List, [], ◌∷◌, eqb, pos, length, get_or, take, drop}
-use Rattle.std.proofs.Common.{ap, ◌∙◌, arith, drop-cons, eqb-true}
+use Rattle.std.proofs.Common.{ap, ◌∙◌, arith, Fits, w8, drop-cons, eqb-true}
 use Rattle.std.proofs.Math.Option.{Option, some}
 use Rattle.std.proofs.lemmas.Bool.{eqb-false}
 use Rattle.fields.specs.Field.{decimal_of, positive, spaced_of, field_of}
@@ -11,13 +11,20 @@ pub record Four (a b c d r : ℕ) : Type 0 where
   pub whole : r ≡ a + 256 * b + 65536 * c + 16777216 * d
   pub bytes : (a < 256) × (b < 256) × (c < 256) × (d < 256)
 
--- three digits, the first as its character less 32
-pub record Hundreds (lead e ones r : ℕ) : Type 0 where
-  pub form : r < 1000 → (16 < lead) × (lead ≤ 25) × (48 ≤ e) × (e ≤ 57) × (r ≡ 100 * (lead - 16) + 10 * (e - 48) + ones)
+-- the first four bytes from a place on
+module _ (t : List ℕ) (at : ℕ) {r : ℕ} where
+  pub four_of : r ≡ get_or t at 0 + get_or t (at + 1) 0 * 256 + get_or t (at + 2) 0 * 65536 + get_or t (at + 3) 0 * 16777216 → ((i : ℕ) → Fits w8 (get_or t i 0))
+      → Four (get_or t at 0) (get_or t (at + 1) 0) (get_or t (at + 2) 0) (get_or t (at + 3) 0) r
+  four_of e b = record { whole = omega arith; bytes = ((b at).fits, (b (at + 1)).fits, (b (at + 2)).fits, (b (at + 3)).fits) }
 
--- a number below 1,000 is the one that the characters say
-pub record Quick (cs : List ℕ) (r : ℕ) : Type 0 where
-  pub said : r < 1000 → field_of cs ≡ some (pos r)
+-- three digits, the first as its character less 32
+pub record Hundreds (lead e ones n : ℕ) : Type 0 where
+  pub form : (16 < lead) × (lead ≤ 25) × (48 ≤ e) × (e ≤ 57) × (n ≡ 100 * (lead - 16) + 10 * (e - 48) + ones)
+
+-- the number below 1,000 that the characters say
+pub record Quick (cs : List ℕ) (n : ℕ) : Type 0 where
+  pub small : n < 1000
+  pub said : field_of cs ≡ some (pos n)
 
 -- the six characters at a place say 0
 pub record ZeroField (t : List ℕ) (at : ℕ) : Type 0 where
@@ -45,14 +52,6 @@ six_at t at h =
       drop-cons t (suc (suc (suc (suc at)))) 0 (omega arith),
       drop-cons t (suc (suc (suc (suc (suc at))))) 0 (omega arith),
     )
-
-pub quick_at : (t : List ℕ) (at r : ℕ) → at + 6 ≤ length t
-    → Quick (get_or t at 0 ∷ get_or t (at + 1) 0 ∷ get_or t (at + 2) 0 ∷ get_or t (at + 3) 0 ∷ get_or t (at + 4) 0 ∷ get_or t (at + 5) 0 ∷ []) r → Quick (take 6 (drop at t)) r
-quick_at t at r h q = record { said = λ k. ap field_of (six_at t at h) ∙ q.said k }
-
--- none of the quick forms
-pub quick_none : (cs : List ℕ) → Quick cs 1000
-quick_none cs = record { said = λ h. absurd (omega arith) }
 
 -- digits behind spaces
 
@@ -89,39 +88,45 @@ four_spaces {a} {b} {c} {d} {r} w e =
 
 -- the three quick forms
 
-module _ {a b c d r : ℕ} (w : Four a b c d r) (least : 538976288 ≤ r) where
-  pub quick_one : (e f : ℕ) → r - 538976288 ≡ 0 → e ≡ 32 → 48 ≤ f → f ≤ 57 → Quick (a ∷ b ∷ c ∷ d ∷ e ∷ f ∷ []) (f - 48)
-  quick_one e f h s lo hi =
-      let u : (a ≡ 32) × (b ≡ 32) × (c ≡ 32) × (d ≡ 32) = four_spaces w (omega arith) in
-      record {
-        said = λ k. field_six _ refl
-            ∙ spaced_space a _ u.0 ∙ spaced_space b _ u.1 ∙ spaced_space c _ u.2 ∙ spaced_space d _ u.3 ∙ spaced_space e _ s
-            ∙ spaced_digit f [] lo ∙ ap positive (one_digit f lo hi);
-      }
+module _ (t : List ℕ) (at : ℕ) (room : at + 6 ≤ length t) where
+  abbrev place : ℕ → ℕ
+  place i = get_or t (at + i) 0
 
-  pub quick_two : (e f : ℕ) → r - 538976288 ≡ 0 → 48 < e → e ≤ 57 → 48 ≤ f → f ≤ 57 → Quick (a ∷ b ∷ c ∷ d ∷ e ∷ f ∷ []) (10 * (e - 48) + (f - 48))
-  quick_two e f h p q lo hi =
-      let u : (a ≡ 32) × (b ≡ 32) × (c ≡ 32) × (d ≡ 32) = four_spaces w (omega arith) in
-      record {
-        said = λ k. field_six _ refl
-            ∙ spaced_space a _ u.0 ∙ spaced_space b _ u.1 ∙ spaced_space c _ u.2 ∙ spaced_space d _ u.3
-            ∙ spaced_digit e (f ∷ []) (omega arith) ∙ ap positive (two_digits e f p q lo hi);
-      }
+  module _ {r : ℕ} (w : Four (get_or t at 0) (place 1) (place 2) (place 3) r) (lo : 48 ≤ place 5) (hi : place 5 ≤ 57) where
+    pub quick_one : r ≡ 538976288 → place 4 ≡ 32 → Quick (take 6 (drop at t)) (place 5 - 48)
+    quick_one h s =
+        let u = four_spaces w h in
+        record {
+          small = omega arith;
+          said = ap field_of (six_at t at room) ∙ field_six _ refl
+              ∙ spaced_space _ _ u.0 ∙ spaced_space _ _ u.1 ∙ spaced_space _ _ u.2 ∙ spaced_space _ _ u.3 ∙ spaced_space _ _ s
+              ∙ spaced_digit _ [] lo ∙ ap positive (one_digit _ lo hi);
+        }
 
-  pub quick_three : (e f n : ℕ) → (r - 538976288) % 16777216 ≡ 0 → 48 ≤ f → f ≤ 57 → Hundreds ((r - 538976288) / 16777216) e (f - 48) n → Quick (a ∷ b ∷ c ∷ d ∷ e ∷ f ∷ []) n
-  quick_three e f n h lo hi o = record { said = said }
-    where
-      said : n < 1000 → field_of (a ∷ b ∷ c ∷ d ∷ e ∷ f ∷ []) ≡ some (pos n)
-      said k =
-          let m = o.form k in
-          let u : (a ≡ 32) × (b ≡ 32) × (c ≡ 32) = three_spaces w (omega arith) in
-          let v : (r - 538976288) / 16777216 + 32 ≡ d = omega (arith, w.whole, u) in
-          let q : 100 * (d - 48) + 10 * (e - 48) + (f - 48) ≡ n = omega (arith, v, m.4) in
-          field_six _ refl
-          ∙ spaced_space a _ u.0 ∙ spaced_space b _ u.1 ∙ spaced_space c _ u.2
-          ∙ spaced_digit d (e ∷ f ∷ []) (omega (arith, v, m.0))
-          ∙ ap positive (three_digits d e f (omega (arith, v, m.0)) (omega (arith, v, m.1)) m.2 m.3 lo hi)
-          ∙ rw q
+    pub quick_two : r ≡ 538976288 → 48 < place 4 → place 4 ≤ 57 → Quick (take 6 (drop at t)) (10 * (place 4 - 48) + (place 5 - 48))
+    quick_two h p q =
+        let u = four_spaces w h in
+        record {
+          small = omega arith;
+          said = ap field_of (six_at t at room) ∙ field_six _ refl
+              ∙ spaced_space _ _ u.0 ∙ spaced_space _ _ u.1 ∙ spaced_space _ _ u.2 ∙ spaced_space _ _ u.3
+              ∙ spaced_digit _ (place 5 ∷ []) (omega arith) ∙ ap positive (two_digits _ _ p q lo hi);
+        }
+
+    pub quick_three : (lead n : ℕ) → (538976288 ≤ r) × (lead ≡ r - 538976288) → lead % 16777216 ≡ 0 → Hundreds (lead / 16777216) (place 4) (place 5 - 48) n → Quick (take 6 (drop at t)) n
+    quick_three lead n least h o =
+        let m = o.form in
+        let u : (get_or t at 0 ≡ 32) × (place 1 ≡ 32) × (place 2 ≡ 32) = three_spaces w (omega arith) in
+        let v : lead / 16777216 + 32 ≡ place 3 = omega (arith, w.whole, u) in
+        let q : 100 * (place 3 - 48) + 10 * (place 4 - 48) + (place 5 - 48) ≡ n = omega (arith, v, m.4) in
+        record {
+          small = omega (arith, m, v);
+          said = ap field_of (six_at t at room) ∙ field_six _ refl
+              ∙ spaced_space _ _ u.0 ∙ spaced_space _ _ u.1 ∙ spaced_space _ _ u.2
+              ∙ spaced_digit _ (place 4 ∷ place 5 ∷ []) (omega (arith, v, m.0))
+              ∙ ap positive (three_digits _ _ _ (omega (arith, v, m.0)) (omega (arith, v, m.1)) m.2 m.3 lo hi)
+              ∙ rw q;
+        }
 
 -- zeros
 
@@ -129,14 +134,19 @@ pub both : (a b : Bool) → (a && b) ≡ true → (a ≡ true) × (b ≡ true)
 both true b h = (refl, h)
 both false b h = let z : ◌≡◌ {A = ℕ} 0 1 = cc in absurd (omega arith)
 
-pub zero_field : (t : List ℕ) (at : ℕ) {r s : ℕ} → at + 6 ≤ length t → Four (get_or t at 0) (get_or t (at + 1) 0) (get_or t (at + 2) 0) (get_or t (at + 3) 0) r
-    → Four (get_or t (at + 4) 0) (get_or t (at + 5) 0) 0 0 s → (eqb r 538976288 && eqb s 12320) ≡ true → ZeroField t at
-zero_field t at {r} {s} h w v e =
-    let u : (eqb r 538976288 ≡ true) × (eqb s 12320 ≡ true) = both _ _ e in
-    let l : r ≡ 538976288 = eqb-true r 538976288 u.0 in
-    let k : s ≡ 12320 = eqb-true s 12320 u.1 in
-    let f : get_or t (at + 5) 0 ≡ 48 = omega (arith, v.whole, v.bytes, k) in
-    let g : get_or t (at + 4) 0 ≡ 32 = omega (arith, v.whole, v.bytes, k) in
-    let n : get_or t (at + 5) 0 - 48 ≡ 0 = omega (arith, f) in
-    let q : Quick _ (get_or t (at + 5) 0 - 48) = quick_one w (omega (arith, l)) (get_or t (at + 4) 0) (get_or t (at + 5) 0) (omega (arith, l)) g (omega (arith, f)) (omega (arith, f)) in
-    record { zero = ap field_of (six_at t at h) ∙ q.said (omega (arith, n)) ∙ rw n }
+-- the spaces and the 0 that the characters are held to stand as numbers, `blank` and `nought`
+pub zero_field : (t : List ℕ) (at : ℕ) {head tail blank nought : ℕ} → at + 6 ≤ length t
+    → Four (get_or t at 0) (get_or t (at + 1) 0) (get_or t (at + 2) 0) (get_or t (at + 3) 0) head
+    → tail ≡ get_or t (at + 4) 0 + get_or t (at + 5) 0 * 256 → ((i : ℕ) → Fits w8 (get_or t i 0))
+    → blank ≡ 538976288 → nought ≡ 12320 → (eqb head blank && eqb tail nought) ≡ true → ZeroField t at
+zero_field t at {head} {tail} {blank} {nought} room w two bytes b n e =
+    let u : (eqb head blank ≡ true) × (eqb tail nought ≡ true) = both _ _ e in
+    let l : head ≡ 538976288 = eqb-true head blank u.0 ∙ b in
+    let k : tail ≡ 12320 = eqb-true tail nought u.1 ∙ n in
+    let low : get_or t (at + 4) 0 < 256 = (bytes (at + 4)).fits in
+    let high : get_or t (at + 5) 0 < 256 = (bytes (at + 5)).fits in
+    let f : get_or t (at + 5) 0 ≡ 48 = omega (arith, two, k, low, high) in
+    let g : get_or t (at + 4) 0 ≡ 32 = omega (arith, two, k, low, high) in
+    let z : get_or t (at + 5) 0 - 48 ≡ 0 = omega (arith, f) in
+    let q : Quick _ (get_or t (at + 5) 0 - 48) = quick_one t at room w (omega (arith, f)) (omega (arith, f)) l g in
+    record { zero = q.said ∙ rw z }

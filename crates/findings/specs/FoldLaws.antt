@@ -1,5 +1,6 @@
 -- Loops that go from the last number to the first, and the report's unions, intersections, counts and walk as such. Assumes nothing.
-use Rattle.std.specs.Prelude.{◌≡◌, Bool}
+use Rattle.std.specs.Prelude.{◌≡◌, Bool, true, false}
+use mir.Val.{bool_byte}
 use Rattle.std.proofs.Math.Path.{refl, sym, ap, ap₂}
 use Rattle.std.proofs.Common.{◌∙◌}
 use Prim.Native.Nat.{ℕ, zero, suc, ◌+◌, ◌-◌, ◌≤◌, ◌<◌}
@@ -78,3 +79,13 @@ pub fold_walk : (own : Bool → ℕ → ℕ) (cells from n : ℕ) → fold_from 
 unfolding fold_from walk_from
 fold_walk own cells from zero = refl
 fold_walk own cells from (suc n) = ap (add_access (λ w. own w from)) (fold_walk own cells (from + 1) n)
+
+-- ---- a test as a number
+
+pub bit_is : (b : Bool) → bool_byte b ≡ bit b
+bit_is true = refl
+bit_is false = refl
+
+pub bit_most : (n : ℕ) (b : Bool) → n ≡ bool_byte b → n ≤ 1
+bit_most n true e = omega arith
+bit_most n false e = omega arith

@@ -9,6 +9,7 @@ use Rattle.std.proofs.Math.ListN.{get_or, get_or-append}
 use Rattle.sets.specs.Set.{firsts, union, inter}
 use Rattle.table.specs.Header.{cells, locks, routines, statements}
 use Rattle.table.specs.Table.{Table, table_of, statement, statement_of}
+use Rattle.table.specs.Tabulate.{tabulate}
 use Rattle.table.proofs.TabulateLaws.{tabulate_same, get_d_tabulate}
 use Rattle.table.specs.Accepted.{Accepted}
 use Rattle.table.proofs.LookupLaws.{statement_is, statements_length, routines_length, cells_is, locks_is}
@@ -31,10 +32,9 @@ use Rattle.report.proofs.OneCopy.{access_one_copy, stray_one_copy}
 use Rattle.report.proofs.FindingsLaws.{stray_own}
 use Rattle.table.specs.declared.Statement.{Statement}
 use Rattle.report.proofs.ReportLaws.{unguarded_cell}
-use Rattle.findings.specs.Steps.{own_by, accesses, held_at, common_by, walk_by, noted_by, shared_by, stray_in, unguarded_in}
+use Rattle.findings.specs.Steps.{counts_of, own_by, accesses, held_at, common_by, walk_by, noted_by, shared_by, stray_in, unguarded_in}
 use Rattle.findings.specs.FoldLaws.{fold_same, fold_union, fold_inter, fold_count, fold_walk}
-use Rattle.findings.specs.PartLaws.{three_parts, first_part, second_part, third_part}
-use Rattle.findings.specs.NoteLaws.{count_place}
+use Rattle.findings.specs.declared.Noted.{Noted}
 use Rattle.findings.specs.Found.{sets_in, counted_holds, Found}
 
 -- ---- the same at each number
@@ -56,6 +56,9 @@ walk_same cells n g h e =
 both_tests : (a b : Bool) (x y : ℕ) → cond a (cond b x y) y ≡ cond (a && b) x y
 both_tests true b x y = refl
 both_tests false b x y = refl
+
+abbrev of_counts : List ℕ → Counts → Noted
+of_counts common c = record { common = common; reads = c.reads; writes = c.writes }
 
 module _ (f : List ℤ) where
   abbrev t : Table
@@ -139,33 +142,33 @@ module _ (f : List ℤ) where
         inter_same (firsts (locks f)) (statements f) (held_at f flow counted x) (left x) (held_at_lem x)
         ∙ ap₂ (λ (s n : ℕ). inter_from s 0 n (left x)) (ap firsts (sym (locks_is f))) (sym (statements_length f))
 
-    noted_is : {noted : List ℕ} → noted ≡ noted_by f flow counted
-        → noted ≡ three_parts (common_locks t (one_each t) (sets_in t)) (access_count t (one_each t) (sets_in t) reading) (access_count t (one_each t) (sets_in t) writing)
-    unfolding noted_by cell_by_cell
-    noted_is e = e ∙ ap₂ (λ (l : List ℕ) (c : Counts). l ++ (c.reads ++ c.writes)) (tabulate_same 64 _ _ (λ x l. common_at x)) walk_is
+    noted_is : {noted : Noted} → noted ≡ noted_by f flow counted
+        → noted ≡ of_counts (tabulate 64 (common_locks t (one_each t) (sets_in t))) (cell_by_cell t (one_each t) (sets_in t) 64)
+    unfolding noted_by
+    noted_is e = e ∙ ap₂ of_counts (tabulate_same 64 _ _ (λ x l. common_at x)) walk_is
 
     -- what the walk over the statements noted is what is found
-    pub found : Accepted t → {held : List ℕ} → held ≡ own_holds t (one_each t) (sets_in t) → (shared : ℕ) (noted : List ℕ) → shared ≡ shared_cells t (one_each t) (sets_in t)
+    pub found : Accepted t → {held : List ℕ} → held ≡ own_holds t (one_each t) (sets_in t) → (shared : ℕ) (noted : Noted) → shared ≡ shared_cells t (one_each t) (sets_in t)
         → noted ≡ noted_by f flow counted → Found f flow held shared noted
+    unfolding cell_by_cell
     found acc held_is shared noted shared_is e =
         let few : cells f ≤ 64 = cells_few acc in
         record {
           flow_is = flow_is;
           held_is = held_is;
           shared_is = shared_is;
-          common_is = λ x h. ap (λ (l : List ℕ). get_or l x 0) (noted_is e) ∙ first_part _ _ _ x (omega (arith, cells_is f));
-          counts_is = λ w x h. ap (λ (l : List ℕ). get_or l (count_place w + x) 0) (noted_is e) ∙ counts w x (omega (arith, cells_is f));
+          common_is = λ x h. ap (λ (n : Noted). get_or n.common x 0) (noted_is e) ∙ get_d_tabulate 64 _ x 0 (omega (arith, cells_is f));
+          counts_is = λ w x h. ap (λ (n : Noted). get_or (counts_of w n) x 0) (noted_is e) ∙ counts w x (omega (arith, cells_is f));
         }
       where
         counts : (w : Bool) (x : ℕ) → x < 64
-            → get_or (three_parts (common_locks t (one_each t) (sets_in t)) (access_count t (one_each t) (sets_in t) reading) (access_count t (one_each t) (sets_in t) writing)) (count_place w + x) 0
-            ≡ access_count t (one_each t) (sets_in t) w x
-        counts false x l = second_part _ _ _ x l
-        counts true x l = third_part _ _ _ x l
+            → get_or (counts_of w (of_counts (tabulate 64 (common_locks t (one_each t) (sets_in t))) (cell_by_cell t (one_each t) (sets_in t) 64))) x 0 ≡ access_count t (one_each t) (sets_in t) w x
+        counts false x l = get_d_tabulate 64 _ x 0 l
+        counts true x l = get_d_tabulate 64 _ x 0 l
 
   -- ---- the totals
 
-  module _ {flow held : List ℕ} {shared : ℕ} {noted : List ℕ} (is : Found f flow held shared noted) where
+  module _ {flow held : List ℕ} {shared : ℕ} {noted : Noted} (is : Found f flow held shared noted) where
     held_own : (p : ℕ) → p < statements f → get_or held p 0 ≡ own_held t (one_each t) (sets_in t) p
     unfolding own_holds one_each
     held_own p h = ap (λ (l : List ℕ). get_or l p 0) is.held_is ∙ get_d_tabulate (length t.statements) _ p 0 (omega (arith, statements_length f))
@@ -183,9 +186,9 @@ module _ (f : List ℤ) where
         count_same (statements f) (stray_in f flow held) (is_stray t (one_each t) (sets_in t)) stray_is
         ∙ ap (λ (n : ℕ). count_from 0 n (is_stray t (one_each t) (sets_in t))) (sym (statements_length f))
 
-    pub unguarded_counted : count_from 0 (cells f) (unguarded_in shared noted) ≡ count_from 0 t.cells (unguarded_cell t (one_each t))
+    pub unguarded_counted : count_from 0 (cells f) (unguarded_in shared noted.common) ≡ count_from 0 t.cells (unguarded_cell t (one_each t))
     unfolding unguarded_in unguarded_cell
     unguarded_counted =
-        count_same (cells f) (unguarded_in shared noted) (unguarded_cell t (one_each t))
+        count_same (cells f) (unguarded_in shared noted.common) (unguarded_cell t (one_each t))
         (λ x h. ap₂ (λ (s c : ℕ). is_unguarded s c x) is.shared_is (is.common_is x (omega (arith, cells_is f))))
         ∙ ap (λ (n : ℕ). count_from 0 n (unguarded_cell t (one_each t))) (sym (cells_is f))

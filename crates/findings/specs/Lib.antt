@@ -1,6 +1,5 @@
 pub mod Steps
 pub mod FoldLaws
-pub mod PartLaws
 pub mod NoteLaws
 pub mod LineLaws
 pub mod Found

@@ -1,5 +1,5 @@
 -- Without a START no cell is shared. Assumes nothing.
-use Rattle.std.specs.Prelude.{ℕ, ◌<◌, ◌≡◌, List, ℤ, refl}
+use Rattle.std.specs.Prelude.{ℕ, ◌<◌, ◌≡◌, List, ℤ, refl, Some}
 use Rattle.std.proofs.Common.{sym, ◌∙◌, arith}
 use Rattle.std.proofs.Math.Path.{ap}
 use Rattle.std.proofs.Math.Bool.{true}
@@ -12,7 +12,6 @@ use Rattle.table.proofs.LookupLaws.{statements_length, statement_is}
 use Rattle.table.specs.Table.{Table, table_of, statement, statement_of, InRoutine}
 use Rattle.table.specs.View.{view, starts}
 use Rattle.table.proofs.ViewLaws.{set_from, set_has, starts_names}
-use Rattle.table.specs.declared.Reference.TheVariants.{To}
 use Rattle.table.specs.declared.Statement.{Statement}
 use Rattle.table.specs.Accepted.{Accepted}
 use Rattle.report.specs.Over.{union_from}
@@ -27,13 +26,13 @@ module _ (f : List ℤ) (acc : Accepted (table_of f)) where
   t = table_of f
 
   -- what a statement STARTs is among what is STARTed
-  started_has : (p q : ℕ) → p < statements f → starts (view (statement t p)) ≡ To q → has (union_from 0 (statements f) (started_by f)) q ≡ true
+  started_has : (p q : ℕ) → p < statements f → starts (view (statement t p)) ≡ Some q → has (union_from 0 (statements f) (started_by f)) q ≡ true
   unfolding started_by
   started_has p q l e =
       let o : (c : ℕ) × (c < length t.routines) × InRoutine t c p = acc.owner p (omega (arith, statements_length f)) in
       let small : q < 64 =
       omega (arith, names_there t o.0 (statement t p) q (acc.operands o.0 p o.1 o.2) (starts_names (view (statement t p)) e), acc.routines_most) in
-      let here : starts (view (statement_of f p)) ≡ To q = ap (λ (σ : Statement). starts (view σ)) (sym (statement_is f p l)) ∙ e in
+      let here : starts (view (statement_of f p)) ≡ Some q = ap (λ (σ : Statement). starts (view σ)) (sym (statement_is f p l)) ∙ e in
       union_has 0 (statements f) (started_by f) p q (below_within l)
       (set_has (starts (view (statement_of f p))) one q here (has_one q q small ∙ eq-eqb q q refl))
 

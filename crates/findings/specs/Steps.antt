@@ -1,6 +1,6 @@
 -- What each step of the findings computes, over the numbers of a table and lists of sets. FoundLaws shows that together they are the report's.
 -- Assumes nothing.
-use Rattle.std.specs.Prelude.{ℕ, zero, suc, ◌+◌, Bool, cond, ◌||◌, List, ◌++◌, ℤ, get_or}
+use Rattle.std.specs.Prelude.{ℕ, zero, suc, ◌+◌, Bool, cond, ◌||◌, List, ℤ, get_or}
 use Rattle.sets.specs.Set.{has, one, firsts}
 use Rattle.table.specs.Header.{locks, statements}
 use Rattle.table.specs.Table.{statement_of}
@@ -11,6 +11,7 @@ use Rattle.report.specs.Layout.{named}
 use Rattle.report.specs.Operations.{reading, writing, accessed}
 use Rattle.report.specs.Findings.{clash, stray_by, is_unguarded}
 use Rattle.report.specs.Counts.{Counts, walk_from}
+use Rattle.findings.specs.declared.Noted.{Noted}
 
 -- what n steps make of a value, from the step of the last number to that of `from`
 module _ {A : Type 0} where
@@ -38,9 +39,13 @@ common_by f flow held x = inter_from (firsts (locks f)) 0 (statements f) (held_a
 unfoldable pub walk_by : List ℤ → List ℕ → Counts
 walk_by f flow = walk_from (own_by f flow) 64 0 (statements f)
 
--- what is noted of all accesses: for each of 64 cells the common locks; behind them how many statements read each cell, and how many write it
-unfoldable pub noted_by : List ℤ → List ℕ → List ℕ → List ℕ
-noted_by f flow held = tabulate 64 (common_by f flow held) ++ ((walk_by f flow).reads ++ (walk_by f flow).writes)
+-- what is noted of all accesses: for each of 64 cells the common locks, how many statements read it, and how many write it
+unfoldable pub noted_by : List ℤ → List ℕ → List ℕ → Noted
+noted_by f flow held = record { common = tabulate 64 (common_by f flow held); reads = (walk_by f flow).reads; writes = (walk_by f flow).writes }
+
+-- how many statements read, or write, each cell
+abbrev pub counts_of : Bool → Noted → List ℕ
+counts_of w noted = cond w noted.writes noted.reads
 
 -- the cells shared at statement s, from the effects and from the futures, of which those that are written stand `half` places behind
 unfoldable pub shared_by : List ℤ → List ℕ → List ℕ → List ℕ → ℕ → ℕ → ℕ
@@ -56,6 +61,6 @@ started_by f s = set_on (starts (view (statement_of f s))) one
 unfoldable pub stray_in : List ℤ → List ℕ → List ℕ → ℕ → Bool
 stray_in f flow held s = stray_by (λ h. get_or flow h 0) (get_or held s 0) (statement_of f s)
 
--- cell x is unguarded
+-- cell x is unguarded, by the locks common to the accesses of each cell
 unfoldable pub unguarded_in : ℕ → List ℕ → ℕ → Bool
-unguarded_in shared noted x = is_unguarded shared (get_or noted x 0) x
+unguarded_in shared common x = is_unguarded shared (get_or common x 0) x

@@ -1,5 +1,5 @@
 -- The sizes of an accepted table, and the passes of a text by what was read of it. Assumes nothing.
-use Rattle.std.specs.Prelude.{◌≡◌, List, ℕ, ◌*◌, ◌≤◌, ℤ}
+use Rattle.std.specs.Prelude.{◌≡◌, List, ℕ, ◌*◌, ◌≤◌, ℤ, Ok, Err}
 use Rattle.std.proofs.Common.{sym, ◌∙◌, arith}
 use Rattle.lines.specs.Line.{numbers_of}
 use Rattle.table.specs.Header.{handles, statements}
@@ -7,9 +7,8 @@ use Rattle.table.specs.Table.{table_of}
 use Rattle.table.specs.Accepted as Facts
 use Rattle.table.proofs.AcceptedLaws.{accepted}
 use Rattle.table.proofs.LookupLaws.{handles_length, statements_length}
-use Rattle.table.specs.Verdict.{verdict}
-use Rattle.table.specs.declared.Verdict.{Verdict}
-use Rattle.table.specs.declared.Verdict.TheVariants.{Accepted, Refused}
+use Rattle.table.specs.declared.Refusal.{Refusal}
+use Rattle.table.specs.Verdict.{Verdict, verdict}
 use Rattle.report.specs.Layout.{one_each}
 use Rattle.report.specs.FlowPasses.{flow_passes}
 use Rattle.flow_vectors.specs.Passes.{passes_in}
@@ -21,9 +20,9 @@ module _ (f : List ℤ) (acc : Facts.Accepted (table_of f)) where
   pub edges_fit : 4 * statements f ≤ 2048
   edges_fit = omega (arith, acc.statements_most, statements_length f)
 
-module _ (text : List ℕ) (v : Verdict) (numbers : List ℤ) (said : v ≡ verdict text) (filled : v ≡ Accepted → numbers ≡ numbers_of text) where
-  module _ (yes : v ≡ Accepted) where
-    is_accepted : verdict text ≡ Accepted
+module _ (text : List ℕ) (v : Verdict) (numbers : List ℤ) (said : v ≡ verdict text) (filled : v ≡ Ok tt → numbers ≡ numbers_of text) where
+  module _ (yes : v ≡ Ok tt) where
+    is_accepted : verdict text ≡ Ok tt
     is_accepted = sym said ∙ yes
 
     pub read_accepted : Facts.Accepted (table_of numbers)
@@ -33,6 +32,6 @@ module _ (text : List ℕ) (v : Verdict) (numbers : List ℤ) (said : v ≡ verd
     unfolding passes_in
     accepted_passes = rw (is_accepted, filled yes)
 
-  pub refused_passes : (number line : ℕ) → v ≡ Refused number line → 0 ≡ passes_in text
+  pub refused_passes : (r : Refusal) → v ≡ Err r → 0 ≡ passes_in text
   unfolding passes_in
-  refused_passes number line told = rw (sym said ∙ told)
+  refused_passes r told = rw (sym said ∙ told)

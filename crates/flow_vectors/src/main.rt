@@ -1,36 +1,47 @@
 // Prints, for each table text that an argument names, a line: the name, and how many passes over the statements the flow sets of the text take.
 #![tactic(auto)]
 
-ghost use Rattle.std.specs.Prelude.{◌≡◌, ◌*◌, length};
+ghost use Rattle.std.specs.Prelude.{◌≡◌, ◌*◌, ◌≤◌, length};
 ghost use Rattle.lines.specs.Line.{line_count};
+ghost use Rattle.table.specs.Header.{statements};
 ghost use Rattle.table.specs.Table.{table_of};
 ghost use Rattle.table.specs.Accepted.{Accepted};
 ghost use Rattle.report.specs.Layout.{one_each};
 ghost use Rattle.report.specs.FlowPasses.{flow_passes};
 ghost use Rattle.flow_vectors.specs.Passes.{passes_in};
 
+use declarations::program::Program;
 use std::env::FillError;
 use std::io;
 use std::rt::{Env, Files};
-use table::Verdict;
+
+// How many passes the flow sets of a program take.
+fn passes_through(program: &Program<'_>) -> usize
+    requires { 4 * statements program.now ≤ 2048 }
+    ensures { result ≡ flow_passes (table_of program.now) (one_each (table_of program.now)) }
+{
+    let handles = program.handles();
+    let mut edges = [0u32; 2048];
+    let mut flow = [0u64; 128];
+    dataflow::flow_passes(program, &mut edges[..], &mut flow[..handles])
+}
 
 // How many passes the flow sets of an accepted table take.
 fn passes_of(numbers: &[i32]) -> usize
     requires { Accepted (table_of numbers.now) }
     ensures { result ≡ flow_passes (table_of numbers.now) (one_each (table_of numbers.now)) }
 {
+    let first = declarations::first_statements(numbers);
     let handle = declarations::first_handles(numbers);
     let counts = declarations::parameter_counts(numbers, &handle[..]);
-    let handles = table::field_of(numbers, 0, 3);
-    let mut edges = [0u32; 2048];
-    let mut flow = [0u64; 128];
-    dataflow::flow_passes(
+    let program = Program {
         numbers,
-        &handle[..],
-        &counts[..],
-        &mut edges[..],
-        &mut flow[..handles],
-    )
+        base: table::first_line(numbers),
+        first: &first,
+        handle: &handle,
+        counts: &counts,
+    };
+    passes_through(&program)
 }
 
 // How many passes a text takes, with a list that has room for its numbers; 0 where it is refused.
@@ -39,8 +50,8 @@ fn passes_in(text: &[u8], numbers: &mut [i32]) -> usize
     ensures { result ≡ passes_in text.now }
 {
     match reader::read_into(text, numbers) {
-        Verdict::Refused { number: _, line: _ } => 0,
-        Verdict::Accepted => passes_of(numbers),
+        Ok(()) => passes_of(numbers),
+        Err(_) => 0,
     }
 }
 

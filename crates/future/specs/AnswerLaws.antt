@@ -1,5 +1,5 @@
 -- What two stages of solving leave are the futures of the report. Assumes nothing.
-use Rattle.std.specs.Prelude.{ℕ, ◌+◌, ◌-◌, ◌*◌, ◌^◌, ◌≤◌, ◌<◌, Bool, cond, ℤ, get_or, take, drop}
+use Rattle.std.specs.Prelude.{ℕ, ◌+◌, ◌^◌, ◌<◌, Bool, cond, ℤ, get_or}
 use Rattle.std.proofs.Math.Path.{◌≡◌, refl, ap}
 use Rattle.std.proofs.Common.{sym, ap₂, ◌∙◌, arith}
 use Rattle.std.proofs.Math.Bool.{true, false}
@@ -21,12 +21,23 @@ use Rattle.report.proofs.OneEach.{one_each_fits}
 use Rattle.report.specs.Operations.{accessed}
 use Rattle.report.specs.Effect.{effect_of}
 use Rattle.report.specs.Future.{callers, next_effects, future_initials, futures}
-use Rattle.edges.specs.Equations.{Nexts, Callers, next_edges, call_edges, edges_at, edges_for, own_set, effect_at, nexts_effect, future_initial}
-use Rattle.edges.specs.EdgeLaws.{joined_same, Appended, Parts}
-use Rattle.edges.specs.RoomLaws.{ready_stages}
+use Rattle.edges.specs.Equations.{Nexts, Callers, next_edges, call_edges, edges_at, edges_for}
+use Rattle.initial.specs.declared.Act.{Act}
+use Rattle.initial.specs.declared.Act.TheVariants.{Reads, Writes}
+use Rattle.initial.specs.InitialSets.{own_set, effect_at, nexts_effect, future_initial}
+use Rattle.edges.specs.EdgeLaws.{joined_same}
 use Rattle.edges.specs.RoutineLaws.{copy_of}
 use Rattle.future.specs.StageLaws.{with_group, spread, staged}
 use Rattle.future.specs.FutureStages.{next_edges as all_next_edges, caller_edges, futures_staged}
+
+-- a list that is another holds its edges
+pub edges_like : {l k : List ℕ} {es : List Edge} → l ≡ k → map edge_of k ≡ es → map edge_of l ≡ es
+edges_like e h = ap {B = List Edge} (λ (l : List ℕ). map edge_of l) e ∙ h
+
+-- reading, or writing
+abbrev pub acts : Bool → Act
+acts true = Writes
+acts false = Reads
 
 module _ (t : Table) where
   next_edges_lem : edges_for Nexts t ≡ all_next_edges t (one_each t)
@@ -42,12 +53,17 @@ module _ (t : Table) where
       (λ (c : ℕ). call_edges (length t.statements) s (statement t s) ++ call_edges (length t.statements) (length t.statements + c) (statement t s))
       (copy_of t s (within_below w)))
 
-  module _ (w : Bool) (flow effect : List ℕ) where
-    stages : spread (length t.statements) (length t.routines) (one_each t).statement_copy
-        (least (caller_edges t (one_each t)) (least (all_next_edges t (one_each t)) (tabulate (length t.statements + length t.routines) (future_initial w flow effect t))))
-        ≡ staged (one_each t).statements (one_each t).copies (one_each t).statement_copy (all_next_edges t (one_each t)) (caller_edges t (one_each t)) (future_initials t (one_each t) flow effect w)
+  module _ (flow effect : List ℕ) where
+    abbrev solved : Act → List ℕ
+    solved act =
+        spread (length t.statements) (length t.routines) (one_each t).statement_copy
+        (least (caller_edges t (one_each t)) (least (all_next_edges t (one_each t)) (tabulate (length t.statements + length t.routines) (future_initial act flow effect t))))
+
+    stages : (w : Bool)
+        → solved (acts w) ≡ staged (one_each t).statements (one_each t).copies (one_each t).statement_copy (all_next_edges t (one_each t)) (caller_edges t (one_each t)) (future_initials t (one_each t) flow effect w)
     unfolding staged future_initials future_initial next_effects nexts_effect effect_at effect_of own_set accessed one_each
-    stages = refl
+    stages true = refl
+    stages false = refl
 
 module _ (f : List ℤ) where
   abbrev t : Table
@@ -71,31 +87,27 @@ module _ (f : List ℤ) where
   -- the two stages of futures
   pub future_answer : Accepted t → (flow : List ℕ) → ((i : ℕ) → get_or flow i 0 < 2 ^ 64) → (effect : List ℕ) → ((i : ℕ) → get_or effect i 0 < 2 ^ 64)
       → (w : Bool) {k : ℕ} → k ≡ statements f + routines f
-      → spread (statements f) (routines f) (owner_of t) (least (edges_for Callers t) (least (edges_for Nexts t) (tabulate k (future_initial w flow effect t))))
+      → spread (statements f) (routines f) (owner_of t) (least (edges_for Callers t) (least (edges_for Nexts t) (tabulate k (future_initial (acts w) flow effect t))))
       ≡ futures t (one_each t) flow effect w
   future_answer acc flow below effect effect_below w {k} e =
       let n = sym (statements_length f) in
       let m = sym (routines_length f) in
       spread_owner (statements f) (routines f) _ n
-      ∙ ap₂ (λ (a b : ℕ). spread a b (one_each t).statement_copy (least (edges_for Callers t) (least (edges_for Nexts t) (tabulate k (future_initial w flow effect t))))) n m
-      ∙ ap (λ (i : ℕ). spread (length t.statements) (length t.routines) (one_each t).statement_copy (least (edges_for Callers t) (least (edges_for Nexts t) (tabulate i (future_initial w flow effect t)))))
+      ∙ ap₂ (λ (a b : ℕ). spread a b (one_each t).statement_copy (least (edges_for Callers t) (least (edges_for Nexts t) (tabulate k (future_initial (acts w) flow effect t))))) n m
+      ∙ ap (λ (i : ℕ). spread (length t.statements) (length t.routines) (one_each t).statement_copy (least (edges_for Callers t) (least (edges_for Nexts t) (tabulate i (future_initial (acts w) flow effect t)))))
       (e ∙ ap₂ (λ (a b : ℕ). a + b) n m)
-      ∙ ap₂ (λ (a b : List Edge). spread (length t.statements) (length t.routines) (one_each t).statement_copy (least a (least b (tabulate (length t.statements + length t.routines) (future_initial w flow effect t)))))
+      ∙ ap₂ (λ (a b : List Edge). spread (length t.statements) (length t.routines) (one_each t).statement_copy (least a (least b (tabulate (length t.statements + length t.routines) (future_initial (acts w) flow effect t)))))
       (caller_edges_lem t) (next_edges_lem t)
-      ∙ stages t w flow effect
+      ∙ stages t flow effect w
       ∙ futures_staged t (one_each t) acc (one_each_fits t acc) flow below (λ v. effect) (λ v. effect_below) w
 
-  -- what the solver leaves of them, by edges that stand in one list
-  module _ (acc : Accepted t) {edges edges' edges'' : List ℕ} {n m : ℕ} (room : 4 * statements f ≤ length edges)
-      (nexts : Appended edges 0 edges' n (edges_for Nexts t)) (callers : Appended edges' n edges'' m (edges_for Callers t)) where
-    pub stage_parts : Parts edges'' n m (edges_for Nexts t) (edges_for Callers t)
-    stage_parts = ready_stages f acc room nexts callers
-
-    pub futures_left : (flow : List ℕ) → ((i : ℕ) → get_or flow i 0 < 2 ^ 64) → (effect : List ℕ) → ((i : ℕ) → get_or effect i 0 < 2 ^ 64) → (w : Bool) {k : ℕ}
-        → k ≡ statements f + routines f → {out : List ℕ}
-        → out ≡ spread (statements f) (routines f) (owner_of t) (least (map edge_of (take (m - n) (drop n edges''))) (least (map edge_of (take n edges'')) (tabulate k (future_initial w flow effect t))))
-        → out ≡ futures t (one_each t) flow effect w
-    futures_left flow below effect effect_below w {k} e p =
-        p
-        ∙ ap₂ (λ (a b : List Edge). spread (statements f) (routines f) (owner_of t) (least a (least b (tabulate k (future_initial w flow effect t))))) stage_parts.second stage_parts.first
-        ∙ future_answer acc flow below effect effect_below w e
+  -- what the solver leaves of them, by lists of edges
+  pub futures_left : Accepted t → (within up : List ℕ) → map edge_of within ≡ edges_for Nexts t → map edge_of up ≡ edges_for Callers t
+      → (flow : List ℕ) → ((i : ℕ) → get_or flow i 0 < 2 ^ 64) → (effect : List ℕ) → ((i : ℕ) → get_or effect i 0 < 2 ^ 64) → (w : Bool) {k : ℕ}
+      → k ≡ statements f + routines f → {out : List ℕ}
+      → out ≡ spread (statements f) (routines f) (owner_of t) (least (map edge_of up) (least (map edge_of within) (tabulate k (future_initial (acts w) flow effect t))))
+      → out ≡ futures t (one_each t) flow effect w
+  futures_left acc within up a b flow below effect effect_below w {k} e p =
+      p
+      ∙ ap₂ (λ (x y : List Edge). spread (statements f) (routines f) (owner_of t) (least x (least y (tabulate k (future_initial (acts w) flow effect t))))) b a
+      ∙ future_answer acc flow below effect effect_below w e

@@ -2,4 +2,3 @@ pub mod StageLaws
 pub mod SpreadLaws
 pub mod FutureStages
 pub mod AnswerLaws
-pub mod HalfLaws

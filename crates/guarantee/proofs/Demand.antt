@@ -1,11 +1,10 @@
 -- Demand 3: a text that is accepted and whose report counts no unguarded cell and no stray GIVE is safe after every list of thread numbers. Assumes nothing.
-use Rattle.std.specs.Prelude.{◌≡◌, List, [], ◌∷◌, ℕ, ℤ, pos, get_or}
+use Rattle.std.specs.Prelude.{◌≡◌, List, [], ◌∷◌, ℕ, ℤ, pos, get_or, Ok}
 use Rattle.std.proofs.Common.{sym, ap, ◌∙◌}
 use Rattle.table.specs.Table.{Table}
 use Rattle.table.specs.Accepted.{Accepted}
 use Rattle.table.proofs.AcceptedLaws.{accepted}
 use Rattle.table.specs.Verdict.{verdict}
-use Rattle.table.specs.declared.Verdict as Declared
 use Rattle.machine.specs.State.{start}
 use Rattle.machine.specs.Step.{run}
 use Rattle.machine.specs.Engine.{engine_run}
@@ -36,7 +35,7 @@ clean_table_safe t acc u z ns =
 -- Demand 3. For every text that is accepted and whose report's line 59, as printed, counts no unguarded cell and no stray GIVE, and for every finite list of
 -- thread numbers: after the machine, with no limit on threads or frames, has run the whole list from its start, no two different threads stand before
 -- accesses of one cell of which one writes, and no thread stands before a release of a lock that it does not hold.
-pub demand_3 : (text : List ℕ) → verdict text ≡ Declared.Verdict.Accepted → Counts (report_text (table_in text)) (pos 0) (pos 0) → (ns : List ℕ)
+pub demand_3 : (text : List ℕ) → verdict text ≡ Ok tt → Counts (report_text (table_in text)) (pos 0) (pos 0) → (ns : List ℕ)
     → Safe (table_in text) (run (table_in text) (start (table_in text)) ns)
 demand_3 text e c ns =
     let acc = accepted text e in
@@ -44,7 +43,7 @@ demand_3 text e c ns =
     clean_table_safe (table_in text) acc totals.0 totals.1 ns
 
 -- the same of every state that the engine passes, whatever it refuses at its limits
-pub demand_3_engine : (text : List ℕ) → verdict text ≡ Declared.Verdict.Accepted → Counts (report_text (table_in text)) (pos 0) (pos 0) → (ns : List ℕ)
+pub demand_3_engine : (text : List ℕ) → verdict text ≡ Ok tt → Counts (report_text (table_in text)) (pos 0) (pos 0) → (ns : List ℕ)
     → Safe (table_in text) (engine_run (table_in text) (start (table_in text)) ns)
 demand_3_engine text e c ns =
     let t = table_in text in

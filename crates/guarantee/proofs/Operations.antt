@@ -1,5 +1,5 @@
 -- The invariant is kept by each operation. Assumes nothing.
-use Rattle.std.specs.Prelude.{ℕ, ◌+◌, ◌<◌, ◌≡◌, Bool, cond, List, [], ◌∷◌, ◌⊎◌, ℤ, pos, get_or, length, set}
+use Rattle.std.specs.Prelude.{ℕ, ◌+◌, ◌<◌, ◌≡◌, Bool, cond, List, [], ◌∷◌, ◌⊎◌, ℤ, pos, get_or, length, set, Some, None}
 use Rattle.std.proofs.Common.{sym, ap, ◌∙◌, subst, ⊎_elim, length-set, get_or-set_same}
 use Rattle.std.proofs.Math.Path.{refl}
 use Rattle.std.proofs.Math.Bool.{true, false}
@@ -7,7 +7,6 @@ use Rattle.std.proofs.Math.Logic.{inl, inr}
 use Rattle.table.specs.Table.{Table, routine, statement}
 use Rattle.table.specs.View.{view, calls, starts, takes_in}
 use Rattle.table.proofs.ViewLaws.{nothing_to, one_reference, taken_takes}
-use Rattle.table.specs.declared.Reference.TheVariants.{To, Nothing}
 use Rattle.table.specs.Accepted.{Accepted, Operands, Passes, OwnOfKind, Names}
 use Rattle.table.specs.declared.Arguments.{Arguments}
 use Rattle.table.specs.declared.Handle.{Handle}
@@ -96,7 +95,7 @@ module _ {t : Table} (accepted : Accepted t) (copies : Copies t) (f : Families) 
       to = goes_place accepted copies top.here goes
 
   -- a statement that takes nothing and calls nothing adds no lock
-  adds_none : (w : Bool) (k : ℕ) (σ : Statement) → (view σ).takes ≡ Nothing → calls (view σ) ≡ Nothing
+  adds_none : (w : Bool) (k : ℕ) (σ : Statement) → (view σ).takes ≡ None → calls (view σ) ≡ None
       → After copies w f.flow f.gives (f.held w) m.copy m.place k σ → f.held w m.copy m.place k
   adds_none w k σ takes calls (inl (inl (h, is, only))) = nothing_to (sym takes ∙ taken_takes w (view σ) is)
   adds_none w k σ takes calls (inl (inr (q, is, all))) = nothing_to (sym calls ∙ is)
@@ -104,7 +103,7 @@ module _ {t : Table} (accepted : Accepted t) (copies : Copies t) (f : Families) 
 
   -- an operation that keeps the values and the locks
   onward : (s : ℕ) (b : ℤ) (cells : List ℤ) (σ : Statement) → statement t m.place ≡ σ → Goes m.place σ s
-      → (view σ).takes ≡ Nothing → calls (view σ) ≡ Nothing
+      → (view σ).takes ≡ None → calls (view σ) ≡ None
       → Kept copies f state
       (moved (with_thread state n b (newest copies f (record { copy = m.copy; place = s; values = m.values }) ∷ older copies f ms) cells state.locks))
   onward s b cells σ eq g takes calls =
@@ -115,7 +114,7 @@ module _ {t : Table} (accepted : Accepted t) (copies : Copies t) (f : Families) 
 
   -- a turn at the lock that a handle of the newest frame refers to
   module _ (σ : Statement) (eq : statement t m.place ≡ σ) (h : ℕ) (own : OwnOfKind t (copies.of m.copy) 2 h)
-      (onward : (view σ).onward ≡ true) (no_call : calls (view σ) ≡ Nothing) where
+      (onward : (view σ).onward ≡ true) (no_call : calls (view σ) ≡ None) where
     abbrev lock : ℕ
     lock = get_or m.values h 0
 
@@ -147,11 +146,11 @@ module _ {t : Table} (accepted : Accepted t) (copies : Copies t) (f : Families) 
 
     -- where it passes, the thread goes on: it holds what the statement adds, and what it held but for what the statement may give up, and the others lose nothing
     record Turned (new : Holder) : Type 0 where
-      adds : (w : Bool) (k : ℕ) → takes_in w (view σ) ≡ To h → lock ≡ k → holds_in w new n ≡ true
-      own_kept : (w : Bool) → ((view σ).gives ≡ To h → ⊥) → holds_in w (holder state lock) n ≡ true → holds_in w new n ≡ true
+      adds : (w : Bool) (k : ℕ) → takes_in w (view σ) ≡ Some h → lock ≡ k → holds_in w new n ≡ true
+      own_kept : (w : Bool) → ((view σ).gives ≡ Some h → ⊥) → holds_in w (holder state lock) n ≡ true → holds_in w new n ≡ true
       others : OthersKeep n (holder state lock) new
 
-    turn_kept : (takes : (w : Bool) (j : ℕ) → takes_in w (view σ) ≡ To j → j ≡ h) (turn : Turn)
+    turn_kept : (takes : (w : Bool) (j : ℕ) → takes_in w (view σ) ≡ Some j → j ≡ h) (turn : Turn)
         → OnPass turn Turned → Kept copies f state (turned t state n a (newest copies f m) (older copies f ms) lock turn)
     turn_kept takes (stops number) p = (marks, inv)
     turn_kept takes (passes new) p =
@@ -160,12 +159,12 @@ module _ {t : Table} (accepted : Accepted t) (copies : Copies t) (f : Families) 
         (wait_still copies f rules state.locks (after_turn new) n m.copy ms (λ w k not_given has. kept w k (λ at gave. not_given (given at gave)) has) below)
         (other_keeps new p.others)
       where
-        given : {k : ℕ} → k ≡ lock → (view σ).gives ≡ To h → f.gives m.copy k
+        given : {k : ℕ} → k ≡ lock → (view σ).gives ≡ Some h → f.gives m.copy k
         given at gave =
             subst (f.gives m.copy) (sym at)
             (rules.gives_rules.by_give m.copy m.place lock h top.here (ap (λ (τ : Statement). (view τ).gives) eq ∙ gave) fits.flows)
 
-        kept : (w : Bool) (k : ℕ) → (k ≡ lock → (view σ).gives ≡ To h → ⊥) → Has copies f state.locks n w k → Has copies f (after_turn new) n w k
+        kept : (w : Bool) (k : ℕ) → (k ≡ lock → (view σ).gives ≡ Some h → ⊥) → Has copies f state.locks n w k → Has copies f (after_turn new) n w k
         kept w k stays has =
             keeps new n w k (λ at. p.own_kept w (stays at) (subst (λ (j : ℕ). Has copies f state.locks n w j) at has)) has
 
@@ -173,7 +172,7 @@ module _ {t : Table} (accepted : Accepted t) (copies : Copies t) (f : Families) 
         holds w k (inl (inl (j, is, only))) =
             let same : j ≡ h = takes w j is in
             let at : lock ≡ k = only.alone lock (subst (λ (i : ℕ). f.flow m.copy i lock) (sym same) fits.flows) in
-            at_lock new n w k at (p.adds w k (is ∙ ap To same) at)
+            at_lock new n w k at (p.adds w k (is ∙ ap Some same) at)
         holds w k (inl (inr (q, is, all))) = nothing_to (sym no_call ∙ is)
         holds w k (inr (was, stays)) =
             kept w k (λ at gave. stays (inl (h, gave, subst (f.flow m.copy h) (sym at) fits.flows))) (top.holds w k was)
@@ -212,7 +211,7 @@ module _ {t : Table} (accepted : Accepted t) (copies : Copies t) (f : Families) 
       own = (operands σ eq).takes h.number refl
 
       -- "TAKER adds only to the second set"
-      adds : (new : Holder) → holds_in false new n ≡ true → (w : Bool) → takes_in w (view (TakeRead h)) ≡ To h.number → holds_in w new n ≡ true
+      adds : (new : Holder) → holds_in false new n ≡ true → (w : Bool) → takes_in w (view (TakeRead h)) ≡ Some h.number → holds_in w new n ≡ true
       adds new gets true is = nothing_to is
       adds new gets false is = gets
 
@@ -312,7 +311,7 @@ module _ {t : Table} (accepted : Accepted t) (copies : Copies t) (f : Families) 
       σ : Statement
       σ = Call q arguments
 
-      calls_q : calls (view (statement t m.place)) ≡ To q
+      calls_q : calls (view (statement t m.place)) ≡ Some q
       calls_q = ap (λ (τ : Statement). calls (view τ)) eq
 
       passes : Passes t (copies.of m.copy) q arguments
@@ -402,7 +401,7 @@ module _ {t : Table} (accepted : Accepted t) (copies : Copies t) (f : Families) 
       σ : Statement
       σ = Start q arguments
 
-      starts_q : starts (view (statement t m.place)) ≡ To q
+      starts_q : starts (view (statement t m.place)) ≡ Some q
       starts_q = ap (λ (τ : Statement). starts (view τ)) eq
 
       passes : Passes t (copies.of m.copy) q arguments

@@ -1,12 +1,11 @@
 -- C-22, "A reading stays put while guarded": from a text and a line 51 of its report, as printed, to the values of the cell, in every order of steps. Assumes nothing.
-use Rattle.std.specs.Prelude.{ℕ, ◌≡◌, true, List, ◌∷◌, ◌++◌, get_or}
+use Rattle.std.specs.Prelude.{ℕ, ◌≡◌, true, List, ◌∷◌, ◌++◌, get_or, Ok}
 use Rattle.std.proofs.Common.{sym, ap, ◌∙◌}
 use Rattle.sets.specs.Set.{has}
 use Rattle.table.specs.Table.{Table}
 use Rattle.table.specs.Accepted.{Accepted}
 use Rattle.table.proofs.AcceptedLaws.{accepted}
 use Rattle.table.specs.Verdict.{verdict}
-use Rattle.table.specs.declared.Verdict as Declared
 use Rattle.machine.specs.State.{State}
 use Rattle.machine.specs.Step.{Answer, step}
 use Rattle.machine.specs.Engine.{engine_step}
@@ -35,7 +34,7 @@ printed_common t acc x reads writes shared common unguarded k says among =
     let line = (printed_51 t acc x reads writes shared common unguarded says).1 in
     (common_from t (one_each t) acc (one_each_fits t acc) x k (ap (λ (l : List ℕ). has (get_or l 5 0) k) (sym line) ∙ among)).1
 
-steady_by : (text : List ℕ) → verdict text ≡ Declared.Verdict.Accepted → (by : Table → State → ℕ → Answer) → Stepping (table_in text) (by (table_in text))
+steady_by : (text : List ℕ) → verdict text ≡ Ok tt → (by : Table → State → ℕ → Answer) → Stepping (table_in text) (by (table_in text))
     → EachCommon text (Steady text by)
 steady_by text e by steps x reads writes shared common unguarded k says among =
     let t = table_in text in
@@ -51,9 +50,9 @@ steady_by text e by steps x reads writes shared common unguarded k says among =
     }
 
 -- C-22, of every text that is accepted. Whether its report is clean does not matter, nor whether the line says that the cell is shared
-pub reading_stays_put : (text : List ℕ) → verdict text ≡ Declared.Verdict.Accepted → EachCommon text (Steady text step)
+pub reading_stays_put : (text : List ℕ) → verdict text ≡ Ok tt → EachCommon text (Steady text step)
 reading_stays_put text e = steady_by text e step (machine_steps (table_in text))
 
 -- the same of the engine's runs, whatever it refuses at its limit
-pub reading_stays_put_engine : (text : List ℕ) → verdict text ≡ Declared.Verdict.Accepted → EachCommon text (Steady text engine_step)
+pub reading_stays_put_engine : (text : List ℕ) → verdict text ≡ Ok tt → EachCommon text (Steady text engine_step)
 reading_stays_put_engine text e = steady_by text e engine_step (engine_steps (table_in text))

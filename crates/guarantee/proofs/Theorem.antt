@@ -1,9 +1,8 @@
 -- Demand 3 over sets that satisfy the rules: if the report is clean, then after every run (a) and (b) hold. Assumes nothing.
-use Rattle.std.specs.Prelude.{ℕ, ◌<◌, ◌≡◌, Bool, true, false, List, [], ◌∷◌, ◌⊎◌, length}
+use Rattle.std.specs.Prelude.{ℕ, ◌<◌, ◌≡◌, Bool, true, false, List, [], ◌∷◌, ◌⊎◌, length, Some}
 use Rattle.std.proofs.Common.{sym, subst, ◌∙◌, inl, inr, ⊎_elim, arith}
 use Rattle.table.specs.Table.{Table, statement}
 use Rattle.table.specs.View.{view, accesses}
-use Rattle.table.specs.declared.Reference.TheVariants.{To}
 use Rattle.table.specs.Accepted.{Accepted, Operands, OwnOfKind}
 use Rattle.table.specs.declared.Statement.{Statement}
 use Rattle.machine.specs.State.{State, Holder, holds_in, holder, thread, start}
@@ -46,7 +45,7 @@ module _ {t : Table} (accepted : Accepted t) (copies : Copies t) (f : Families) 
       let fits : Fits copies f m.copy h x = subst (Fits copies f m.copy h) at (top.valued h own.own) in
       ((h, is, fits.flows), fits.cell own.kind)
     where
-      accessed_own : (w : Bool) (h : ℕ) → accesses w (view σ) ≡ To h → OwnOfKind t (copies.of m.copy) 1 h
+      accessed_own : (w : Bool) (h : ℕ) → accesses w (view σ) ≡ Some h → OwnOfKind t (copies.of m.copy) 1 h
       accessed_own true h is = ops.writes h is
       accessed_own false h is = ops.reads h is
 

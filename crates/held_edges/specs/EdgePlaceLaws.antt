@@ -1,5 +1,5 @@
 -- The places that a statement's edges come from and lead to. Assumes nothing.
-use Rattle.std.specs.Prelude.{ℕ, ◌≤◌, ◌<◌, ◌≡◌, Bool}
+use Rattle.std.specs.Prelude.{ℕ, ◌≤◌, ◌<◌, ◌≡◌, Bool, Option, Some, None}
 use Rattle.std.proofs.Math.Path.{refl, ap}
 use Rattle.std.proofs.Common.{sym}
 use native.Mathlib.Omega.{arith}
@@ -7,8 +7,6 @@ use Rattle.table.specs.Table.{Table, routine, statement, OwnHandle}
 use Rattle.table.specs.View.{view, on_or, calls, takes_in}
 use Rattle.table.proofs.ViewLaws.{calls_names, taken_takes}
 use Rattle.table.specs.Accepted.{Accepted, Names, Operands}
-use Rattle.table.specs.declared.Reference.{Reference}
-use Rattle.table.specs.declared.Reference.TheVariants.{To, Nothing}
 use Rattle.report.specs.Layout.{Layout}
 use Rattle.report.specs.Fits.{Fits, copies_of}
 use Rattle.report.specs.Held.{entry}
@@ -51,8 +49,8 @@ module _ (t : Table) (k : Layout) (acc : Accepted t) (fits : Fits t k) where
     unfolding met_place
     met_there mode = go (takes_in mode (view (statement t s))) refl (calls (view (statement t s))) refl
       where
-        go : (r : Reference) → takes_in mode (view (statement t s)) ≡ r → (u : Reference) → calls (view (statement t s)) ≡ u
+        go : (r : Option ℕ) → takes_in mode (view (statement t s)) ≡ r → (u : Option ℕ) → calls (view (statement t s)) ≡ u
             → on_or r (λ h. other_place k (k.handle_place c h)) (on_or u (λ q. back_place k (k.leads c s)) (k.statement_place c s)) < place_count k
-        go (To h) e u i = let l : k.handle_place c h < k.handles = handle_there c h v.there (operands_of.takes h (taken_takes mode (view (statement t s)) e)).own in omega arith
-        go Nothing e (To q) i = let l : k.leads c s < k.copies = leads_there q (calls_names (view (statement t s)) i) in omega arith
-        go Nothing e Nothing i = let l : k.statement_place c s < k.statements = place_there c s v in omega arith
+        go (Some h) e u i = let l : k.handle_place c h < k.handles = handle_there c h v.there (operands_of.takes h (taken_takes mode (view (statement t s)) e)).own in omega arith
+        go None e (Some q) i = let l : k.leads c s < k.copies = leads_there q (calls_names (view (statement t s)) i) in omega arith
+        go None e None i = let l : k.statement_place c s < k.statements = place_there c s v in omega arith

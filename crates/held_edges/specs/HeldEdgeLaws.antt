@@ -1,6 +1,6 @@
 -- What is left out of the held sets is what goes along the edges: what the edges leave satisfies document 01's rules, and every edge puts only what is
 -- not held. Assumes nothing.
-use Rattle.std.specs.Prelude.{ℕ, ◌^◌, ◌≤◌, ◌<◌, ◌≡◌, Bool, true, false, ◌⊎◌, length, get_or}
+use Rattle.std.specs.Prelude.{ℕ, ◌^◌, ◌≤◌, ◌<◌, ◌≡◌, Bool, true, false, ◌⊎◌, length, get_or, Option, Some, None}
 use Rattle.std.proofs.Math.Path.{refl, subst}
 use Rattle.std.proofs.Common.{sym, ap, ◌∙◌, inl, inr, arith}
 use Rattle.std.proofs.Math.Logic.{⊎_elim}
@@ -17,8 +17,6 @@ use Rattle.table.proofs.TabulateLaws.{length_tabulate, is_tabulate}
 use Rattle.table.specs.View.{view, On, on_or, set_on, list_on, when, calls, starts, takes_in}
 use Rattle.table.proofs.ViewLaws.{nothing_to, set_from, set_has, list_has, list_from, when_has, when_from, calls_names, starts_names, taken_takes}
 use Rattle.table.specs.Accepted.{Accepted, Names}
-use Rattle.table.specs.declared.Reference.{Reference}
-use Rattle.table.specs.declared.Reference.TheVariants.{To, Nothing}
 use Rattle.table.specs.declared.Statement.{Statement}
 use Rattle.report.proofs.OverLaws.{never, none_in, tabulate_sets, tabulate_has, tabulate_from_lem}
 use Rattle.report.specs.Greatest.{leaving, greatest}
@@ -110,12 +108,12 @@ module _ (t : Table) (k : Layout) (acc : Accepted t) (fits : Fits t k) (mode : B
     unfolding held_edges edges_at
     along e m = carries e (Memᴰ.tail (among_all t k fits (edges_at t k mode) e c s v σ refl m))
 
-    call_out : (q : ℕ) → calls (view σ) ≡ To q → (x : ℕ) → Out p x → Out (entry t k d) x
+    call_out : (q : ℕ) → calls (view σ) ≡ Some q → (x : ℕ) → Out p x → Out (entry t k d) x
     call_out q e x o =
         let l : entry t k d < k.statements = entry_there t k acc fits d (leads_there t k acc fits c s v q (calls_names (view σ) e)) in
         along (plain p (entry t k d)) (Memᴰ.append_left _ (list_has (calls (view σ)) _ _ e (Memᴰ.head refl))) (omega arith) x o o
 
-    give_up_out : (q : ℕ) → calls (view σ) ≡ To q → (n : ℕ) → Goes s σ n → (x : ℕ) → Out (back_place k d) x → Out (given_place k d) x → Out (k.statement_place c n) x
+    give_up_out : (q : ℕ) → calls (view σ) ≡ Some q → (n : ℕ) → Goes s σ n → (x : ℕ) → Out (back_place k d) x → Out (given_place k d) x → Out (k.statement_place c n) x
     give_up_out q e n g x =
         along (record { from = back_place k d; also = given_place k d; to = k.statement_place c n })
         (Memᴰ.append_left _
@@ -130,7 +128,7 @@ module _ (t : Table) (k : Layout) (acc : Accepted t) (fits : Fits t k) (mode : B
         (Memᴰ.append_left _ (map_has (λ (n : ℕ). record { from = p; also = met_place k mode p c s σ; to = k.statement_place c n }) _ n (goes_next s σ n g))))
         (next_there t k acc fits c s v n g) x
 
-    give_out : (h : ℕ) → (view σ).gives ≡ To h → (n : ℕ) → Goes s σ n → (x : ℕ) → FlowHas k flow c h x → Out (k.statement_place c n) x
+    give_out : (h : ℕ) → (view σ).gives ≡ Some h → (n : ℕ) → Goes s σ n → (x : ℕ) → FlowHas k flow c h x → Out (k.statement_place c n) x
     give_out h e n g x m =
         let l : k.handle_place c h < k.handles =
         handle_there t k acc fits c h v.there ((acc.operands (k.routine_of c) s (fits.of_there c v.there) v.inside).gives h e).own in
@@ -146,7 +144,7 @@ module _ (t : Table) (k : Layout) (acc : Accepted t) (fits : Fits t k) (mode : B
     every_out : (x : ℕ) → x < t.locks → Out (every_place k) x
     every_out x l = start_out (every_place k) x (omega arith) (ap (λ (y : ℕ). has y x) (start_every t k flow given) ∙ is_lock x l)
 
-    started_out : (q : ℕ) → starts (view σ) ≡ To q → (x : ℕ) → x < t.locks → Out (entry t k d) x
+    started_out : (q : ℕ) → starts (view σ) ≡ Some q → (x : ℕ) → x < t.locks → Out (entry t k d) x
     started_out q e x l =
         let b : entry t k d < k.statements = entry_there t k acc fits d (leads_there t k acc fits c s v q (starts_names (view σ) e)) in
         along (plain (every_place k) (entry t k d))
@@ -164,20 +162,20 @@ module _ (t : Table) (k : Layout) (acc : Accepted t) (fits : Fits t k) (mode : B
         (omega arith) x o o
 
     -- what is not added is met
-    met_out : (x : ℕ) → x < t.locks → ((h : ℕ) → takes_in mode (view σ) ≡ To h → has (only_lock (flow_at k flow c h)) x ≡ true → ⊥)
-        → ((q : ℕ) → calls (view σ) ≡ To q → Out (back_place k d) x) → Out p x → Out (met_place k mode p c s σ) x
+    met_out : (x : ℕ) → x < t.locks → ((h : ℕ) → takes_in mode (view σ) ≡ Some h → has (only_lock (flow_at k flow c h)) x ≡ true → ⊥)
+        → ((q : ℕ) → calls (view σ) ≡ Some q → Out (back_place k d) x) → Out p x → Out (met_place k mode p c s σ) x
     unfolding met_place
     met_out x l f b o = go (takes_in mode (view σ)) refl (calls (view σ)) refl
       where
-        go : (r : Reference) → takes_in mode (view σ) ≡ r → (u : Reference) → calls (view σ) ≡ u
+        go : (r : Option ℕ) → takes_in mode (view σ) ≡ r → (u : Option ℕ) → calls (view σ) ≡ u
             → Out (on_or r (λ h. other_place k (k.handle_place c h)) (on_or u (λ q. back_place k (k.leads c s)) p)) x
-        go (To h) e u i =
+        go (Some h) e u i =
             let j : k.handle_place c h < k.handles =
             handle_there t k acc fits c h v.there ((acc.operands (k.routine_of c) s (fits.of_there c v.there) v.inside).takes h (taken_takes mode (view σ) e)).own in
             start_out (other_place k (k.handle_place c h)) x (omega arith)
             (ap (λ (y : ℕ). has y x) (start_other t k flow given (k.handle_place c h) j) ∙ minus_has (all_locks t) _ x (is_lock x l) (f h e))
-        go Nothing e (To q) i = b q i
-        go Nothing e Nothing i = o
+        go None e (Some q) i = b q i
+        go None e None i = o
 
   -- ---- what the edges leave satisfies the rules
 
@@ -186,8 +184,8 @@ module _ (t : Table) (k : Layout) (acc : Accepted t) (fits : Fits t k) (mode : B
 
   module _ (c s n x : ℕ) (v : Place copies c s) (g : Goes s (statement t s) n) (a : Left c n x) where
     -- what is not added was there, and is not given up
-    left_kept : ((h : ℕ) → takes_in mode (view (statement t s)) ≡ To h → has (only_lock (flow_at k flow c h)) x ≡ true → ⊥)
-        → ((q : ℕ) → calls (view (statement t s)) ≡ To q → Out (back_place k (k.leads c s)) x)
+    left_kept : ((h : ℕ) → takes_in mode (view (statement t s)) ≡ Some h → has (only_lock (flow_at k flow c h)) x ≡ true → ⊥)
+        → ((q : ℕ) → calls (view (statement t s)) ≡ Some q → Out (back_place k (k.leads c s)) x)
         → After copies mode (FlowHas k flow) (GivesHas given) Left c s x (statement t s)
     left_kept f b = inr ((a.0, λ o. a.1 (kept_out c s v n g x o (met_out c s v x a.0 f b o))), lose)
       where
@@ -201,12 +199,12 @@ module _ (t : Table) (k : Layout) (acc : Accepted t) (fits : Fits t k) (mode : B
     left_way : After copies mode (FlowHas k flow) (GivesHas given) Left c s x (statement t s)
     left_way = by_take (has (set_on (takes_in mode (view (statement t s))) (λ h. only_lock (flow_at k flow c h))) x) refl
       where
-        by_call : ((h : ℕ) → takes_in mode (view (statement t s)) ≡ To h → has (only_lock (flow_at k flow c h)) x ≡ true → ⊥)
-            → (b : Bool) → has (get_or (held_out t k mode flow given) (back_place k (k.leads c s)) 0) x ≡ b → (r : Reference) → calls (view (statement t s)) ≡ r
+        by_call : ((h : ℕ) → takes_in mode (view (statement t s)) ≡ Some h → has (only_lock (flow_at k flow c h)) x ≡ true → ⊥)
+            → (b : Bool) → has (get_or (held_out t k mode flow given) (back_place k (k.leads c s)) 0) x ≡ b → (r : Option ℕ) → calls (view (statement t s)) ≡ r
             → After copies mode (FlowHas k flow) (GivesHas given) Left c s x (statement t s)
         by_call f true e r i = left_kept f (λ q j. e)
-        by_call f false e (To q) i = inl (inr (q, i, λ z u y. (a.0, λ o. never (sym (end_out (k.leads c s) z u y x o) ∙ e))))
-        by_call f false e Nothing i = left_kept f (λ q j. nothing_to (sym i ∙ j))
+        by_call f false e (Some q) i = inl (inr (q, i, λ z u y. (a.0, λ o. never (sym (end_out (k.leads c s) z u y x o) ∙ e))))
+        by_call f false e None i = left_kept f (λ q j. nothing_to (sym i ∙ j))
 
         by_take : (b : Bool) → has (set_on (takes_in mode (view (statement t s))) (λ h. only_lock (flow_at k flow c h))) x ≡ b
             → After copies mode (FlowHas k flow) (GivesHas given) Left c s x (statement t s)
@@ -307,7 +305,7 @@ module _ (t : Table) (k : Layout) (acc : Accepted t) (fits : Fits t k) (mode : B
     not_held : Off p' x → Held c s x → ⊥
     not_held o h = o.before (place_there t k acc fits c s v) h
 
-    off_call : (q : ℕ) → calls (view σ') ≡ To q → (e : Edge)
+    off_call : (q : ℕ) → calls (view σ') ≡ Some q → (e : Edge)
         → Memᴰ e (plain p' (entry t k (k.leads c s)) ∷ map (λ (n : ℕ). record { from = back_place k (k.leads c s); also = given_place k (k.leads c s); to = k.statement_place c n }) (nexts s σ'))
         → Off e.from x → Off e.also x → Off e.to x
     off_call q i e (Memᴰ.head j) o b =
@@ -327,18 +325,18 @@ module _ (t : Table) (k : Layout) (acc : Accepted t) (fits : Fits t k) (mode : B
         go l ob og (inr (a, f)) = f (inr (q, i, og.gives (k.leads c s) l refl))
 
     -- the set that is met, by what the statement does
-    met_take : (h : ℕ) → takes_in mode (view σ') ≡ To h → met_place k mode p' c s σ' ≡ other_place k (k.handle_place c h)
+    met_take : (h : ℕ) → takes_in mode (view σ') ≡ Some h → met_place k mode p' c s σ' ≡ other_place k (k.handle_place c h)
     unfolding met_place
     met_take h e = rw e
 
-    met_call : (q : ℕ) → calls (view σ') ≡ To q → met_place k mode p' c s σ' ≡ back_place k (k.leads c s)
+    met_call : (q : ℕ) → calls (view σ') ≡ Some q → met_place k mode p' c s σ' ≡ back_place k (k.leads c s)
     unfolding met_place
     met_call q e = go (takes_in mode (view σ')) refl
       where
-        go : (r : Reference) → takes_in mode (view σ') ≡ r
+        go : (r : Option ℕ) → takes_in mode (view σ') ≡ r
             → on_or r (λ h. other_place k (k.handle_place c h)) (on_or (calls (view σ')) (λ q. back_place k (k.leads c s)) p') ≡ back_place k (k.leads c s)
-        go (To h) i = absurd ((alone σ').takes_calls h q (taken_takes mode (view σ') i) e)
-        go Nothing i = rw e
+        go (Some h) i = absurd ((alone σ').takes_calls h q (taken_takes mode (view σ') i) e)
+        go None i = rw e
 
     off_kept : (e : Edge) → Memᴰ e (map (λ (n : ℕ). record { from = p'; also = met_place k mode p' c s σ'; to = k.statement_place c n }) (nexts s σ'))
         → Off e.from x → Off e.also x → Off e.to x
@@ -356,7 +354,7 @@ module _ (t : Table) (k : Layout) (acc : Accepted t) (fits : Fits t k) (mode : B
         go op om (inl (inr (q, j, a))) = om.back (k.leads c s) (leads_there t k acc fits c s v q (calls_names (view σ') j)) (met_call q j) a
         go op om (inr (a, f)) = not_held op a
 
-    off_give : (h : ℕ) → (view σ').gives ≡ To h → (e : Edge)
+    off_give : (h : ℕ) → (view σ').gives ≡ Some h → (e : Edge)
         → Memᴰ e (map (λ (n : ℕ). plain (flow_place k (k.handle_place c h)) (k.statement_place c n)) (nexts s σ')) → Off e.from x → Off e.to x
     off_give h i e m o =
         let r = map_from (λ (n : ℕ). plain (flow_place k (k.handle_place c h)) (k.statement_place c n)) (nexts s σ') e m in
@@ -370,7 +368,7 @@ module _ (t : Table) (k : Layout) (acc : Accepted t) (fits : Fits t k) (mode : B
         go f (inl (inr (q, j, a))) = (alone σ').gives_calls h q i j
         go f (inr (a, d)) = d (inl (h, i, f))
 
-    off_start : (q : ℕ) → starts (view σ') ≡ To q → (e : Edge) → Memᴰ e (plain (every_place k) (entry t k (k.leads c s)) ∷ []) → Off e.to x
+    off_start : (q : ℕ) → starts (view σ') ≡ Some q → (e : Edge) → Memᴰ e (plain (every_place k) (entry t k (k.leads c s)) ∷ []) → Off e.to x
     off_start q i e m =
         subst (λ (y : Edge). Off y.to x) (sym (Memᴰ.eq_of_singleton m))
         (entered c s q x v (starts_names (view σ') i) (λ h. rules.by_start c s x q v i h))

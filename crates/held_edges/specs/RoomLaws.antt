@@ -1,5 +1,5 @@
 -- Three places a statement and one more are room for the edges: no statement makes more than three, and every number is small. Assumes nothing.
-use Rattle.std.specs.Prelude.{ℕ, zero, suc, ◌+◌, ◌*◌, ◌≤◌, ◌<◌, ◌≡◌, Bool, ◌⊎◌, ℤ, length}
+use Rattle.std.specs.Prelude.{ℕ, zero, suc, ◌+◌, ◌*◌, ◌≤◌, ◌<◌, ◌≡◌, Bool, ◌⊎◌, ℤ, length, Some}
 use Rattle.std.proofs.Common.{sym, inl, inr, mul-suc, length-append}
 use Rattle.std.proofs.Math.Path.{subst}
 use Rattle.std.proofs.Math.Logic.{⊎_elim}
@@ -13,7 +13,6 @@ use Rattle.table.proofs.LookupLaws.{statements_length}
 use Rattle.table.specs.View.{view, list_on, when, calls, starts}
 use Rattle.table.proofs.ViewLaws.{list_from, when_from, calls_names, starts_names, Form, on, read, written, taken, given, pointed, called, started, to, either, back, forms}
 use Rattle.table.specs.Accepted.{Accepted}
-use Rattle.table.specs.declared.Reference.TheVariants.{To}
 use Rattle.table.specs.declared.Statement.{Statement}
 use Rattle.report.specs.Over.{joined_from}
 use Rattle.report.specs.Layout.{Layout, one_each}
@@ -26,8 +25,9 @@ use Rattle.report.specs.Rules.{Place}
 use Rattle.report.specs.Held.{entry}
 use Rattle.held_edges.specs.HeldEdges.{back_place, given_place, flow_place, every_place, place_count, met_place, edges_at, held_edges}
 use Rattle.sets.proofs.AppendLaws.{Room}
-use Rattle.lock_edges.specs.StoreLaws.{store, Appended}
-use Rattle.held_edges.specs.GoingLaws.{Ready, ready}
+use Rattle.lock_edges.specs.Grown.{Grown, edges_in}
+use Rattle.lock_edges.specs.declared.list.MetEdges.{MetEdges}
+use Rattle.held_edges.specs.GoingLaws.{filled}
 use Rattle.held_edges.specs.EdgePlaceLaws.{place_there, entry_there, handle_there, operands_of, next_there, leads_there, met_there}
 
 -- ---- how many
@@ -82,12 +82,12 @@ module _ (t : Table) (k : Layout) (acc : Accepted t) (fits : Fits t k) where
         subst There (sym r.2) (i, j, next_there t k acc fits c s v r.0 (next_goes s σ r.0 r.1))
 
     -- the edge to the first statement of what is named
-    entry_edge : (f q : ℕ) → f < place_count k → (view σ).names ≡ To q → There (plain f (entry t k (k.leads c s)))
+    entry_edge : (f q : ℕ) → f < place_count k → (view σ).names ≡ Some q → There (plain f (entry t k (k.leads c s)))
     entry_edge f q i n =
         let l : entry t k (k.leads c s) < k.statements = entry_there t k acc fits (k.leads c s) (leads_there t k acc fits c s v q n) in
         (i, i, omega arith)
 
-    call_there : (q : ℕ) → calls (view σ) ≡ To q → (e : Edge)
+    call_there : (q : ℕ) → calls (view σ) ≡ Some q → (e : Edge)
         → Memᴰ e (plain p (entry t k (k.leads c s)) ∷ map (λ (n : ℕ). record { from = back_place k (k.leads c s); also = given_place k (k.leads c s); to = k.statement_place c n }) (nexts s σ))
         → There e
     call_there q i e (Memᴰ.head j) = subst There (sym j) (entry_edge p q here (calls_names (view σ) i))
@@ -95,7 +95,7 @@ module _ (t : Table) (k : Layout) (acc : Accepted t) (fits : Fits t k) where
         let l : k.leads c s < k.copies = leads_there t k acc fits c s v q (calls_names (view σ) i) in
         nexts_there (back_place k (k.leads c s)) (given_place k (k.leads c s)) (omega arith) (omega arith) e m
 
-    give_there : (h : ℕ) → (view σ).gives ≡ To h → (e : Edge)
+    give_there : (h : ℕ) → (view σ).gives ≡ Some h → (e : Edge)
         → Memᴰ e (map (λ (n : ℕ). plain (flow_place k (k.handle_place c h)) (k.statement_place c n)) (nexts s σ)) → There e
     give_there h i e m =
         let l : k.handle_place c h < k.handles = handle_there t k acc fits c h v.there ((operands_of t k acc fits c s v).gives h i).own in
@@ -157,7 +157,8 @@ held_room t mode acc = record {
       record { from = omega (arith, r.0); also = omega (arith, r.1); to = omega (arith, r.2) };
 }
 
-pub held_ready : (f : List ℤ) (mode : Bool) → Accepted (table_of f) → {ends also ends' also' : List ℕ} {n : ℕ} → 3 * statements f + 1 ≤ length ends → 3 * statements f + 1 ≤ length also
-    → Appended (store ends also 0) (store ends' also' n) (held_edges (table_of f) (one_each (table_of f)) mode) → Ready ends' also' n (held_edges (table_of f) (one_each (table_of f)) mode)
-held_ready f mode acc {ends} {also} l m a =
-    ready (3 * length (table_of f).statements + 1) (omega (arith, statements_length f)) (omega (arith, statements_length f)) a (held_room (table_of f) mode acc)
+pub held_filled : (f : List ℤ) (mode : Bool) → Accepted (table_of f) → {x y : MetEdges} → x.used ≡ 0 → 3 * statements f + 1 ≤ length x.edges.now
+    → 3 * statements f + 1 ≤ length x.also.now → Grown x y (held_edges (table_of f) (one_each (table_of f)) mode)
+    → edges_in y ≡ held_edges (table_of f) (one_each (table_of f)) mode
+held_filled f mode acc e l m g =
+    filled (3 * length (table_of f).statements + 1) e (omega (arith, statements_length f)) (omega (arith, statements_length f)) g (held_room (table_of f) mode acc)

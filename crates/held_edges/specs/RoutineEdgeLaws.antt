@@ -1,5 +1,5 @@
 -- The edges of the statements of a table, from its numbers: what the code appends is what the definition says, and there is room. Assumes nothing.
-use Rattle.std.specs.Prelude.{ℕ, ◌+◌, ◌-◌, ◌≤◌, ◌<◌, ◌≡◌, Bool, ℤ, length, get_or}
+use Rattle.std.specs.Prelude.{ℕ, ◌+◌, ◌-◌, ◌≤◌, ◌<◌, ◌≡◌, Bool, ℤ, length, get_or, Option, Some, None}
 use Rattle.std.proofs.Math.Decide.{dec_lt}
 use Rattle.std.proofs.Math.Path.{refl, ap, ap₂}
 use Rattle.std.proofs.Common.{sym, ◌∙◌, subst, arith}
@@ -10,7 +10,7 @@ use Rattle.table.specs.Header.{handles, routines, statements, statement_line}
 use Rattle.table.specs.Fields.{field}
 use Rattle.table.specs.Routines.{first_statement}
 use Rattle.table.proofs.RoutineLaws.{ends_before}
-use Rattle.table.proofs.OperationLaws.{statement_in_lem}
+use Rattle.table.proofs.OperationLaws.{view_here}
 use Rattle.table.specs.Table.{Table, table_of, routine, statement, statement_in, InRoutine}
 use Rattle.table.specs.Extents.{first_statements}
 use Rattle.table.proofs.ExtentLaws as L
@@ -18,8 +18,6 @@ use Rattle.table.proofs.LookupLaws.{handles_length, routines_length, statements_
 use Rattle.table.specs.View.{view, in_mode}
 use Rattle.table.proofs.ViewLaws.{taken_takes}
 use Rattle.table.specs.Accepted.{Accepted}
-use Rattle.table.specs.declared.Reference.{Reference}
-use Rattle.table.specs.declared.Reference.TheVariants.{To, Nothing}
 use Rattle.report.specs.Layout.{named, one_each}
 use Rattle.report.proofs.OneEach.{copy_is, statement_below}
 use Rattle.report.specs.Over.{joined_from}
@@ -35,7 +33,7 @@ module _ (f : List ℤ) (first : List ℕ) (acc : Accepted (table_of f)) (first_
   abbrev t : Table
   t = table_of f
 
-  low_bases : Low (bases_of f)
+  pub low_bases : Low (bases_of f)
   low_bases =
       let a : statements f ≤ 512 = omega (arith, acc.statements_most, statements_length f) in
       let b : routines f ≤ 32 = omega (arith, acc.routines_most, routines_length f) in
@@ -61,12 +59,12 @@ module _ (f : List ℤ) (first : List ℕ) (acc : Accepted (table_of f)) (first_
     unfolding view_edges edges_at met_place nexts entry named one_each
     edges_of_lem mode = go (view (statement t s)).names refl (view (statement t s)).starting refl
       where
-        go : (r : Reference) → (view (statement t s)).names ≡ r → (b : Bool) → (view (statement t s)).starting ≡ b
+        go : (r : Option ℕ) → (view (statement t s)).names ≡ r → (b : Bool) → (view (statement t s)).starting ≡ b
             → view_edges (bases_of f) first s c (in_mode mode (view (statement t s))) ≡ edges_at t (one_each t) mode s c s (statement t s)
-        go (To q) e true j = rw (e, j, first_statement_lem q ((acc.operands c s l i).passes q e).there) (simp (handles_length f, routines_length f, statements_length f))
-        go (To q) e false j = rw (e, j, first_statement_lem q ((acc.operands c s l i).passes q e).there) (simp (handles_length f, routines_length f, statements_length f))
-        go Nothing e true j = rw (e, j) (simp (handles_length f, routines_length f, statements_length f))
-        go Nothing e false j = rw (e, j) (simp (handles_length f, routines_length f, statements_length f))
+        go (Some q) e true j = rw (e, j, first_statement_lem q ((acc.operands c s l i).passes q e).there) (simp (handles_length f, routines_length f, statements_length f))
+        go (Some q) e false j = rw (e, j, first_statement_lem q ((acc.operands c s l i).passes q e).there) (simp (handles_length f, routines_length f, statements_length f))
+        go None e true j = rw (e, j) (simp (handles_length f, routines_length f, statements_length f))
+        go None e false j = rw (e, j) (simp (handles_length f, routines_length f, statements_length f))
 
     pub edges_are : (mode : Bool) → view_edges (bases_of f) first s c (in_mode mode (view (statement t s))) ≡ part_of mode f s
     edges_are mode = edges_of_lem mode ∙ ap {B = List Edge} (λ (d : ℕ). edges_at t (one_each t) mode s d s (statement t s)) (sym (copy_is t acc c s l i))
@@ -76,15 +74,18 @@ module _ (f : List ℤ) (first : List ℕ) (acc : Accepted (table_of f)) (first_
   pub few_routines : routines f ≤ 32
   few_routines = omega (arith, acc.routines_most, routines_length f)
 
-  pub first_at : (c : ℕ) → c ≤ routines f → get_or first c 0 ≡ first_statement f c
+  first_at : (c : ℕ) → c ≤ routines f → get_or first c 0 ≡ first_statement f c
   first_at c l = L.first_at f (omega (arith, acc.routines_most, routines_length f)) first c first_is l
 
-  pub first_grows_at : (c : ℕ) → c < routines f → get_or first c 0 ≤ get_or first (c + 1) 0
-  first_grows_at c l = omega (arith, first_at c (omega arith), first_at (c + 1) (omega arith), (routine_says f c l).next)
+  pub begins : {c r : ℕ} → c ≤ routines f → r ≡ get_or first c 0 → r ≡ first_statement f c
+  begins {c} l e = e ∙ first_at c l
 
-  pub first_zero : get_or first 0 0 ≡ 0
+  pub first_grows : (c : ℕ) → c < routines f → first_statement f c ≤ first_statement f (c + 1)
+  first_grows c l = omega (arith, (routine_says f c l).next)
+
+  pub first_zero : first_statement f 0 ≡ 0
   unfolding first_statement
-  first_zero = first_at 0 (omega arith)
+  first_zero = refl
 
   -- the last routine ends with the last statement
   sum : first_statement f (routines f) ≡ statements f
@@ -109,36 +110,27 @@ module _ (f : List ℤ) (first : List ℕ) (acc : Accepted (table_of f)) (first_
           absurd (omega (arith, i.1, ends_before f o.0 (routines f) b))
       go u (no d) = omega arith
 
-  pub first_end : (c : ℕ) → c ≡ routines f → get_or first c 0 ≡ statements f
-  first_end c e = ap (λ (r : ℕ). get_or first r 0) e ∙ first_at (routines f) (omega arith) ∙ sum
+  pub first_end : (c : ℕ) → c ≡ routines f → first_statement f c ≡ statements f
+  first_end c e = ap (first_statement f) e ∙ sum
 
-  module _ (c s base : ℕ) (l : c < routines f) (low : get_or first c 0 ≤ s) (high : s < get_or first (c + 1) 0) (base_is : base ≡ statement_line f 0) where
-    inside : InRoutine t c s
-    inside = in_routine_lem f c s l (omega (arith, first_at c (omega arith))) (omega (arith, first_at (c + 1) (omega arith)))
+  pub in_range : {c s from end : ℕ} → c < routines f → from ≡ get_or first c 0 → end ≡ get_or first (c + 1) 0 → from ≤ s → s < end → InRoutine t c s
+  in_range {c} {s} l from_is end_is low high =
+      in_routine_lem f c s l (omega (arith, begins {c = c} (omega arith) from_is)) (omega (arith, begins {c = c + 1} (omega arith) end_is))
 
+  module _ (c s : ℕ) (l : c < routines f) (inside : InRoutine t c s) where
     there : c < length t.routines
     there = omega (arith, routines_length f)
 
-    statement_there : s < length t.statements
-    statement_there = statement_below t acc c s there inside
+    pub statement_there : s < statements f
+    statement_there = omega (arith, statement_below t acc c s there inside, statements_length f)
 
-    -- the view in its line is the statement's
-    view_here : view (statement_in f (base + s) (field f (base + s) 1)) ≡ view (statement t s)
-    view_here =
-        let e : base + s ≡ statement_line f s = omega arith in
-        ap (λ (n : ℕ). view (statement_in f n (field f n 1))) e ∙ ap view (sym (statement_in_lem f s (omega (arith, statement_there, statements_length f))))
+    module _ (mode : Bool) {v : View} (is : v ≡ in_mode mode (view (statement t s))) where
+      pub fits_here : Fit v
+      fits_here = subst Fit (sym is) (fit c s there inside mode)
 
-    pub small_here : s < 512
-    small_here = omega (arith, statement_there, acc.statements_most)
-
-    pub fits_here : (mode : Bool) {b : Bases} {v : View} → b ≡ bases_of f → v ≡ in_mode mode (view (statement_in f (base + s) (field f (base + s) 1))) → (s < 512) × (c < 32) × Low b × Fit v
-    fits_here mode {b} {v} e i =
-        (small_here, omega (arith, there, acc.routines_most), subst Low (sym e) low_bases, subst Fit (sym (i ∙ ap (in_mode mode) view_here)) (fit c s there inside mode))
-
-    pub part_here : (mode : Bool) {b : Bases} {v : View} → b ≡ bases_of f → v ≡ in_mode mode (view (statement_in f (base + s) (field f (base + s) 1)))
-        → view_edges b first s c v ≡ part_of mode f s
-    part_here mode {b} {v} e i =
-        ap {B = List Edge} (λ (x : Bases). view_edges x first s c v) e ∙ ap {B = List Edge} (view_edges (bases_of f) first s c) (i ∙ ap (in_mode mode) view_here) ∙ edges_are c s there inside mode
+      pub part_here : {b : Bases} → b ≡ bases_of f → view_edges b first s c v ≡ part_of mode f s
+      part_here {b} e =
+          ap {B = List Edge} (λ (x : Bases). view_edges x first s c v) e ∙ ap {B = List Edge} (view_edges (bases_of f) first s c) is ∙ edges_are c s there inside mode
 
   -- all edges, that to routine 0 first
   main_edge : {y : ℕ} → y ≡ get_or first 0 0 → edge_from (origin (bases_of f).every (bases_of f).every) y ≡ plain (every_place (one_each t)) (entry t (one_each t) (one_each t).first)
@@ -151,3 +143,9 @@ module _ (f : List ℤ) (first : List ℕ) (acc : Accepted (table_of f)) (first_
   all_edges mode {b} {y} i e =
       ap {B = List Edge} (λ (x : Bases). edge_from (origin x.every x.every) y ∷ joined_from 0 (statements f) (part_of mode f)) i
       ∙ ap₂ {C = List Edge} (λ (x : Edge) (n : ℕ). x ∷ joined_from 0 n (part_of mode f)) (main_edge e) (sym (statements_length f))
+
+-- a view by its line: `f` are the numbers that a program holds, and `g` those that its contracts speak of
+pub viewed : {f g : List ℤ} → f ≡ g → {line s : ℕ} → line ≡ statement_line g s → s < statements g → (mode : Bool) {v : View}
+    → v ≡ in_mode mode (view (statement_in f line (field f line 1))) → v ≡ in_mode mode (view (statement (table_of g) s))
+viewed {g} e {line} {s} at b mode {v} h =
+    subst (λ (k : List ℤ). v ≡ in_mode mode (view (statement_in k line (field k line 1)))) e h ∙ ap (in_mode mode) (view_here g s b at refl)

@@ -1,2 +1,3 @@
 pub mod InitialLaws
+pub mod InitialSets
 pub mod UnionLaws

@@ -1,33 +1,22 @@
 -- What the loops of the printer need: bytes copied one after the other, digits written from the last, fields from the first.
 -- Assumes nothing.
-use Rattle.std.specs.Prelude.{◌≡◌, refl, ℕ, zero, suc, ◌+◌, ◌*◌, ◌-◌, ◌/◌, ◌%◌, ◌≤◌, ◌<◌, ◌^◌, true, false, List, [], ◌∷◌, ◌++◌, ℤ, pos, negsuc, nat_abs, ◌-ℤ◌, length, get_or, take, drop, set, replicate}
-use Rattle.std.proofs.Common.{sym, ap, ◌∙◌, arith, add-one, zero-add, append_assoc, append-nil, length-append, length-set, length-take, length-drop, drop_of_length-le, drop-cons, drop-drop, take_all, take_at, drop_at, ltb-true, ltb-false, lt-ltb, le-ltb, le-leb}
+use Rattle.std.specs.Prelude.{◌≡◌, refl, ℕ, zero, suc, ◌+◌, ◌*◌, ◌-◌, ◌/◌, ◌%◌, ◌≤◌, ◌<◌, ◌^◌, Bool, true, false, ◌&&◌, List, [], ◌∷◌, ◌++◌, ℤ, pos, negsuc, nat_abs, length, get_or, take, drop, set, replicate, Ok}
+use Rattle.std.specs.List.{list_all}
+use Rattle.std.proofs.Common.{sym, ap, ◌∙◌, arith, add-one, zero-add, append_assoc, append-nil, length-append, length-set, length-take, length-drop, drop_of_length-le, drop-cons, drop-drop, take_all, drop_at, ltb-true, le-leb}
 use Rattle.std.proofs.Math.Nat.{pow-succ'}
 use Rattle.std.specs.Int.Signed.{lt_z}
-use Rattle.std.proofs.lemmas.List.{get_or-replicate, length-replicate, set-append_left, set_split}
-use Rattle.std.proofs.Math.Seq.{paste, paste-zero, paste-suc, append_snoc}
+use Rattle.std.proofs.lemmas.List.{length-replicate, set-append_left, set_split}
+use Rattle.std.proofs.Math.Seq.{paste, append_snoc}
+use Rattle.std.proofs.lemmas.Slice.{put_mid-paste}
+use borrow.Rule.Slice.PartMut.{put_mid}
 use Rattle.std.proofs.lemmas.List.Edits.{length-paste, take-paste, drop-paste}
-use Rattle.std.proofs.lemmas.Bool.{lt-leb}
 use Rattle.fields.specs.Field.{in_field, decimal_text, field_text}
 use Rattle.fields.specs.FieldLaws.{text_last, text_more, text_width, field_text_lem, field_text_length, signed_pos, signed_negsuc}
 use Rattle.lines.specs.Line.{all_in_field, line_text}
 use Rattle.lines.proofs.LineLaws.{all_none, all_good, all_bad, text_end, text_cons, line_text_length}
 use Rattle.line_printer.specs.Print.{print_answer, printed_at}
-use Rattle.line_printer.specs.declared.Printed as P
 
 -- the range and the sign, from tests on signed numbers
-
-pub range_low : (z : ℤ) → lt_z z (negsuc 99998) ≡ true → in_field z ≡ false
-range_low (pos n) h = let u : ◌≡◌ {A = ℕ} 0 1 = cc in absurd (omega arith)
-range_low (negsuc n) h = le-ltb n 99999 (omega (arith, ltb-true 99998 n h))
-
-pub range_high : (z : ℤ) → lt_z (pos 999999) z ≡ true → in_field z ≡ false
-range_high (pos n) h = le-ltb n 1000000 (omega (arith, ltb-true 999999 n h))
-range_high (negsuc n) h = let u : ◌≡◌ {A = ℕ} 0 1 = cc in absurd (omega arith)
-
-pub range_between : (z : ℤ) → lt_z z (negsuc 99998) ≡ false → lt_z (pos 999999) z ≡ false → in_field z ≡ true
-range_between (pos n) h k = lt-ltb n 1000000 (omega (arith, ltb-false 999999 n k))
-range_between (negsuc n) h k = lt-ltb n 99999 (omega (arith, ltb-false 99998 n h))
 
 pub abs_small : (z : ℤ) → in_field z ≡ true → nat_abs z < 1000000
 abs_small (pos n) h = ltb-true n 1000000 h
@@ -37,65 +26,14 @@ pub abs_less : (z : ℤ) → in_field z ≡ true → lt_z z (pos 0) ≡ true →
 abs_less (pos n) h k = absurd (omega (arith, ltb-true n 0 k))
 abs_less (negsuc n) h k = omega (arith, ltb-true n 99999 h)
 
-pub minus_abs : (z : ℤ) → lt_z z (pos 0) ≡ true → (pos 0 -ℤ z) ≡ pos (nat_abs z)
-minus_abs (pos n) k = absurd (omega (arith, ltb-true n 0 k))
-minus_abs (negsuc n) k = ap pos (zero-add (suc n))
-
-pub plus_abs : (z : ℤ) → lt_z z (pos 0) ≡ false → z ≡ pos (nat_abs z)
-plus_abs (pos n) k = refl
-plus_abs (negsuc n) k = let u : ◌≡◌ {A = ℕ} 0 1 = cc in absurd (omega arith)
-
 -- numbers in the range
-
--- the numbers before place i are in the range
-pub record InRange (zs : List ℤ) (i : ℕ) : Type 0 where
-  pub few : i ≤ 8
-  pub sized : length zs ≡ 8
-  pub left : all_in_field zs ≡ all_in_field (drop i zs)
-
-pub range_next : {zs : List ℤ} {i : ℕ} → InRange zs i → i < 8 → in_field (get_or zs i (pos 0)) ≡ true → InRange zs (i + 1)
-range_next {zs} {i} r h e = record {
-  few = omega arith;
-  sized = r.sized;
-  left = r.left ∙ rw (add-one, drop-cons zs i (pos 0) (omega (arith, r.sized))) (all_good _ _ e);
-}
-
-pub range_stop : {zs : List ℤ} {i : ℕ} → InRange zs i → i < 8 → in_field (get_or zs i (pos 0)) ≡ false → all_in_field zs ≡ false
-range_stop {zs} {i} r h e = r.left ∙ rw (drop-cons zs i (pos 0) (omega (arith, r.sized))) (all_bad _ _ e)
-
-pub range_done : {zs : List ℤ} {i : ℕ} → InRange zs i → 8 ≤ i → all_in_field zs ≡ true
-range_done {zs} {i} r h = r.left ∙ rw (drop_of_length-le zs {i = i} (omega (arith, r.sized))) all_none
-
--- bytes copied
-
--- the first i of the count bytes s stand in a from `at` on; all other places are as in a₀
-pub record Copied (a₀ : List ℕ) (at : ℕ) (s : List ℕ) (count i : ℕ) (a : List ℕ) : Type 0 where
-  pub few : i ≤ count
-  pub room : at + count ≤ length a₀
-  pub sized : length s ≡ count
-  pub is : a ≡ paste a₀ at s i
-
-pub copied_start : (a₀ : List ℕ) (at : ℕ) (s : List ℕ) (count : ℕ) → at + count ≤ length a₀ → length s ≡ count → Copied a₀ at s count 0 a₀
-copied_start a₀ at s count h e = record { few = omega arith; room = h; sized = e; is = paste-zero a₀ at s }
-
-module _ {a₀ : List ℕ} {at : ℕ} {s : List ℕ} {count i : ℕ} {a : List ℕ} (c : Copied a₀ at s count i a) where
-  pub copied_next : i < count → Copied a₀ at s count (i + 1) (set a (at + i) (get_or s i 0))
-  copied_next h = record {
-    few = omega arith;
-    room = c.room;
-    sized = c.sized;
-    is = rw (c.is, add-one) (paste-suc a₀ at s i 0 (omega (arith, c.room)) (omega (arith, c.sized)));
-  }
-
-  pub copied_length : length a ≡ length a₀
-  copied_length = ap length c.is ∙ length-paste a₀ at s i (omega (arith, c.room, c.few)) (omega (arith, c.sized, c.few))
-
-  pub copied_done : count ≤ i → a ≡ paste a₀ at s count
-  copied_done h = let e : i ≡ count = omega (arith, c.few) in c.is ∙ rw e
-
--- spaces, copied from six of them
-pub spaces_next : {a₀ : List ℕ} {at i : ℕ} {a : List ℕ} → Copied a₀ at (replicate 6 32) 6 i a → i < 6 → Copied a₀ at (replicate 6 32) 6 (i + 1) (set a (at + i) 32)
-spaces_next {i = i} c h = rw (get_or-replicate {A = ℕ} 6 i 32 0 h) at (copied_next c h)
+pub all_are_in_field : (zs : List ℤ) → list_all in_field zs ≡ all_in_field zs
+all_are_in_field [] = sym all_none
+all_are_in_field (z ∷ zs) = go (in_field z) refl (all_are_in_field zs)
+  where
+    go : (b : Bool) → in_field z ≡ b → list_all in_field zs ≡ all_in_field zs → (in_field z && list_all in_field zs) ≡ all_in_field (z ∷ zs)
+    go true e ih = rw e (ih ∙ sym (all_good z zs e))
+    go false e ih = rw (e, all_bad z zs e)
 
 -- digits written from the last
 
@@ -197,38 +135,32 @@ set_paste a at cs k x h six l =
     let s : set (take at a ++ cs) (at + k) x ≡ take at a ++ set cs k x = rw p at (set_behind (take at a) cs k x) in
     rw (take_all 6 cs (omega arith), take_all 6 (set cs k x) (rw length-set (omega arith)), set-append_left (take at a ++ cs) (drop (at + 6) a) (at + k) x w, s)
 
--- six characters written over six others
-pub paste_over : (a : List ℕ) (at : ℕ) (s t b : List ℕ) → at + 6 ≤ length a → length s ≡ 6 → b ≡ paste a at s 6 → paste b at t 6 ≡ paste a at t 6
-paste_over a at s t b h six e =
-    let p : length (take at a) ≡ at = rw length-take (omega arith) in
-    let f : take at b ≡ take at a = ap (take at) e ∙ rw append_assoc (take_at (take at a) (take 6 s ++ drop (at + 6) a) at p) in
-    let g : drop (at + 6) b ≡ drop (at + 6) a = ap (drop (at + 6)) e ∙ drop-paste a at s 6 (omega arith) (omega arith) in
-    rw (f, g)
-
 -- six characters stand in a from `at` on, all other places are as in a₀; m, and the digits behind place k, are the digits of m₀
 pub record Writing (a₀ : List ℕ) (at m₀ : ℕ) (a : List ℕ) (m k : ℕ) : Type 0 where
   pub chars : List ℕ
   pub room : at + 6 ≤ length a₀
+  pub few : k ≤ 5
+  pub sized : length a ≡ length a₀
   pub filling : Filling m₀ chars m k
   pub is : a ≡ paste a₀ at chars 6
 
-pub writing_start : (a : List ℕ) (at : ℕ) (b : List ℕ) (m : ℕ) → at + 6 ≤ length a → b ≡ paste a at (replicate 6 32) 6 → m < 1000000 → Writing b at m b m 5
-writing_start a at b m h e s = record {
-  chars = replicate 6 32;
-  room = rw (ap length e ∙ length-paste a at (replicate 6 32) 6 h (omega arith)) h;
-  filling = filling_start m s;
-  is = e ∙ sym (paste_over a at (replicate 6 32) (replicate 6 32) b h refl e);
-}
+pub writing_start : (a : List ℕ) (at size : ℕ) (spaces : List ℕ) (m : ℕ) → at + 6 ≤ length a → size ≡ 6 → spaces ≡ replicate (length (take size (drop at a))) 32 → m < 1000000
+    → Writing a at m (put_mid at size a spaces) m 5
+writing_start a at size spaces m h six e s =
+    let n : length (take size (drop at a)) ≡ 6 = rw (length-take, length-drop, six) (omega arith) in
+    let p : put_mid at size a spaces ≡ paste a at (replicate 6 32) 6 = put_mid-paste at size a spaces (replicate 6 32) 6 (e ∙ rw n) (sym six) refl in
+    record {
+      chars = replicate 6 32;
+      room = h;
+      few = omega arith;
+      sized = ap length p ∙ length-paste a at (replicate 6 32) 6 h (omega arith);
+      filling = filling_start m s;
+      is = p;
+    }
 
 module _ {a₀ : List ℕ} {at m₀ : ℕ} {a : List ℕ} {m k : ℕ} (w : Writing a₀ at m₀ a m k) where
   writing_set : (x : ℕ) → set a (at + k) x ≡ paste a₀ at (set w.chars k x) 6
   writing_set x = rw w.is (set_paste a₀ at w.chars k x (omega (arith, w.room)) w.filling.sized (omega (arith, w.filling.room)))
-
-  pub writing_room : k ≤ 5
-  writing_room = w.filling.room
-
-  pub writing_length : length a ≡ length a₀
-  writing_length = ap length w.is ∙ length-paste a₀ at w.chars 6 w.room (omega (arith, w.filling.sized))
 
   pub writing_more : 10 ≤ m → 1 ≤ k
   writing_more h = filling_more w.filling h
@@ -237,23 +169,26 @@ module _ {a₀ : List ℕ} {at m₀ : ℕ} {a : List ℕ} {m k : ℕ} (w : Writi
   writing_next h = record {
     chars = set w.chars k (48 + m % 10);
     room = w.room;
+    few = omega (arith, w.few);
+    sized = length-set a (at + k) (48 + m % 10) ∙ w.sized;
     filling = filling_next w.filling h;
     is = writing_set (48 + m % 10);
   }
 
-  pub writing_minus_room : m < 10 → m₀ < 100000 → 1 ≤ k
-  writing_minus_room h l = room_minus w.filling h l
+  module _ (h : m < 10) (z : ℤ) (e : m₀ ≡ nat_abs z) where
+    pub writing_plus : lt_z z (pos 0) ≡ false → set a (at + k) (48 + m) ≡ paste a₀ at (field_text z) 6
+    writing_plus g = writing_set (48 + m) ∙ rw (filled_field w.filling h z e g)
 
-  pub writing_plus : m < 10 → (z : ℤ) → m₀ ≡ nat_abs z → lt_z z (pos 0) ≡ false → set a (at + k) (48 + m) ≡ paste a₀ at (field_text z) 6
-  writing_plus h z e g = writing_set (48 + m) ∙ rw (filled_field w.filling h z e g)
+    module _ (r : in_field z ≡ true) (g : lt_z z (pos 0) ≡ true) where
+      pub writing_minus_room : 1 ≤ k
+      writing_minus_room = room_minus w.filling h (rw e (abs_less z r g))
 
-  pub writing_minus : m < 10 → (z : ℤ) → m₀ ≡ nat_abs z → in_field z ≡ true → lt_z z (pos 0) ≡ true
-      → set (set a (at + k) (48 + m)) (at + (k - 1)) 45 ≡ paste a₀ at (field_text z) 6
-  writing_minus h z e r g =
-      let s : length (set w.chars k (48 + m)) ≡ 6 = length-set w.chars k (48 + m) ∙ w.filling.sized in
-      rw (writing_set (48 + m))
-      (set_paste a₀ at (set w.chars k (48 + m)) (k - 1) 45 (omega (arith, w.room)) s (omega (arith, w.filling.room))
-      ∙ rw (filled_minus_field w.filling h z e r g))
+      pub writing_minus : set (set a (at + k) (48 + m)) (at + (k - 1)) 45 ≡ paste a₀ at (field_text z) 6
+      writing_minus =
+          let s : length (set w.chars k (48 + m)) ≡ 6 = length-set w.chars k (48 + m) ∙ w.filling.sized in
+          rw (writing_set (48 + m))
+          (set_paste a₀ at (set w.chars k (48 + m)) (k - 1) 45 (omega (arith, w.room)) s (omega (arith, w.filling.room))
+          ∙ rw (filled_minus_field w.filling h z e r g))
 
 -- fields written from the first
 
@@ -297,14 +232,6 @@ lining_done {a₀} {zs} {i} {a} l h g =
 
 -- the answers of the printer
 
-pub printed_no_field : (out : List ℕ) (at : ℕ) (zs : List ℤ) → all_in_field zs ≡ false
-    → (P.Printed.NoField ≡ print_answer out at zs) × (out ≡ printed_at out at zs)
-printed_no_field out at zs e = (rw e, rw e)
-
-pub printed_no_room : (out : List ℕ) (at : ℕ) (zs : List ℤ) → all_in_field zs ≡ true → length out < at + 49
-    → (P.Printed.NoRoom ≡ print_answer out at zs) × (out ≡ printed_at out at zs)
-printed_no_room out at zs e h = (rw (e, lt-leb (at + 49) (length out) h), rw (e, lt-leb (at + 49) (length out) h))
-
 -- the part from `at` on, with the line at its start, put back into the buffer
 part_back : (out : List ℕ) (at : ℕ) (line : List ℕ) → at + 49 ≤ length out → length line ≡ 49
     → take at out ++ (paste (take (length out - at) (drop at out)) 0 line 49 ++ drop (length out - at) (drop at out)) ≡ take at out ++ line ++ drop (at + 49) out
@@ -313,7 +240,7 @@ part_back out at line h e =
     rw (take_all 49 line (omega arith), take_all (length out - at) (drop at out) l, drop_of_length-le (drop at out) {i = length out - at} l, append-nil, drop-drop) (sym (append_assoc (take at out) line (drop (at + 49) out)))
 
 pub printed_whole : (out : List ℕ) (at : ℕ) (zs : List ℤ) → all_in_field zs ≡ true → length zs ≡ 8 → at + 49 ≤ length out
-    → (P.Printed.Whole ≡ print_answer out at zs)
+    → (Ok tt ≡ print_answer out at zs)
     × (take at out ++ (paste (take (length out - at) (drop at out)) 0 (line_text zs) 49 ++ drop (length out - at) (drop at out)) ≡ printed_at out at zs)
 printed_whole out at zs e l h =
     let n : length (line_text zs) ≡ 49 = line_text_length zs e ∙ rw l in

@@ -1,15 +1,14 @@
 #![tactic(auto)]
 // A line of a table text, printed: eight numbers as fields of six characters and a line feed, into a lent buffer.
-ghost use Rattle.std.specs.Prelude.{◌≡◌, true, ◌+◌, ◌≤◌, nat_abs, length, replicate};
+ghost use Rattle.std.specs.Prelude.{◌≡◌, true, ◌+◌, ◌≤◌, length};
 ghost use Rattle.std.proofs.Math.Seq.{paste};
 ghost use Rattle.fields.specs.Field.{in_field, field_text};
 ghost use Rattle.lines.specs.Line.{all_in_field, line_text};
 ghost use Rattle.line_printer.specs.Print.{print_answer, printed_at};
 
-// What printing a line did: wrote it whole, or nothing.
-#[derive(Clone, Copy)]
-pub enum Printed {
-    Whole,
+// Why a line is not printed: it does not fit, or one of its numbers is no field.
+#[derive(Clone, Copy, Debug, PartialEq, Eq)]
+pub enum PrintError {
     NoRoom,
     NoField,
 }
@@ -18,50 +17,14 @@ pub enum Printed {
 fn in_range(n: i32) -> bool
     ensures { result ≡ in_field n }
 {
-    if n < -99999 {
-        return false;
-    }
-    if 999999 < n {
-        return false;
-    }
-    true
+    (-99_999..=999_999).contains(&n)
 }
 
 // Whether every number is in the range of a field.
 fn all_in_range(numbers: [i32; 8]) -> bool
     ensures { result ≡ all_in_field numbers }
 {
-    let mut i = 0;
-    while i < 8 {
-        if !in_range(numbers[i]) {
-            return false;
-        }
-        i += 1;
-    }
-    true
-}
-
-// A number without its sign.
-pub fn magnitude(n: i32) -> u32
-    ensures { result ≡ nat_abs n }
-{
-    let wide = n as i64;
-    if wide < 0 {
-        return (0 - wide) as u32;
-    }
-    wide as u32
-}
-
-// Writes six spaces to a place; all other places stay.
-fn put_spaces(part: &mut [u8], at: usize)
-    requires { at + 6 ≤ length part.old }
-    ensures { part.new ≡ paste part.old at (replicate 6 32) 6 }
-{
-    let mut i = 0;
-    while i < 6 {
-        part[at + i] = b' ';
-        i += 1;
-    }
+    numbers.iter().all(|n| in_range(*n))
 }
 
 // Writes the six characters of a number to a place; all other places stay.
@@ -69,9 +32,10 @@ fn put_number(part: &mut [u8], at: usize, n: i32)
     requires { (in_field n ≡ true) × (at + 6 ≤ length part.old) }
     ensures { part.new ≡ paste part.old at (field_text n) 6 }
 {
-    put_spaces(part, at);
-    let mut m = magnitude(n);
+    part[at..at + 6].fill(b' ');
+    let mut m = n.unsigned_abs();
     let mut k: usize = 5;
+    // By `while`: how many digits there are is not known before.
     while 10 <= m {
         part[at + k] = b'0' + (m % 10) as u8;
         m = m / 10;
@@ -88,29 +52,27 @@ fn put_line(part: &mut [u8], numbers: [i32; 8])
     requires { (all_in_field numbers ≡ true) × (49 ≤ length part.old) }
     ensures { part.new ≡ paste part.old 0 (line_text numbers) 49 }
 {
-    let mut i = 0;
-    while i < 8 {
+    for i in 0..8 {
         put_number(part, 6 * i, numbers[i]);
-        i += 1;
     }
     part[48] = b'\n';
 }
 
 // Prints eight numbers as a line into `out` from `at` on; the other places keep their contents. Where a number is out of range the
 // answer is NoField, else where the line does not fit NoRoom, and then no byte is written.
-pub fn print_line(out: &mut [u8], at: usize, numbers: [i32; 8]) -> Printed
+pub fn print_line(out: &mut [u8], at: usize, numbers: [i32; 8]) -> Result<(), PrintError>
     ensures answer { result ≡ print_answer out.old at numbers }
     ensures buffer { out.new ≡ printed_at out.old at numbers }
 {
     if !all_in_range(numbers) {
-        return Printed::NoField;
+        return Err(PrintError::NoField);
     }
     if out.len() < 49 {
-        return Printed::NoRoom;
+        return Err(PrintError::NoRoom);
     }
     if out.len() - 49 < at {
-        return Printed::NoRoom;
+        return Err(PrintError::NoRoom);
     }
     put_line(&mut out[at..], numbers);
-    Printed::Whole
+    Ok(())
 }

@@ -1,18 +1,21 @@
 -- What the loops over fields and lines need of the definitions: pieces one after the other, and what is left to read.
 -- Assumes nothing.
-use Rattle.std.specs.Prelude.{◌≡◌, ℕ, zero, suc, ◌+◌, ◌*◌, ◌-◌, ◌≤◌, ◌<◌, Bool, true, false, ◌&&◌, List, [], ◌∷◌, ◌++◌, eqb, ℤ, pos, length, get_or, take, drop, set, replicate}
+use Rattle.std.specs.Prelude.{◌≡◌, ℕ, zero, suc, ◌+◌, ◌*◌, ◌-◌, ◌≤◌, ◌<◌, Bool, true, false, List, [], ◌∷◌, ◌++◌, eqb, ℤ, pos, length, get_or, take, drop, set, replicate}
 use Rattle.std.proofs.Math.Path.{refl}
-use Rattle.std.proofs.Common.{sym, ap, ◌∙◌, arith, add-one, mul-suc, mul-zero, zero-add, add-zero, append_assoc, append-nil, length-append, length-set, length-take, length-drop, drop_of_length-le, drop-cons, drop-drop, take-take, take_all, take-suc-set, get_or-append-add, get_or-take, get_or-drop, eq-eqb, ne_eqb, eqb-true}
+use Rattle.std.proofs.Common.{sym, ap, ◌∙◌, arith, add-one, mul-suc, mul-zero, zero-add, add-zero, append_assoc, append-nil, length-append, length-set, length-take, length-drop, drop_of_length-le, drop-cons, drop-drop, take-take, take_all, take-suc-set, get_or-append-add, get_or-take, get_or-drop, eq-eqb, eqb-true}
 use Rattle.std.proofs.Math.Nat.{sub-zero, zero-sub, suc-sub-suc}
 use Rattle.std.proofs.Math.Option.{Option, none, some}
 use Rattle.std.proofs.lemmas.List.{length-replicate}
+use Rattle.std.proofs.lemmas.Slice.{put_mid-paste}
+use borrow.Rule.Slice.PartMut.{put_mid}
+use Rattle.std.proofs.lemmas.List.Edits.{length-paste, take-paste}
 use Rattle.std.proofs.Math.ListN.{get_or-append}
 use Rattle.fields.specs.Field.{field_of}
-use Rattle.fields.specs.QuickFields.{ZeroField, both}
-use Rattle.lines.specs.Line.{end_of, joined, fields_of, line_of, line_at, or_zeros, good_line, line_count, first_bad, line_numbers, pieces, numbers_of, padded, bad_answer}
-use Rattle.lines.specs.declared.FirstBad as B
+use Rattle.lines.specs.Line.{end_of, joined, fields_of, line_of, line_at, or_zeros, good_line, line_count, first_bad, line_numbers, pieces, numbers_of, padded}
 use Rattle.lines.proofs.LowestLaws.{Passed, passed_start, passed_next, passed_stop, passed_done}
-use Rattle.lines.specs.LineLoops.{Putting, Reading, ZeroTail, field_number, first_fields, prefixed, three}
+use Rattle.lines.specs.LineLoops.{Reading, Three, ZeroTail, field_number, first_fields, prefixed}
+-- for the crates above, which do not use `fields`
+pub use Rattle.fields.specs.FieldLoops.{told_some, told_none}
 
 -- pieces, one after the other
 
@@ -123,57 +126,58 @@ prefixed_joined : (zs : List ℤ) (z : ℤ) (o : Option (List ℤ)) → prefixed
 prefixed_joined zs z none = refl
 prefixed_joined zs z (some ws) = ap {B = Option (List ℤ)} some (sym (append_assoc zs (z ∷ []) ws))
 
-pub reading_start : (done : List ℤ) (base size : ℕ) (b : List ℕ) (numbers : List ℤ) → length numbers ≡ size → take base numbers ≡ done → Reading done base size b 0 numbers
-reading_start done base size b numbers l e = record {
+pub reading_start : (b : List ℕ) (numbers : List ℤ) → length numbers ≡ 8 → Reading b 0 numbers
+reading_start b numbers l = record {
   few = omega arith;
   sized = l;
-  kept = rw (pieces_none, append-nil, add-zero) e;
-  left = rw (pieces_none) (prefixed_nil (line_of b));
+  kept = rw pieces_none;
+  left = rw pieces_none (prefixed_nil (line_of b));
 }
 
-module _ {done : List ℤ} {base size : ℕ} {b : List ℕ} {j : ℕ} {numbers : List ℤ} (r : Reading done base size b j numbers) where
-  split : j < 8 → fields_of (8 - j) (drop (6 * j) b) ≡ joined (field_of (take 6 (drop (6 * j) b))) (fields_of (8 - suc j) (drop (6 * suc j) b))
-  split h =
+module _ {b : List ℕ} {j : ℕ} {numbers : List ℤ} (r : Reading b j numbers) (h : j < 8) where
+  split : fields_of (8 - j) (drop (6 * j) b) ≡ joined (field_of (take 6 (drop (6 * j) b))) (fields_of (8 - suc j) (drop (6 * suc j) b))
+  split =
       let k : 8 - j ≡ suc (8 - suc j) = omega arith in
       let m : 6 * suc j ≡ 6 * j + 6 = omega arith in
       rw (k, m, ← drop-drop) (fields_cons (8 - suc j) (drop (6 * j) b))
 
-  pub reading_next : (z : ℤ) → j < 8 → base + j < size → field_of (take 6 (drop (6 * j) b)) ≡ some z
-      → Reading done base size b (j + 1) (set numbers (base + j) z)
-  reading_next z h w e =
+  pub reading_next : (z : ℤ) → field_of (take 6 (drop (6 * j) b)) ≡ some z → Reading b (j + 1) (set numbers j z)
+  reading_next z e =
       let p : first_fields (suc j) b ≡ first_fields j b ++ z ∷ [] = pieces_next field_number 6 j b ∙ rw e in
-      let k : base + suc j ≡ suc (base + j) = omega arith in
       rw add-one (record {
         few = h;
-        sized = length-set numbers (base + j) z ∙ r.sized;
-        kept = rw (k, take-suc-set numbers (base + j) z (omega (arith, r.sized)), r.kept, p, append_assoc);
-        left = r.left ∙ rw (split h, e, p) (prefixed_joined (first_fields j b) z (fields_of (8 - suc j) (drop (6 * suc j) b)));
+        sized = length-set numbers j z ∙ r.sized;
+        kept = rw (take-suc-set numbers j z (omega (arith, r.sized)), r.kept, p);
+        left = r.left ∙ rw (split, e, p) (prefixed_joined (first_fields j b) z (fields_of (8 - suc j) (drop (6 * suc j) b)));
       })
 
-  pub reading_bad : j < 8 → field_of (take 6 (drop (6 * j) b)) ≡ none → line_of b ≡ none
-  reading_bad h e = r.left ∙ rw (split h, e)
+  pub reading_bad : field_of (take 6 (drop (6 * j) b)) ≡ none → line_of b ≡ none
+  reading_bad e = r.left ∙ rw (split, e)
 
 end_feed : (c : ℕ) → c ≡ 10 → end_of (c ∷ []) ≡ some []
 end_feed c e = rw (eq-eqb c 10 e, end_of)
 
-end_other : (c : ℕ) → (c ≡ 10 → ⊥) → end_of (c ∷ []) ≡ none
-end_other c e = rw (ne_eqb c 10 e, end_of)
+reading_end : {b : List ℕ} {j : ℕ} {numbers : List ℤ} → Reading b j numbers → 8 ≤ j → length b ≡ 49 → get_or b 48 0 ≡ 10 → line_of b ≡ some numbers
+reading_end {b} {j} {numbers} r h whole e =
+    let eight : j ≡ 8 = omega (arith, r.few) in
+    let all : numbers ≡ first_fields 8 b = sym (take_all 8 numbers (omega (arith, r.sized))) ∙ rw eight at r.kept in
+    let last : drop 48 b ≡ get_or b 48 0 ∷ [] = rw (drop-cons b 48 0 (omega arith), drop_of_length-le b {i = 49} (omega arith)) in
+    r.left ∙ rw (eight, last, fields_end, end_feed _ e, append-nil, all)
 
-module _ {done : List ℤ} {base size : ℕ} {b : List ℕ} {j : ℕ} {numbers : List ℤ} (r : Reading done base size b j numbers) (all : 8 ≤ j) (whole : length b ≡ 49) where
-  eight : j ≡ 8
-  eight = omega (arith, r.few)
+-- a line ends in a line feed
+fields_feed : (k : ℕ) (bs : List ℕ) (zs : List ℤ) → fields_of k bs ≡ some zs → get_or bs (6 * k) 0 ≡ 10
+fields_feed zero bs zs h = rw (end_some bs zs (sym (fields_end bs) ∙ h)).0 refl
+fields_feed (suc k) bs zs h =
+    let j : Joined (field_of (take 6 bs)) (fields_of k (drop 6 bs)) zs = joined_some _ _ zs (sym (fields_cons k bs) ∙ h) in
+    let u : 6 * suc k ≡ 6 + 6 * k = omega arith in
+    rw u (sym (get_or-drop 6 bs (6 * k) 0) ∙ fields_feed k (drop 6 bs) j.tail j.of_tail)
 
-  last : drop (6 * j) b ≡ get_or b 48 0 ∷ []
-  last = rw (eight, drop-cons b 48 0 (omega arith), drop_of_length-le b {i = 49} (omega arith))
-
-  pub reading_end : get_or b 48 0 ≡ 10 → line_of b ≡ some (first_fields 8 b)
-  reading_end e = r.left ∙ rw (last, eight, fields_end, end_feed _ e, append-nil)
-
-  pub reading_no_end : (get_or b 48 0 ≡ 10 → ⊥) → line_of b ≡ none
-  reading_no_end e = r.left ∙ rw (last, eight, fields_end, end_other _ e)
-
-  pub reading_kept : take (base + 8) numbers ≡ done ++ first_fields 8 b
-  reading_kept = rw (← eight) r.kept
+pub line_no_feed : (bs : List ℕ) → (get_or bs 48 0 ≡ 10 → ⊥) → line_of bs ≡ none
+line_no_feed bs n = go (line_of bs) refl
+  where
+    go : (o : Option (List ℤ)) → line_of bs ≡ o → line_of bs ≡ none
+    go none e = e
+    go (some zs) e = absurd (n (fields_feed 8 bs zs e))
 
 -- a line as a part of a text
 
@@ -189,37 +193,51 @@ line_field t at j h = take_drop_take 6 (6 * j) 49 (drop at t) (omega arith) ∙ 
 pub line_last : (t : List ℕ) (at : ℕ) → get_or (take 49 (drop at t)) 48 0 ≡ get_or t (at + 48) 0
 line_last t at = get_or-take 49 (drop at t) 48 0 (omega arith) ∙ get_or-drop at t 48 0
 
-pub line_whole : (t : List ℕ) (at : ℕ) → at + 49 ≤ length t → length (take 49 (drop at t)) ≡ 49
+line_whole : (t : List ℕ) (at : ℕ) → at + 49 ≤ length t → length (take 49 (drop at t)) ≡ 49
 line_whole t at h = rw (length-take, length-drop) (omega arith)
 
-pub putting_start : (t : List ℕ) (at base : ℕ) (before : List ℤ) → Putting t at base before 0 before
-putting_start t at base before = record { reading = reading_start (take base before) base (length before) (take 49 (drop at t)) before refl refl }
+-- three numbers and five zeros over eight numbers
+module _ (l : List ℤ) (x y z : ℤ) (eight : length l ≡ 8) where
+  abbrev front : List ℤ
+  front = set (set (set l 0 x) 1 y) 2 z
 
-putting_next : {t : List ℕ} {at base : ℕ} {before : List ℤ} {j : ℕ} {numbers : List ℤ} → Putting t at base before j numbers
-    → (z : ℤ) → base + 8 ≤ length before → j < 8 → field_of (take 6 (drop (at + 6 * j) t)) ≡ some z → Putting t at base before (j + 1) (set numbers (base + j) z)
-putting_next {t} {at} {base} {before} {j} r z w h e = record { reading = reading_next r.reading z h (omega arith) (ap field_of (line_field t at j h) ∙ e) }
+  front_sized : length front ≡ 8
+  front_sized = rw (length-set, length-set, length-set) eight
 
-pub zero_tail : {t : List ℕ} {at : ℕ} {a b c d e : Bool} → (a ≡ true → ZeroField t (at + 18)) → (b ≡ true → ZeroField t (at + 24)) → (c ≡ true → ZeroField t (at + 30))
-    → (d ≡ true → ZeroField t (at + 36)) → (e ≡ true → ZeroField t (at + 42)) → (a && b && c && d && e) ≡ true → ZeroTail t at
-zero_tail {t} {at} {a} {b} {c} {d} {e} f g h i j p =
-    let u : ((a && b && c && d) ≡ true) × (e ≡ true) = both _ e p in
-    let v : ((a && b && c) ≡ true) × (d ≡ true) = both _ d u.0 in
-    let w : ((a && b) ≡ true) × (c ≡ true) = both _ c v.0 in
-    let x : (a ≡ true) × (b ≡ true) = both a b w.0 in
-    record { fourth = f x.0; fifth = g x.1; sixth = h w.1; seventh = i v.1; eighth = j u.1 }
+  front_taken : take 3 front ≡ x ∷ y ∷ z ∷ []
+  front_taken =
+      take-suc-set (set (set l 0 x) 1 y) 2 z (rw (length-set, length-set, eight) (omega arith))
+      ∙ rw (take-suc-set (set l 0 x) 1 y (rw (length-set, eight) (omega arith)), take-suc-set l 0 x (omega (arith, eight)))
 
-pub three_put : (t : List ℕ) (at base : ℕ) (before : List ℤ) (x y z : ℕ) → base + 8 ≤ length before → ZeroTail t at
-    → field_of (take 6 (drop at t)) ≡ some (pos x) → field_of (take 6 (drop (at + 6) t)) ≡ some (pos y) → field_of (take 6 (drop (at + 12) t)) ≡ some (pos z)
-    → Putting t at base before 8 (three before base (pos x) (pos y) (pos z))
-three_put t at base before x y z room o e f g =
-    let a : Putting t at base before 1 (set before base (pos x)) = rw add-zero at (putting_next (putting_start t at base before) (pos x) room (omega arith) (rw add-zero e)) in
-    let b = putting_next a (pos y) room (omega arith) f in
-    let c = putting_next b (pos z) room (omega arith) g in
-    let d = putting_next c (pos 0) room (omega arith) o.fourth.zero in
-    let m = putting_next d (pos 0) room (omega arith) o.fifth.zero in
-    let n = putting_next m (pos 0) room (omega arith) o.sixth.zero in
-    let p = putting_next n (pos 0) room (omega arith) o.seventh.zero in
-    putting_next p (pos 0) room (omega arith) o.eighth.zero
+  pub three_put : (zeros : List ℤ) → zeros ≡ replicate (length (take (length front - 3) (drop 3 front))) (pos 0) → put_mid 3 (length front - 3) front zeros ≡ x ∷ y ∷ z ∷ replicate 5 (pos 0)
+  three_put zeros e =
+      let n : length front - 3 ≡ 5 = omega (arith, front_sized) in
+      let m : length (take (length front - 3) (drop 3 front)) ≡ 5 = rw (length-take, length-drop, front_sized) refl in
+      let five : zeros ≡ replicate 5 (pos 0) = e ∙ rw m in
+      put_mid-paste 3 (length front - 3) front zeros (replicate 5 (pos 0)) 5 five (sym n) refl
+      ∙ rw (front_taken, drop_of_length-le front {i = 8} (omega (arith, front_sized)))
+
+-- the line at a place of a text
+
+module _ (t : List ℕ) (at : ℕ) where
+  pub line_next : {j : ℕ} {numbers : List ℤ} → Reading (take 49 (drop at t)) j numbers → (z : ℤ) → j < 8 → field_of (take 6 (drop (at + 6 * j) t)) ≡ some z → Reading (take 49 (drop at t)) (j + 1) (set numbers j z)
+  line_next {j} r z h e = reading_next r h z (ap field_of (line_field t at j h) ∙ e)
+
+  pub line_end : at + 49 ≤ length t → get_or t (at + 48) 0 ≡ 10 → {j : ℕ} {numbers : List ℤ} → Reading (take 49 (drop at t)) j numbers → 8 ≤ j → line_of (take 49 (drop at t)) ≡ some numbers
+  line_end h e r all = reading_end r all (line_whole t at h) (line_last t at ∙ e)
+
+  pub three_read : (x y z : ℕ) → ZeroTail t at
+      → field_of (take 6 (drop at t)) ≡ some (pos x) → field_of (take 6 (drop (at + 6) t)) ≡ some (pos y) → field_of (take 6 (drop (at + 12) t)) ≡ some (pos z)
+      → Three (take 49 (drop at t)) (pos x) (pos y) (pos z)
+  three_read x y z o e f g =
+      let a = line_next (reading_start (take 49 (drop at t)) (replicate 8 (pos 0)) refl) (pos x) (omega arith) (rw add-zero e) in
+      let b = line_next a (pos y) (omega arith) f in
+      let c = line_next b (pos z) (omega arith) g in
+      let d = line_next c (pos 0) (omega arith) o.fourth.zero in
+      let m = line_next d (pos 0) (omega arith) o.fifth.zero in
+      let n = line_next m (pos 0) (omega arith) o.sixth.zero in
+      let p = line_next n (pos 0) (omega arith) o.seventh.zero in
+      record { reading = line_next p (pos 0) (omega arith) o.eighth.zero }
 
 -- the lines of a text, from the first
 
@@ -229,19 +247,6 @@ pub record Paging (t : List ℕ) (n i : ℕ) (numbers : List ℤ) : Type 0 where
   pub sized : length numbers ≡ 8 * n
   pub passed : Passed (good_line t) n i
   pub kept : take (8 * i) numbers ≡ pieces line_numbers 49 i t
-
--- where the lines are left: at a bad one, or behind the last
-pub record Left (t : List ℕ) (n i : ℕ) (numbers : List ℤ) : Type 0 where
-  pub sized : length numbers ≡ 8 * n
-  pub bad : i < n → first_bad t ≡ some i
-  pub good : n ≤ i → (first_bad t ≡ none) × (numbers ≡ numbers_of t)
-
--- the same, with j fields of line i
-pub record InLine (t : List ℕ) (n i j : ℕ) (numbers : List ℤ) : Type 0 where
-  pub counted : n ≡ line_count t
-  pub passed : Passed (good_line t) n i
-  pub more : i < n
-  pub reading : Reading (pieces line_numbers 49 i t) (8 * i) (8 * n) (line_at t i) j numbers
 
 pub page_start : (t : List ℕ) (n : ℕ) (numbers : List ℤ) → n ≡ line_count t → length numbers ≡ 8 * line_count t → Paging t n 0 numbers
 page_start t n numbers e h = record { counted = e; sized = rw e h; passed = passed_start (good_line t) n; kept = rw pieces_none }
@@ -254,85 +259,25 @@ module _ {t : List ℕ} {n i : ℕ} {numbers : List ℤ} (p : Paging t n i numbe
   pub next_inside : i < n → (49 * i + 49 ≤ length t) × (8 * i + 8 ≤ length numbers) × (i < 673)
   next_inside h = (omega (arith, page_few t n p.counted), omega (arith, p.sized), omega (arith, page_few t n p.counted))
 
-  pub page_in : {j : ℕ} {after : List ℤ} → i < n → Putting t (49 * i) (8 * i) numbers j after → InLine t n i j after
-  page_in h q = record {
-    counted = p.counted;
-    passed = p.passed;
-    more = h;
-    reading = rw (p.kept, p.sized) at q.reading;
-  }
+  pub page_next : {size : ℕ} {line : List ℤ} → i < n → line_of (line_at t i) ≡ some line → size ≡ 8 → Paging t n (i + 1) (put_mid (8 * i) size numbers line)
+  page_next {size} {line} h e eight =
+      let w : length line ≡ 8 = (fields_sized 8 (line_at t i) line e).1 in
+      let u : 8 * suc i ≡ 8 * i + 8 = omega arith in
+      rw (put_mid-paste (8 * i) size numbers line line 8 refl (sym eight) (sym w)) (record {
+        counted = p.counted;
+        sized = length-paste numbers (8 * i) line 8 (next_inside h).1 (omega arith) ∙ p.sized;
+        passed = passed_next p.passed h (rw e);
+        kept = rw (add-one, u, pieces_next line_numbers 49 i t, e, take-paste numbers (8 * i) line 8 (omega (arith, (next_inside h).1)) (omega arith), take_all 8 line (omega arith), p.kept);
+      })
 
-  pub page_done : n ≤ i → Left t n i numbers
+  pub page_stop : i < n → line_of (line_at t i) ≡ none → first_bad t ≡ some i
+  page_stop h e = rw (← p.counted) (passed_stop p.passed h (rw e))
+
+  pub page_done : n ≤ i → (first_bad t ≡ none) × (numbers ≡ numbers_of t)
   page_done h =
       let e : i ≡ line_count t = omega (arith, p.passed.within, p.counted) in
       let w : length numbers ≤ 8 * i = omega (arith, p.sized) in
-      record {
-        sized = p.sized;
-        bad = λ g. absurd (omega arith);
-        good = λ g. (rw (← p.counted) (passed_done p.passed h), sym (take_all (8 * i) numbers w) ∙ p.kept ∙ rw e);
-      }
-
-module _ {t : List ℕ} {n i j : ℕ} {numbers : List ℤ} (p : InLine t n i j numbers) where
-  -- the line lies inside the text, and its numbers among those of the text
-  pub line_inside : 49 * i + 49 ≤ length t
-  line_inside = omega (arith, p.more, (page_few t n p.counted).1)
-
-  pub line_room : 8 * i + 8 ≤ length numbers
-  line_room = omega (arith, p.more, p.reading.sized)
-
-  pub page_field : (z : ℤ) → j < 8 → field_of (take 6 (drop (49 * i + 6 * j) t)) ≡ some z → InLine t n i (j + 1) (set numbers (8 * i + j) z)
-  page_field z h e = record {
-    counted = p.counted;
-    passed = p.passed;
-    more = p.more;
-    reading = reading_next p.reading z h (omega (arith, p.more)) (ap field_of (line_field t (49 * i) j h) ∙ e);
-  }
-
-  page_next : (zs : List ℤ) → line_of (line_at t i) ≡ some zs → take (8 * i + 8) numbers ≡ pieces line_numbers 49 i t ++ zs → Paging t n (i + 1) numbers
-  page_next zs e k =
-      let u : 8 * suc i ≡ 8 * i + 8 = omega arith in
-      record {
-        counted = p.counted;
-        sized = p.reading.sized;
-        passed = passed_next p.passed p.more (rw e);
-        kept = rw (add-one, u, pieces_next line_numbers 49 i t, e) k;
-      }
-
-  pub page_feed : 8 ≤ j → get_or t (49 * i + 48) 0 ≡ 10 → Paging t n (i + 1) numbers
-  page_feed h e =
-      let w : length (line_at t i) ≡ 49 = line_whole t (49 * i) line_inside in
-      page_next (first_fields 8 (line_at t i)) (reading_end p.reading h w (line_last t (49 * i) ∙ e)) (reading_kept p.reading h w)
-
-  page_bad : line_of (line_at t i) ≡ none → Left t n i numbers
-  page_bad e = record {
-    sized = p.reading.sized;
-    bad = λ g. rw (← p.counted) (passed_stop p.passed p.more (rw e));
-    good = λ g. absurd (omega (arith, p.more));
-  }
-
-  pub page_bad_field : j < 8 → field_of (take 6 (drop (49 * i + 6 * j) t)) ≡ none → Left t n i numbers
-  page_bad_field h e = page_bad (reading_bad p.reading h (ap field_of (line_field t (49 * i) j h) ∙ e))
-
-  pub page_bad_feed : 8 ≤ j → (get_or t (49 * i + 48) 0 ≡ 10 → ⊥) → Left t n i numbers
-  page_bad_feed h e = page_bad (reading_no_end p.reading h (line_whole t (49 * i) line_inside) (λ u. e (sym (line_last t (49 * i)) ∙ u)))
-
--- the answers of the reader
-
-pub answer_bad : (t : List ℕ) (i : ℕ) (numbers : List ℤ) → first_bad t ≡ some i → (B.FirstBad.Line i ≡ bad_answer (first_bad t)) × (first_bad t ≡ none → numbers ≡ numbers_of t)
-answer_bad t i numbers e = (rw e, λ g. let u : ◌≡◌ {A = ℕ} 0 1 = cc in absurd (omega arith))
-
-pub answer_good : (t : List ℕ) (numbers : List ℤ) → (first_bad t ≡ none) × (numbers ≡ numbers_of t)
-    → (B.FirstBad.Nothing ≡ bad_answer (first_bad t)) × (first_bad t ≡ none → numbers ≡ numbers_of t)
-answer_good t numbers e = (rw e.0, λ g. e.1)
-
--- what the answer says
-pub answer_line : (o : Option ℕ) (i : ℕ) → bad_answer o ≡ B.FirstBad.Line i → o ≡ some i
-answer_line none i e = let u : ◌≡◌ {A = ℕ} 0 1 = cc in absurd (omega arith)
-answer_line (some k) i e = cc
-
-pub answer_none : (o : Option ℕ) → bad_answer o ≡ B.FirstBad.Nothing → o ≡ none
-answer_none none e = refl
-answer_none (some k) e = let u : ◌≡◌ {A = ℕ} 0 1 = cc in absurd (omega arith)
+      (rw (← p.counted) (passed_done p.passed h), sym (take_all (8 * i) numbers w) ∙ p.kept ∙ rw e)
 
 -- zeros, and numbers put before them
 

@@ -1,13 +1,10 @@
 -- A line, 49 bytes that are eight fields and a line feed, and a page, the lines of a text: both directions.
 -- Assumes nothing.
 use Rattle.std.specs.Prelude.{ℕ, zero, suc, ◌*◌, ◌-◌, ◌/◌, min, Bool, true, false, List, [], ◌∷◌, ◌++◌, eqb, ℤ, pos, length, take, drop, replicate}
+use Rattle.std.specs.Prelude as R
 use Rattle.std.proofs.Math.Option.{Option, none, some}
 use Rattle.fields.specs.Field.{field_of, field_text, in_field}
 use Rattle.lines.specs.Lowest.{lowest}
-use Rattle.lines.specs.declared.Form as M
-use Rattle.lines.specs.declared.Line as L
-use Rattle.lines.specs.declared.FirstBad as B
-use Rattle.lines.specs.declared.Page as P
 
 -- a line feed (character 10) and nothing after it
 abbrev pub end_of : List ℕ → Option (List ℤ)
@@ -83,21 +80,11 @@ numbers_of text = pieces line_numbers 49 (line_count text) text
 abbrev pub padded : List ℤ → List ℤ
 padded zs = zs ++ replicate (5384 - length zs) (pos 0)
 
--- the answer of `read_line`: zeros where the form is bad
-abbrev pub line_answer : Option (List ℤ) → L.Line
-line_answer none = record { form = M.Form.Bad; numbers = replicate 8 (pos 0) }
-line_answer (some zs) = record { form = M.Form.Good; numbers = zs }
-
--- the answer of `read_numbers`
-abbrev pub bad_answer : Option ℕ → B.FirstBad
-bad_answer none = B.FirstBad.Nothing
-bad_answer (some i) = B.FirstBad.Line i
-
--- the answer of `read_page`: zeros where a line is bad
-abbrev pub page_answer : Option ℕ → List ℤ → P.Page
-page_answer none zs = record { first_bad = B.FirstBad.Nothing; numbers = padded zs }
-page_answer (some i) zs = record { first_bad = B.FirstBad.Line i; numbers = replicate 5384 (pos 0) }
+-- the answer of `read_page`: the first bad line, or the numbers
+abbrev pub page_answer : Option ℕ → List ℤ → R.Result (List ℤ) ℕ
+page_answer none zs = R.Ok (padded zs)
+page_answer (some i) zs = R.Err i
 
 -- what `read_page` finds in a text
-abbrev pub page_of : List ℕ → P.Page
+abbrev pub page_of : List ℕ → R.Result (List ℤ) ℕ
 page_of text = page_answer (first_bad text) (numbers_of text)

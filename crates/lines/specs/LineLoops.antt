@@ -1,6 +1,6 @@
 -- What the loops over fields and lines need of the definitions: pieces one after the other, and what is left to read.
 -- Assumes nothing.
-use Rattle.std.specs.Prelude.{◌≡◌, ℕ, ◌+◌, ◌*◌, ◌-◌, ◌≤◌, List, [], ◌∷◌, ◌++◌, ℤ, pos, length, take, drop, set}
+use Rattle.std.specs.Prelude.{◌≡◌, ℕ, ◌+◌, ◌*◌, ◌-◌, ◌≤◌, List, [], ◌∷◌, ◌++◌, ℤ, pos, length, take, drop, replicate}
 use Rattle.std.proofs.Math.Option.{Option, none, some}
 use Rattle.fields.specs.Field.{field_of}
 use Rattle.fields.specs.QuickFields.{ZeroField}
@@ -24,16 +24,16 @@ prefixed zs (some ws) = some (zs ++ ws)
 abbrev pub first_fields : ℕ → List ℕ → List ℤ
 first_fields j b = pieces field_number 6 j b
 
--- of `size` numbers the first are `done`, base of them, and the first j of the line b; and what is left of b gives the whole
-pub record Reading (done : List ℤ) (base size : ℕ) (b : List ℕ) (j : ℕ) (numbers : List ℤ) : Type 0 where
+-- of eight numbers the first j are those of the line b, and what is left of b gives the whole
+pub record Reading (b : List ℕ) (j : ℕ) (numbers : List ℤ) : Type 0 where
   pub few : j ≤ 8
-  pub sized : length numbers ≡ size
-  pub kept : take (base + j) numbers ≡ done ++ first_fields j b
+  pub sized : length numbers ≡ 8
+  pub kept : take j numbers ≡ first_fields j b
   pub left : line_of b ≡ prefixed (first_fields j b) (fields_of (8 - j) (drop (6 * j) b))
 
--- the first j numbers of the line at a place stand from `base` on, and those before are as they were
-pub record Putting (t : List ℕ) (at base : ℕ) (before : List ℤ) (j : ℕ) (numbers : List ℤ) : Type 0 where
-  pub reading : Reading (take base before) base (length before) (take 49 (drop at t)) j numbers
+-- the numbers of a line, but for its last byte, are x, y, z and zeros
+pub record Three (b : List ℕ) (x y z : ℤ) : Type 0 where
+  pub reading : Reading b 8 (x ∷ y ∷ z ∷ replicate 5 (pos 0))
 
 -- the last five fields of the line at a place say 0
 pub record ZeroTail (t : List ℕ) (at : ℕ) : Type 0 where
@@ -42,8 +42,3 @@ pub record ZeroTail (t : List ℕ) (at : ℕ) : Type 0 where
   pub sixth : ZeroField t (at + 30)
   pub seventh : ZeroField t (at + 36)
   pub eighth : ZeroField t (at + 42)
-
--- three numbers and five zeros
-abbrev pub three : List ℤ → ℕ → ℤ → ℤ → ℤ → List ℤ
-three l base x y z =
-    set (set (set (set (set (set (set (set l base x) (base + 1) y) (base + 2) z) (base + 3) (pos 0)) (base + 4) (pos 0)) (base + 5) (pos 0)) (base + 6) (pos 0)) (base + 7) (pos 0)

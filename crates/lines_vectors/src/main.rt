@@ -1,9 +1,7 @@
 // Reads and prints fields, lines and pages, and writes what came out.
 #![tactic(auto)]
 
-use fields::Field;
-use line_printer::Printed;
-use lines::{FirstBad, Form};
+use line_printer::PrintError;
 use std::io;
 
 fn say(rt: &impl Print, text: &[u8]) -> io::Result<()> {
@@ -13,7 +11,7 @@ fn say(rt: &impl Print, text: &[u8]) -> io::Result<()> {
 // Eight numbers as a printed line.
 fn show_numbers(rt: &impl Print, numbers: [i32; 8]) -> io::Result<()> {
     let mut out = [b'?'; 49];
-    line_printer::print_line(&mut out, 0, numbers);
+    let _ = line_printer::print_line(&mut out, 0, numbers);
     say(rt, &out)
 }
 
@@ -23,35 +21,30 @@ fn show_field(rt: &impl Print, text: &[u8]) -> io::Result<()> {
     say(rt, text)?;
     say(rt, b"] ")?;
     match fields::read_field(text, 0) {
-        Field::Number(z) => show_numbers(rt, [z, 0, 0, 0, 0, 0, 0, 0]),
-        Field::Bad => say(rt, b"bad\n"),
+        Some(z) => show_numbers(rt, [z, 0, 0, 0, 0, 0, 0, 0]),
+        None => say(rt, b"bad\n"),
     }
 }
 
 // The line at a place of a text.
 fn show_line(rt: &impl Print, text: &[u8], at: usize) -> io::Result<()> {
-    let line = lines::read_line(text, at);
-    let form = line.form;
-    match form {
-        Form::Good => {
+    match lines::read_line(text, at) {
+        Some(numbers) => {
             say(rt, b"line ")?;
-            let numbers = line.numbers;
             show_numbers(rt, numbers)
         }
-        Form::Bad => say(rt, b"line bad\n"),
+        None => say(rt, b"line bad\n"),
     }
 }
 
 // The first bad line of a text, or that there is none.
 fn show_page(rt: &impl Print, text: &[u8]) -> io::Result<()> {
-    let page = lines::read_page(text);
-    let first = page.first_bad;
-    match first {
-        FirstBad::Line(i) => {
+    match lines::read_page(text) {
+        Ok(_) => say(rt, b"page good\n"),
+        Err(i) => {
             say(rt, b"page bad at line ")?;
             println!(rt; "{i}")
         }
-        FirstBad::Nothing => say(rt, b"page good\n"),
     }
 }
 
@@ -59,9 +52,9 @@ fn show_page(rt: &impl Print, text: &[u8]) -> io::Result<()> {
 fn show_printed(rt: &impl Print, at: usize, numbers: [i32; 8]) -> io::Result<()> {
     let mut out = [b'.'; 60];
     match line_printer::print_line(&mut out, at, numbers) {
-        Printed::Whole => say(rt, b"whole ")?,
-        Printed::NoRoom => say(rt, b"no room ")?,
-        Printed::NoField => say(rt, b"no field ")?,
+        Ok(()) => say(rt, b"whole ")?,
+        Err(PrintError::NoRoom) => say(rt, b"no room ")?,
+        Err(PrintError::NoField) => say(rt, b"no field ")?,
     }
     say(rt, &out)?;
     say(rt, b"\n")

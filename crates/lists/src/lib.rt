@@ -2,18 +2,11 @@
 // What stands at a place of a list, past its end too, and small numbers as places. Each is said once, for all crates above.
 ghost use Rattle.std.specs.Prelude.{◌≡◌, ◌<◌, get_or};
 
-// The number at place `i` of a list; 0 past the end.
-pub fn number_at(list: &[usize], i: usize) -> usize
-    ensures { result ≡ get_or list.now i 0 }
+// The element at place `i` of a list; `beyond` past the end.
+pub fn value_at<T: Copy>(list: &[T], i: usize, beyond: T) -> T
+    ensures { result ≡ get_or list.now i beyond }
 {
-    if i < list.len() { list[i] } else { 0 }
-}
-
-// The set at place `i` of a list; the empty set past the end.
-pub fn set_at(list: &[u64], i: usize) -> u64
-    ensures { result ≡ get_or list.now i 0 }
-{
-    if i < list.len() { list[i] } else { 0 }
+    list.get(i).copied().unwrap_or(beyond)
 }
 
 // x, as a place.

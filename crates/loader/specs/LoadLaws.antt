@@ -1,10 +1,8 @@
 -- A table that may be loaded is safe after every list of thread numbers, and its common locks guard readings: demand 3 and C-22, as the loader asks them. Assumes nothing.
-use Rattle.std.specs.Prelude.{◌≡◌, refl, true, List, ℕ, ℤ, pos, negsuc}
+use Rattle.std.specs.Prelude.{◌≡◌, refl, true, List, ℕ, ℤ, pos, negsuc, Ok, Err}
 use Rattle.std.proofs.Common.{sym, ap, eqb-true}
 use Rattle.table.proofs.AcceptedLaws.{accepted}
-use Rattle.table.specs.Verdict.{verdict}
-use Rattle.table.specs.declared.Verdict.{Verdict}
-use Rattle.table.specs.declared.Verdict.TheVariants.{Accepted, Refused}
+use Rattle.table.specs.Verdict.{Verdict, verdict}
 use Rattle.machine.specs.State.{start}
 use Rattle.machine.specs.Step.{step, run}
 use Rattle.machine.specs.Engine.{engine_step}
@@ -23,7 +21,7 @@ none_is (negsuc n) e = never (sym e)
 
 -- yes exactly for a text that is accepted and whose totals are both 0
 record Loads (text : List ℕ) : Type 0 where
-  accepts : verdict text ≡ Accepted
+  accepts : verdict text ≡ Ok tt
   none_unguarded : unguarded_total (table_in text) ≡ pos 0
   none_stray : stray_total (table_in text) ≡ pos 0
 
@@ -32,10 +30,10 @@ unfolding loadable counts_nothing
 loads text = go (verdict text) refl
   where
     go : (v : Verdict) → verdict text ≡ v → loadable_by v (table_in text) ≡ true → Loads text
-    go Accepted q h =
+    go (Ok u) q h =
         let both = both_true (is_none (unguarded_total (table_in text))) (is_none (stray_total (table_in text))) h in
         record { accepts = q; none_unguarded = none_is _ both.0; none_stray = none_is _ both.1 }
-    go (Refused number line) q h = never (sym h)
+    go (Err r) q h = never (sym h)
 
 -- yes means: no two different threads ever stand before accesses of one cell of which one writes, and no thread before a release of a lock that it
 -- does not hold, whatever the order of steps

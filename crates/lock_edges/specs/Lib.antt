@@ -1,3 +1,3 @@
 pub mod ViewEdges
-pub mod StoreLaws
 pub mod ViewEdgeLaws
+pub mod Grown

@@ -1,109 +1,93 @@
 #![tactic(auto)]
 // TAKE, TAKER and GIVE. A lock's word is a set: reader n is element n, writer n is element 16 + n; 0 is nobody.
-ghost use Rattle.std.specs.Prelude.{◌≡◌, ◌<◌, ◌≤◌, get_or};
+ghost use Rattle.std.specs.Prelude.{ℕ, ◌≡◌, ◌<◌, ◌≤◌, get_or, Result};
+ghost use Rattle.run_state.specs.Lists.{locks_in};
 ghost use Rattle.run_state.specs.Shown.{value_place};
+ghost use Rattle.operations.specs.declared.Stop.{Stop};
 ghost use Rattle.operations.specs.Operation.{Placed};
-ghost use Rattle.locks.specs.Turns.{taking_word, reading_word, giving_word, Storable, Handed, Turned};
+ghost use Rattle.locks.specs.Turns.{taking_word, reading_word, giving_word, Handed, Turned};
 
-use operations::{Move, Place};
+use operations::{Move, Place, Stop};
+use run_state::State;
 use run_state::frames::value_of;
-use run_state::places::{lock_at, put_lock};
 use sets::{difference, has, one, with_element};
 
-// What becomes of a lock that a thread asks for or gives up: its word then, or the number of a refusal.
-#[derive(Clone, Copy)]
-pub enum LockTurn {
-    Pass(u64),
-    Stop(u32),
-}
-
 // TAKE of thread `n`: it waits while anybody holds the lock.
-fn taking(word: u64, n: usize) -> LockTurn
+fn taking(word: u64, n: usize) -> Result<u64, Stop>
     requires { n < 16 }
     ensures { result ≡ taking_word n word }
 {
     if word == 0 {
-        return LockTurn::Pass(one(16 + n));
+        Ok(one(16 + n))
+    } else {
+        Err(Stop::Held)
     }
-    LockTurn::Stop(16)
 }
 
 // TAKER of thread `n`: it waits while a thread holds the lock for writing, or this one holds it at all.
-fn reading(word: u64, n: usize) -> LockTurn
+fn reading(word: u64, n: usize) -> Result<u64, Stop>
     ensures { result ≡ reading_word n word }
 {
-    if word < 65536 {
-        if has(word, n) {
-            return LockTurn::Stop(16);
-        }
-        return LockTurn::Pass(with_element(word, n));
+    if word < 65536 && !has(word, n) {
+        Ok(with_element(word, n))
+    } else {
+        Err(Stop::Held)
     }
-    LockTurn::Stop(16)
 }
 
 // GIVE of thread `n`: it ends either hold.
-fn giving(word: u64, n: usize) -> LockTurn
+fn giving(word: u64, n: usize) -> Result<u64, Stop>
     requires { n < 16 }
     ensures { result ≡ giving_word n word }
 {
-    let writes = has(word, 16 + n);
-    if writes {
-        return LockTurn::Pass(0);
-    }
-    let reads = has(word, n);
-    if reads {
-        return LockTurn::Pass(difference(word, one(n)));
-    }
-    LockTurn::Stop(17)
-}
-
-// Lock `k` becomes what a thread's turn at it says, and the thread goes on; or it is refused, and nothing changes.
-fn hand_over(turn: LockTurn, k: usize, at: Place, locks: usize, words: &mut [u32; 545]) -> Move
-    requires { Placed at × (locks ≤ 16) × Storable turn }
-    ensures { Handed turn k at locks result words.old words.new }
-{
-    let after = at.next + 1;
-    match turn {
-        LockTurn::Pass(word) => {
-            put_lock(words, locks, k, word);
-            Move::To(after)
-        }
-        LockTurn::Stop(number) => Move::Stopped(number),
+    if has(word, 16 + n) {
+        Ok(0)
+    } else if has(word, n) {
+        Ok(difference(word, one(n)))
+    } else {
+        Err(Stop::NotHeld)
     }
 }
 
-// TAKE: "the free lock becomes this thread's"; 16 while anybody holds it.
-pub fn take(h: usize, at: Place, locks: usize, words: &mut [u32; 545], values: &[u8; 4096]) -> Move
-    requires { Placed at × (locks ≤ 16) }
-    ensures { Turned taking_word (get_or values.now (value_place at.slot h) 0) at locks result words.old words.new }
-{
-    let k = value_of(values, at.slot, h);
-    let turn = taking(lock_at(words, locks, k), at.thread);
-    hand_over(turn, k, at, locks, words)
-}
-
-// TAKER: "takes a lock for reading"; 16 while a thread holds it for writing or this thread holds it at all.
-pub fn take_read(
+// A thread's turn at the lock that handle `h` refers to, by what it makes of the lock's word: the lock has that word, and the thread goes on; or it is
+// stopped, and nothing changes.
+fn turn<F: FnOnce(u64) -> Result<u64, Stop>>(
+    by: F,
     h: usize,
     at: Place,
     locks: usize,
-    words: &mut [u32; 545],
-    values: &[u8; 4096],
+    state: &mut State,
 ) -> Move
-    requires { Placed at × (locks ≤ 16) }
-    ensures { Turned reading_word (get_or values.now (value_place at.slot h) 0) at locks result words.old words.new }
+    requires placed { Placed at × (locks ≤ 16) }
+    requires called { F.IsAlwaysCallable by }
+    ensures { (r : Result ℕ Stop) × F.post by (get_or (locks_in locks state.old) (get_or state.old.values (value_place at.slot h) 0) 0) r × Handed r (get_or state.old.values (value_place at.slot h) 0) at locks result state.old state.new }
 {
-    let k = value_of(values, at.slot, h);
-    let turn = reading(lock_at(words, locks, k), at.thread);
-    hand_over(turn, k, at, locks, words)
+    let k = value_of(&state.values, at.slot, h);
+    let word = by(state.lock(locks, k))?;
+    state.put_lock(locks, k, word);
+    Ok(Some(at.next + 1))
 }
 
-// GIVE: "ends either hold"; 17 where this thread holds the lock in neither way.
-pub fn give(h: usize, at: Place, locks: usize, words: &mut [u32; 545], values: &[u8; 4096]) -> Move
+// TAKE: "the free lock becomes this thread's"; it waits while anybody holds it.
+pub fn take(h: usize, at: Place, locks: usize, state: &mut State) -> Move
     requires { Placed at × (locks ≤ 16) }
-    ensures { Turned giving_word (get_or values.now (value_place at.slot h) 0) at locks result words.old words.new }
+    ensures { Turned taking_word h at locks result state.old state.new }
 {
-    let k = value_of(values, at.slot, h);
-    let turn = giving(lock_at(words, locks, k), at.thread);
-    hand_over(turn, k, at, locks, words)
+    turn(|word| taking(word, at.thread), h, at, locks, state)
+}
+
+// TAKER: "takes a lock for reading"; it waits while a thread holds it for writing or this thread holds it at all.
+pub fn take_read(h: usize, at: Place, locks: usize, state: &mut State) -> Move
+    requires { Placed at × (locks ≤ 16) }
+    ensures { Turned reading_word h at locks result state.old state.new }
+{
+    turn(|word| reading(word, at.thread), h, at, locks, state)
+}
+
+// GIVE: "ends either hold"; it is stopped where this thread holds the lock in neither way.
+pub fn give(h: usize, at: Place, locks: usize, state: &mut State) -> Move
+    requires { Placed at × (locks ≤ 16) }
+    ensures { Turned giving_word h at locks result state.old state.new }
+{
+    turn(|word| giving(word, at.thread), h, at, locks, state)
 }

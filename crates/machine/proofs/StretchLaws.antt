@@ -1,6 +1,6 @@
 -- What a step does to cells and holds: a cell that it does not WRITE and a hold that it does not GIVE up stay, a TAKE or TAKER that runs gets its lock, and a READ the
 -- cell's value; so two READs with no WRITE between them get the same. Only started threads hold locks. Assumes nothing.
-use Rattle.std.specs.Prelude.{ℕ, ◌+◌, ◌<◌, ◌≡◌, Bool, cond, ◌⊎◌, eqb, ltb, ℤ, pos, get_or, set}
+use Rattle.std.specs.Prelude.{ℕ, ◌+◌, ◌<◌, ◌≡◌, Bool, cond, ◌⊎◌, eqb, ltb, ℤ, pos, get_or, set, Some, None}
 use Rattle.std.proofs.Math.Path.{refl, sym, ap, subst}
 use Rattle.std.proofs.Common.{◌∙◌, inl, inr, arith, get_or-set_same, eqb-true, ltb-true, length-set, length-append}
 use Rattle.std.proofs.Math.Bool.{true, false}
@@ -12,7 +12,6 @@ use Rattle.table.specs.Table.{Table, statement}
 use Rattle.table.specs.View.{view}
 use Rattle.table.proofs.TabulateLaws.{replicate_at}
 use Rattle.table.proofs.ViewLaws.{nothing_to, one_reference, write_alone}
-use Rattle.table.specs.declared.Reference.TheVariants.{To, Nothing}
 use Rattle.table.specs.declared.Statement.{Statement}
 use Rattle.table.specs.declared.Statement.TheVariants.{Read, Write, Set, Add, Take, Give, Point, Call, Start, Jump, JumpZero, Return, TakeRead}
 use Rattle.machine.proofs.Lists.{set_case}
@@ -60,7 +59,7 @@ module _ (t : Table) (state : State) (n : ℕ) (there : n < length state.threads
   By σ = Leaves state n (AccessIn f σ true) (AccessIn f σ false) (ReleaseIn f σ) (TakeIn f σ)
 
   -- a statement that takes and reads nothing, and leaves cells and locks
-  plain : (σ : Statement) (answer : Answer) → (view σ).takes ≡ Nothing → (view σ).reads ≡ Nothing → (after state answer).cells ≡ state.cells
+  plain : (σ : Statement) (answer : Answer) → (view σ).takes ≡ None → (view σ).reads ≡ None → (after state answer).cells ≡ state.cells
       → (after state answer).locks ≡ state.locks → By σ answer
   plain σ answer takes reads cells locks =
       record {
@@ -73,9 +72,9 @@ module _ (t : Table) (state : State) (n : ℕ) (there : n < length state.threads
   -- what a turn at the lock of handle h has to do: who may not lose a hold keeps it, and where the statement takes, thread n gets one
   record AtTurn (σ : Statement) (h : ℕ) (new : Holder) : Type 0 where
     kept : (m : ℕ) → (n ≡ m → ReleaseIn f σ (refers f h) → ⊥) → holds_in false (holder state (refers f h)) m ≡ true → holds_in false new m ≡ true
-    got : (j : ℕ) → (view σ).takes ≡ To j → (j ≡ h) × (holds_in false new n ≡ true)
+    got : (j : ℕ) → (view σ).takes ≡ Some j → (j ≡ h) × (holds_in false new n ≡ true)
 
-  turn : (σ : Statement) (h : ℕ) (turn : Turn) → (view σ).reads ≡ Nothing → OnPass turn (AtTurn σ h) → By σ (turned t state n a f older (refers f h) turn)
+  turn : (σ : Statement) (h : ℕ) (turn : Turn) → (view σ).reads ≡ None → OnPass turn (AtTurn σ h) → By σ (turned t state n a f older (refers f h) turn)
   turn σ h (passes who) reads p =
       record {
         cells = λ x spared. refl;
@@ -101,7 +100,7 @@ module _ (t : Table) (state : State) (n : ℕ) (there : n < length state.threads
         holds = λ m k spared has. has;
         gets = λ new e k l (j, is, at). nothing_to is;
         value = λ new e x (j, is, at).
-            let own : j ≡ h.number = one_reference (To j) refl (sym is) in
+            let own : j ≡ h.number = one_reference (Some j) refl (sym is) in
             subst (λ (s : State). (thread s n).accumulator ≡ cell state x) (moved_same e)
             (ap (λ (r : Thread). r.accumulator) (get_or-set_same state.threads n _ ended there)
             ∙ ap (cell state) (ap (refers f) (sym own) ∙ at));
@@ -117,13 +116,13 @@ module _ (t : Table) (state : State) (n : ℕ) (there : n < length state.threads
       let who = holder state (refers f h.number) in
       turn (Take h) h.number (taking n who) refl
       (on_both (taking n who) {R = AtTurn (Take h) h.number}
-      (λ new gets keeps. record { kept = λ m spared. keeps false m; got = λ j is. (one_reference (To j) refl (sym is), gets false) })
+      (λ new gets keeps. record { kept = λ m spared. keeps false m; got = λ j is. (one_reference (Some j) refl (sym is), gets false) })
       (taking_gets n who) (taking_keeps n who))
   operate_leaves (TakeRead h) =
       let who = holder state (refers f h.number) in
       turn (TakeRead h) h.number (reading n who) refl
       (on_both (reading n who) {R = AtTurn (TakeRead h) h.number}
-      (λ new gets keeps. record { kept = λ m spared. keeps false m; got = λ j is. (one_reference (To j) refl (sym is), gets) })
+      (λ new gets keeps. record { kept = λ m spared. keeps false m; got = λ j is. (one_reference (Some j) refl (sym is), gets) })
       (reading_gets n who) (reading_keeps n who))
   operate_leaves (Give h) =
       let who = holder state (refers f h.number) in

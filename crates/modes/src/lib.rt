@@ -1,50 +1,41 @@
 #![tactic(auto)]
 // The two modes of a hold (C-18), for writing and in either way: whether a table has two, and the held sets of both put together in the way of each access.
-ghost use Rattle.std.specs.Prelude.{◌≡◌, ◌+◌, ◌≤◌, length, replicate, take, drop};
-ghost use Rattle.table.specs.Fields.{field};
-ghost use Rattle.table.specs.Header.{statements};
-ghost use Rattle.table.specs.Table.{statement_in};
+ghost use Rattle.std.specs.Prelude.{◌≡◌, ◌+◌, ◌≤◌, length, get_or, take, drop};
+ghost use Rattle.table.specs.Found.{below};
+ghost use Rattle.table.specs.Header.{statements, statement_line};
+ghost use Rattle.table.specs.Table.{statement_of};
 ghost use Rattle.table.specs.Until.{until};
 ghost use Rattle.table.specs.View.{view, on_or};
 ghost use Rattle.modes.specs.Modes.{takes_to_write_alone, held_by};
 
-use table::Reference;
+// Whether statement `s`, whose line is `line`, takes no lock, or takes it for writing.
+fn takes_to_write_alone(numbers: &[i32], s: usize, line: usize) -> bool
+    requires { line ≡ statement_line numbers.now s }
+    ensures { result ≡ takes_to_write_alone numbers.now s }
+{
+    !attributes::takes_to_read_at(numbers, line)
+}
 
-// The lowest statement that takes a lock for reading; how many statements there are, if none does.
-pub fn first_to_read(numbers: &[i32]) -> usize
-    ensures { result ≡ until (takes_to_write_alone numbers.now) 0 (statements numbers.now) }
+// The lowest statement that takes a lock for reading.
+pub fn first_to_read(numbers: &[i32]) -> Option<usize>
+    ensures { result ≡ below (until (takes_to_write_alone numbers.now) 0 (statements numbers.now)) (statements numbers.now) }
 {
     let base = table::first_line(numbers);
-    let count = table::field_of(numbers, 0, 5);
-    let mut s = 0;
-    while s < count {
-        if attributes::takes_to_read_at(numbers, base + s) {
-            return s;
-        }
-        s += 1;
-    }
-    s
+    table::first_failing(
+        0,
+        table::field_of(numbers, 0, 5),
+        |s| takes_to_write_alone(numbers, s, base + s),
+    )
 }
 
-// Makes all sets empty.
-pub fn clear(sets: &mut [u64])
-    ensures { sets.new ≡ replicate (length sets.old) 0 }
+// What is held in the way of the access of statement `s`, whose line is `line`, from what is held for writing and in either way.
+fn held_in_way(numbers: &[i32], s: usize, line: usize, writing: u64, either: u64) -> u64
+    requires { line ≡ statement_line numbers.now s }
+    ensures { result ≡ on_or (view (statement_of numbers.now s)).writes (λ h. writing) either }
 {
-    let mut p = 0;
-    while p < sets.len() {
-        sets[p] = 0;
-        p += 1;
-    }
-}
-
-// What is held in the way of the access of the statement in `line`, from what is held for writing and in either way.
-fn held_in_way(numbers: &[i32], line: usize, writing: u64, either: u64) -> u64
-    ensures { result ≡ on_or (view (statement_in numbers.now line (field numbers.now line 1))).writes (λ h. writing) either }
-{
-    let writes = attributes::writes_at(numbers, line);
-    match writes {
-        Reference::To(_) => writing,
-        Reference::Nothing => either,
+    match attributes::writes_at(numbers, line) {
+        Some(_) => writing,
+        None => either,
     }
 }
 
@@ -56,9 +47,7 @@ pub fn put_writing(numbers: &[i32], work: &mut [u64])
 {
     let base = table::first_line(numbers);
     let count = table::field_of(numbers, 0, 5);
-    let mut s = 0;
-    while s < count {
-        work[s] = held_in_way(numbers, base + s, work[count + s], work[s]);
-        s += 1;
+    for s in 0..count {
+        work[s] = held_in_way(numbers, s, base + s, work[count + s], work[s]);
     }
 }

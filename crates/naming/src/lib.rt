@@ -6,9 +6,8 @@ ghost use Rattle.table.specs.Lists.{StatementsBegin};
 ghost use Rattle.table.specs.Naming.{named_by, gather, names_of, names_in, walk, is_acyclic};
 ghost use Rattle.naming.specs.GatherLaws.{Ended};
 
-use lists::{number_at, set_at};
-use sets::Which;
-use table::{Reference, field_of, first_line};
+use lists::value_at;
+use table::{field_of, first_line};
 
 // What statement `s` names.
 fn named_by(numbers: &[i32], s: usize) -> u64
@@ -17,8 +16,8 @@ fn named_by(numbers: &[i32], s: usize) -> u64
 {
     let names = attributes::names_at(numbers, first_line(numbers) + s);
     match names {
-        Reference::To(q) => sets::one(q),
-        Reference::Nothing => 0,
+        Some(q) => sets::one(q),
+        None => 0,
     }
 }
 
@@ -28,10 +27,8 @@ fn named_among(numbers: &[i32], from: usize, end: usize) -> u64
     ensures { result ≡ gather (named_by numbers.now) 0 from (end - from) }
 {
     let mut named = 0;
-    let mut s = from;
-    while s < end {
+    for s in from..end {
         named = sets::union(named, named_by(numbers, s));
-        s += 1;
     }
     named
 }
@@ -42,7 +39,7 @@ fn names_of(numbers: &[i32], first: &[usize], r: usize) -> u64
     requires r_bound { r < routines numbers.now }
     ensures { result ≡ names_of numbers.now r }
 {
-    named_among(numbers, number_at(first, r), number_at(first, r + 1))
+    named_among(numbers, value_at(first, r, 0), value_at(first, r + 1, 0))
 }
 
 // For each routine, what its statements name.
@@ -52,10 +49,8 @@ pub fn names_in(numbers: &[i32], first: &[usize]) -> [u64; 32]
 {
     let count = field_of(numbers, 0, 4);
     let mut names = [0u64; 32];
-    let mut r = 0;
-    while r < count {
+    for r in 0..count {
         names[r] = names_of(numbers, first, r);
-        r += 1;
     }
     names
 }
@@ -66,10 +61,8 @@ pub fn all_named(names: &[u64], count: usize) -> u64
     ensures { result ≡ gather (λ (k : ℕ). get_or names.now k 0) 0 0 32 }
 {
     let mut all = 0;
-    let mut r = 0;
-    while r < count {
-        all = sets::union(all, set_at(names, r));
-        r += 1;
+    for r in 0..count {
+        all = sets::union(all, value_at(names, r, 0));
     }
     all
 }
@@ -82,10 +75,10 @@ fn walk_down(names: &[u64], worklist: u64, seen: u64, left: usize) -> u64
         return seen;
     }
     match sets::lowest(worklist) {
-        Which::Nothing => seen,
-        Which::Element(i) => {
+        None => seen,
+        Some(i) => {
             let now_seen = sets::with_element(seen, i);
-            let next = sets::difference(sets::union(worklist, set_at(names, i)), now_seen);
+            let next = sets::difference(sets::union(worklist, value_at(names, i, 0)), now_seen);
             walk_down(names, next, now_seen, left - 1)
         }
     }
@@ -95,5 +88,5 @@ fn walk_down(names: &[u64], worklist: u64, seen: u64, left: usize) -> u64
 pub fn is_acyclic(names: &[u64], r: usize) -> bool
     ensures { result ≡ is_acyclic names.now r }
 {
-    !sets::has(walk_down(names, set_at(names, r), 0, 32), r)
+    !sets::has(walk_down(names, value_at(names, r, 0), 0, 32), r)
 }

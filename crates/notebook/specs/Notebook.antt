@@ -1,13 +1,11 @@
 -- The starred entries of the trainer's notebook, one table of inputs and results under one statement of the definitions: a table text with what is asked of
 -- it, its report or a step, and the numbers that the definitions give. Assumes nothing.
-use Rattle.std.specs.Prelude.{ℕ, ◌≡◌, refl, List, [], ◌∷◌, ◌++◌, map, ℤ, pos, negsuc}
+use Rattle.std.specs.Prelude.{ℕ, ◌≡◌, refl, List, [], ◌∷◌, ◌++◌, map, ℤ, pos, negsuc, Ok, Err}
 use Rattle.std.specs.Int.Count.{count_trailing_zeros}
 use Rattle.table.specs.Table.{Table, table_of}
 use Rattle.machine.specs.State.{State, Frame, thread, entered, opened, start}
 use Rattle.machine.specs.Step.{step, after, saturate}
 use Rattle.machine.specs.Engine.{engine_step, engine_run, answers}
-use Rattle.table.specs.declared.Verdict.{Verdict}
-use Rattle.table.specs.declared.Verdict.TheVariants.{Accepted, Refused}
 use Rattle.report.specs.Report.{report_lines, text_of}
 use Rattle.lines.specs.Line.{numbers_of}
 use Rattle.fields.specs.Field.{digits_from, decimal_of, signed_of, spaced_of, field_of, decimal_text, signed_text, field_text}
@@ -18,7 +16,8 @@ use Rattle.table.specs.Handles.{things, handle_fields_ok, same_above, handle_ord
 use Rattle.table.specs.Routines.{routine_ok, sum_ok}
 use Rattle.table.specs.Statements.{own_handle, own_of_kind, own_statement, argument_ok, arguments_ok, naming_ok, point_ok, operation_ok, statement_ok, bad_statement, end_ok}
 use Rattle.table.specs.Naming.{named_by, gather, names_of, names_in, is_named, walk, reached, is_acyclic}
-use Rattle.table.specs.Verdict.{naming_verdict, statement_verdict, declaration_verdict, numbers_verdict, text_ok, verdict, reading_of}
+use Rattle.table.specs.Refusals.{number_of, line_of}
+use Rattle.table.specs.Verdict.{Verdict, naming_verdict, statement_verdict, declaration_verdict, numbers_verdict, text_ok, verdict, reading_of}
 use Rattle.sets.specs.Set.{with, lowest}
 use Rattle.report.specs.Cases.{Case, row, as_computed}
 use Rattle.report.specs.Notebook.{notebook}
@@ -50,8 +49,8 @@ text_in e = text_of e.lines
 
 -- what is said of a text: the answer, or "50, number, line, five zeros"
 abbrev pub said : Verdict → List (List ℤ) → List (List ℤ)
-said Accepted ls = ls
-said (Refused number line) ls = (pos 50 ∷ pos number ∷ pos line ∷ pos 0 ∷ pos 0 ∷ pos 0 ∷ pos 0 ∷ pos 0 ∷ []) ∷ []
+said (Ok u) ls = ls
+said (Err r) ls = (pos 50 ∷ pos (number_of r) ∷ pos (line_of r) ∷ pos 0 ∷ pos 0 ∷ pos 0 ∷ pos 0 ∷ pos 0 ∷ []) ∷ []
 
 unfoldable pub computed : List Entry → List (List (List ℤ))
 unfolding answer as_computed step saturate answers engine_step start opened entered with lowest digits_from decimal_of signed_of spaced_of field_of decimal_text signed_text field_text fields_of all_in_field line_text pieces unused header_ok length_ok leading leading_ok things handle_fields_ok same_above handle_order_ok parameter_ok handle_ok routine_ok sum_ok own_handle own_of_kind own_statement argument_ok arguments_ok naming_ok point_ok operation_ok statement_ok bad_statement end_ok named_by gather names_of names_in is_named walk reached is_acyclic naming_verdict statement_verdict declaration_verdict numbers_verdict text_ok verdict reading_of text_of

@@ -1,7 +1,7 @@
 -- What is held in the way of each access: from the sets of both modes, and where nothing is taken for reading. Assumes nothing.
-use Rattle.std.specs.Prelude.{◌≡◌, Bool, ℕ, ◌+◌, ◌*◌, ◌-◌, ◌≤◌, ◌<◌, ltb, ℤ, length, take, drop}
+use Rattle.std.specs.Prelude.{◌≡◌, Bool, ℕ, ◌+◌, ◌*◌, ◌-◌, ◌≤◌, ◌<◌, ℤ, length, take, drop, Option, Some, None}
 use Rattle.std.proofs.Math.Path.{refl, sym, ap, ap₂}
-use Rattle.std.proofs.Common.{◌∙◌, arith, get_or-take, length-take-le, take_at, drop_at, le-ltb}
+use Rattle.std.proofs.Common.{◌∙◌, arith, get_or-take, length-take-le, take_at, drop_at}
 use Rattle.std.proofs.Math.Bool.{true, false}
 use mathlib.Core.List.{List, ◌++◌}
 use Rattle.std.proofs.Math.Decide.{dec_lt}
@@ -17,9 +17,9 @@ use Rattle.table.proofs.CheckLaws.{until_all}
 use Rattle.table.proofs.FrontLaws.{part_long, put_first}
 use Rattle.table.proofs.LookupLaws.{statement_is, statements_length}
 use Rattle.table.specs.Until.{until}
+use Rattle.table.specs.Found.{below}
+use Rattle.table.proofs.FoundLaws.{below_none}
 use Rattle.table.specs.View.{view, on_or, takes_to_read}
-use Rattle.table.specs.declared.Reference.{Reference}
-use Rattle.table.specs.declared.Reference.TheVariants.{To, Nothing}
 use Rattle.table.specs.declared.Statement.{Statement}
 use Rattle.table.specs.declared.Statement.TheVariants.{Return}
 use Rattle.report.specs.Greatest.{greatest}
@@ -29,16 +29,21 @@ use Rattle.report.specs.Effect.{gives}
 use Rattle.report.specs.Held.{held_sets}
 use Rattle.report.proofs.ModeLaws.{modes_same}
 use Rattle.report.specs.Findings.{sets_of, own_held, own_holds}
+use Rattle.held_edges.specs.TableEdges.{bases_of}
 use Rattle.modes.specs.Modes.{takes_to_write_alone, held_by}
+
+-- how many places the held sets of a mode need
+abbrev pub needed : List ℤ → ℕ
+needed f = (bases_of f).every + 1
 
 module _ (f : List ℤ) where
   abbrev t : Table
   t = table_of f
 
   -- where there is none, no statement of the table does, and past its end there is none
-  none_to_read : {n : ℕ} → n ≡ until (takes_to_write_alone f) 0 (statements f) → statements f ≤ n → (s : ℕ) → takes_to_read (view (statement t s)) ≡ false
+  none_to_read : None ≡ below (until (takes_to_write_alone f) 0 (statements f)) (statements f) → (s : ℕ) → takes_to_read (view (statement t s)) ≡ false
   unfolding takes_to_write_alone
-  none_to_read {n} e i s = go (dec_lt s (statements f))
+  none_to_read e s = go (dec_lt s (statements f))
     where
       past : statements f ≤ s → statement t s ≡ Return
       past l = get_or-eq_default t.statements Return (omega (arith, statements_length f))
@@ -47,7 +52,7 @@ module _ (f : List ℤ) where
       go (yes l) =
           ap (λ (σ : Statement). takes_to_read (view σ)) (statement_is f s l)
           ∙ not-true (takes_to_read (view (statement_of f s)))
-          (until_all (takes_to_write_alone f) 0 (statements f) (statements f) (ap (λ (m : ℕ). ltb m (statements f)) (sym e) ∙ le-ltb n (statements f) i) s (omega arith) l)
+          (until_all (takes_to_write_alone f) 0 (statements f) (statements f) (below_none (until (takes_to_write_alone f) 0 (statements f)) (statements f) e) s (omega arith) l)
       go (no l) = ap (λ (σ : Statement). takes_to_read (view σ)) (past (omega arith))
 
   -- ---- the sets of both modes in one list
@@ -60,17 +65,17 @@ module _ (f : List ℤ) where
   unfolding held_by
   held_once a e = sym (is_tabulate (statements f) _ a 0 e (λ s l. go s (view (statement_of f s)).writes))
     where
-      go : (s : ℕ) (r : Reference) → get_or a s 0 ≡ on_or r (λ h. get_or a s 0) (get_or a s 0)
-      go s (To h) = refl
-      go s Nothing = refl
+      go : (s : ℕ) (r : Option ℕ) → get_or a s 0 ≡ on_or r (λ h. get_or a s 0) (get_or a s 0)
+      go s (Some h) = refl
+      go s None = refl
 
   -- where nothing is taken for reading one mode is enough
-  pub one_mode : {n : ℕ} (flow given a : List ℕ) → n ≡ until (takes_to_write_alone f) 0 (statements f) → statements f ≤ n
+  pub one_mode : (flow given a : List ℕ) → None ≡ below (until (takes_to_write_alone f) 0 (statements f)) (statements f)
       → a ≡ held_sets t (one_each t) false flow given
       → a ≡ held_by f (held_sets t (one_each t) true flow given) (held_sets t (one_each t) false flow given)
-  one_mode flow given a e i is =
+  one_mode flow given a e is =
       is ∙ sym (held_once _ (held_long false flow given))
-      ∙ ap (λ (l : List ℕ). held_by f l (held_sets t (one_each t) false flow given)) (sym (modes_same t (one_each t) (none_to_read e i) flow given))
+      ∙ ap (λ (l : List ℕ). held_by f l (held_sets t (one_each t) false flow given)) (sym (modes_same t (one_each t) (none_to_read e) flow given))
 
   -- only the first places matter
   held_front : (a b c d : List ℕ) → ((s : ℕ) → s < statements f → get_or a s 0 ≡ get_or b s 0) → ((s : ℕ) → s < statements f → get_or c s 0 ≡ get_or d s 0)
@@ -144,8 +149,5 @@ module _ (f : List ℤ) where
 
 -- ---- room for edges: three a statement and one more
 
-pub also_fits : (f : List ℤ) → Accepted (table_of f) → 3 * statements f + 1 ≤ 1537
-also_fits f acc = omega (arith, acc.statements_most, statements_length f)
-
-pub edges_fit : (f : List ℤ) → Accepted (table_of f) → (n : ℕ) → 4 * statements f ≤ n → 3 * statements f + 1 ≤ n
-edges_fit f acc n l = omega (arith, acc.statements_some, statements_length f)
+pub edges_fit : (f : List ℤ) → Accepted (table_of f) → {n : ℕ} → 4 * statements f ≤ n → 3 * statements f + 1 ≤ n
+edges_fit f acc l = omega (arith, acc.statements_some, statements_length f)

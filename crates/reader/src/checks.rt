@@ -1,95 +1,111 @@
 // The verdict: the refusals in their order, each over the whole text before the next.
-ghost use Rattle.std.specs.Prelude.{◌≡◌};
-ghost use Rattle.table.specs.Header.{routines};
+ghost use Rattle.std.specs.Prelude.{◌≡◌, ◌-◌};
+ghost use Rattle.table.specs.Found.{below};
+ghost use Rattle.table.specs.Header.{routines, statements};
 ghost use Rattle.table.specs.HeaderLaws.{Sized};
 ghost use Rattle.table.specs.Lists.{StatementsBegin, HandlesBegin, ParametersCounted};
-ghost use Rattle.table.specs.Naming.{names_in};
-ghost use Rattle.table.specs.Statements.{bad_statement};
+ghost use Rattle.table.specs.Naming.{names_in, is_named, is_acyclic};
+ghost use Rattle.naming.specs.GatherLaws.{Ended};
+ghost use Rattle.table.specs.Until.{until};
+ghost use Rattle.table.specs.Statements.{bad_statement, end_ok};
 ghost use Rattle.table.specs.Verdict.{naming_verdict, statement_verdict, declaration_verdict, numbers_verdict};
 
-use crate::rules::{Rule, lowest};
 use declarations::handles::bad_handle;
 use declarations::header::{bad_leading, header_ok, length_ok};
 use declarations::routines::bad_routine;
-use lists::number_at;
-use statements::bad_among;
-use table::{Verdict, field_of, first_line};
+use lists::value_at;
+use naming::is_acyclic;
+use statements::{bad_among, end_ok};
+use table::{Refusal, field_of, first_failing, first_line};
+
+// The lowest of `count` routines, routine 0 apart, that none names.
+fn unnamed_routine(names: &[u64], count: usize) -> Option<usize>
+    requires { Ended names.now count }
+    ensures { result ≡ below (until (is_named names.now) 1 (count - 1)) count }
+{
+    let all = naming::all_named(names, count);
+    first_failing(1, count, |r| sets::has(all, r))
+}
+
+// The lowest of `count` routines that reaches itself.
+fn recursive_routine(names: &[u64], count: usize) -> Option<usize>
+    ensures { result ≡ below (until (is_acyclic names.now) 0 count) count }
+{
+    first_failing(0, count, |r| is_acyclic(names, r))
+}
 
 // Refusals 11 and 12, by what each routine names.
-fn naming_verdict(numbers: &[i32], first: &[usize], names: &[u64]) -> Verdict
-    requires statements_begin { StatementsBegin numbers.now first.now }
+fn naming_verdict(numbers: &[i32], names: &[u64]) -> Result<(), Refusal>
+    requires sized { Sized numbers.now }
     requires names_value { names.now ≡ names_in numbers.now }
     ensures { result ≡ naming_verdict numbers.now names.now }
 {
     let count = field_of(numbers, 0, 4);
-    let all = naming::all_named(names, count);
-    let r = lowest(Rule::Named { all }, numbers, first, names, 1, count);
-    if r < count {
-        return Verdict::Refused {
-            number: 11,
-            line: 1 + field_of(numbers, 0, 3) + r,
-        };
+    if let Some(r) = unnamed_routine(names, count) {
+        return Err(Refusal::Unnamed(1 + field_of(numbers, 0, 3) + r));
     }
-    let q = lowest(Rule::Acyclic, numbers, first, names, 0, count);
-    if q < count {
-        return Verdict::Refused {
-            number: 12,
-            line: 1 + field_of(numbers, 0, 3) + q,
-        };
+    if let Some(r) = recursive_routine(names, count) {
+        return Err(Refusal::Recursive(1 + field_of(numbers, 0, 3) + r));
     }
-    Verdict::Accepted
+    Ok(())
 }
 
-// The lowest statement that breaks refusal 9's rule, or the number of statements dealt out.
-fn bad_statement(numbers: &[i32], first: &[usize], handle: &[usize], counts: &[usize]) -> usize
+// The lowest statement that breaks refusal 9's rule.
+fn bad_statement(
+    numbers: &[i32],
+    first: &[usize],
+    handle: &[usize],
+    counts: &[usize],
+) -> Option<usize>
     requires statements_begin { StatementsBegin numbers.now first.now }
     requires handles_begin { HandlesBegin numbers.now handle.now }
     requires parameters_counted { ParametersCounted numbers.now counts.now }
-    ensures { result ≡ bad_statement numbers.now 0 (routines numbers.now) }
+    ensures { result ≡ below (bad_statement numbers.now 0 (routines numbers.now)) (statements numbers.now) }
 {
     let count = field_of(numbers, 0, 4);
-    let mut r = 0;
-    while r < count {
-        let end = number_at(first, r + 1);
-        let s = bad_among(numbers, first, handle, counts, r, number_at(first, r), end);
-        if s < end {
-            return s;
+    for r in 0..count {
+        let from = value_at(first, r, 0);
+        let end = value_at(first, r + 1, 0);
+        if let Some(s) = bad_among(numbers, first, handle, counts, r, from, end) {
+            return Some(s);
         }
-        r += 1;
     }
-    number_at(first, count)
+    None
+}
+
+// The lowest routine that breaks refusal 10's rule.
+fn running_on(numbers: &[i32], first: &[usize]) -> Option<usize>
+    requires { StatementsBegin numbers.now first.now }
+    ensures { result ≡ below (until (end_ok numbers.now) 0 (routines numbers.now)) (routines numbers.now) }
+{
+    first_failing(0, field_of(numbers, 0, 4), |r| end_ok(numbers, first, r))
 }
 
 // Refusals 9 to 12, by the lists that the rules are tested with.
-fn statement_checks(numbers: &[i32], first: &[usize], handle: &[usize], counts: &[usize]) -> Verdict
+fn statement_checks(
+    numbers: &[i32],
+    first: &[usize],
+    handle: &[usize],
+    counts: &[usize],
+) -> Result<(), Refusal>
     requires statements_begin { StatementsBegin numbers.now first.now }
     requires handles_begin { HandlesBegin numbers.now handle.now }
     requires parameters_counted { ParametersCounted numbers.now counts.now }
     ensures { result ≡ statement_verdict numbers.now }
 {
-    let s = bad_statement(numbers, first, handle, counts);
-    if s < field_of(numbers, 0, 5) {
-        return Verdict::Refused {
-            number: 9,
-            line: first_line(numbers) + s,
-        };
+    if let Some(s) = bad_statement(numbers, first, handle, counts) {
+        return Err(Refusal::StatementLine(first_line(numbers) + s));
     }
-    let count = field_of(numbers, 0, 4);
-    // no names are read here
-    let none = [0u64; 1];
-    let r = lowest(Rule::End, numbers, first, &none[..], 0, count);
-    if r < count {
-        return Verdict::Refused {
-            number: 10,
-            line: first_line(numbers) + statements::last_of(first, r),
-        };
+    if let Some(r) = running_on(numbers, first) {
+        let last = statements::last_of(first, r);
+        return Err(Refusal::RoutineEnd(first_line(numbers) + last));
     }
     let names = naming::names_in(numbers, first);
-    naming_verdict(numbers, first, &names[..])
+    naming_verdict(numbers, &names[..])
 }
 
 // Refusals 9 to 12.
-fn statement_verdict(numbers: &[i32], first: &[usize]) -> Verdict
+fn statement_verdict(numbers: &[i32], first: &[usize]) -> Result<(), Refusal>
     requires { StatementsBegin numbers.now first.now }
     ensures { result ≡ statement_verdict numbers.now }
 {
@@ -99,44 +115,35 @@ fn statement_verdict(numbers: &[i32], first: &[usize]) -> Verdict
 }
 
 // Refusals 6 to 12.
-fn declaration_verdict(numbers: &[i32]) -> Verdict
+fn declaration_verdict(numbers: &[i32]) -> Result<(), Refusal>
     requires { Sized numbers.now }
     ensures { result ≡ declaration_verdict numbers.now }
 {
-    let h = bad_handle(numbers);
-    if h < field_of(numbers, 0, 3) {
-        return Verdict::Refused {
-            number: 6,
-            line: 1 + h,
-        };
+    if let Some(h) = bad_handle(numbers) {
+        return Err(Refusal::HandleLine(1 + h));
     }
-    let r = bad_routine(numbers);
-    if r < field_of(numbers, 0, 4) {
-        return Verdict::Refused {
-            number: 7,
-            line: 1 + field_of(numbers, 0, 3) + r,
-        };
+    if let Some(r) = bad_routine(numbers) {
+        return Err(Refusal::RoutineLine(1 + field_of(numbers, 0, 3) + r));
     }
     let first = declarations::first_statements(numbers);
     if !declarations::sum_ok(numbers, &first[..]) {
-        return Verdict::Refused { number: 8, line: 0 };
+        return Err(Refusal::Sum);
     }
     statement_verdict(numbers, &first[..])
 }
 
 // Refusals 3 to 12, for a text of so many lines.
-pub fn numbers_verdict(numbers: &[i32], lines: usize) -> Verdict
+pub fn numbers_verdict(numbers: &[i32], lines: usize) -> Result<(), Refusal>
     ensures { result ≡ numbers_verdict numbers.now lines }
 {
     if !header_ok(numbers) {
-        return Verdict::Refused { number: 3, line: 0 };
+        return Err(Refusal::Header);
     }
     if !length_ok(numbers, lines) {
-        return Verdict::Refused { number: 4, line: 0 };
+        return Err(Refusal::LineCount);
     }
-    let line = bad_leading(numbers, lines);
-    if line < lines {
-        return Verdict::Refused { number: 5, line };
+    if let Some(line) = bad_leading(numbers, lines) {
+        return Err(Refusal::FirstField(line));
     }
     declaration_verdict(numbers)
 }

@@ -9,17 +9,14 @@ pub fn print_refusal(out: &mut [u8], number: u32, line: usize) -> usize
     ensures bytes { result ≡ length (refusal_in number line (length out.old)) }
     ensures buffer { out.new ≡ over (refusal_in number line (length out.old)) out.old }
 {
-    if 999_999 < number {
+    let Ok(first) = i32::try_from(number) else {
         return 0;
-    }
-    if 999_999 < line {
+    };
+    let Ok(second) = i32::try_from(line) else {
         return 0;
+    };
+    match line_printer::print_line(out, 0, [50, first, second, 0, 0, 0, 0, 0]) {
+        Ok(()) => 49,
+        Err(_) => 0,
     }
-    if out.len() < 49 {
-        return 0;
-    }
-    let first = number as i32;
-    let second = line as i32;
-    line_printer::print_line(out, 0, [50, first, second, 0, 0, 0, 0, 0]);
-    49
 }

@@ -1,5 +1,5 @@
 -- The effects, and the locks that a routine may give up, satisfy their rules, and are inside any sets that do. Assumes nothing.
-use Rattle.std.specs.Prelude.{ℕ, ◌^◌, ◌<◌, ◌≡◌, Bool, true}
+use Rattle.std.specs.Prelude.{ℕ, ◌^◌, ◌<◌, ◌≡◌, Bool, true, Option, Some}
 use Rattle.std.proofs.Math.Path.{refl}
 use Rattle.std.proofs.Common.{sym, ap, ◌∙◌, subst}
 use Rattle.std.proofs.Math.Logic.{inl, inr}
@@ -14,8 +14,6 @@ use Rattle.table.specs.Tabulate.{tabulate}
 use Rattle.table.specs.View.{view, On, set_on, list_on, accesses, calls}
 use Rattle.table.proofs.ViewLaws.{set_has, set_from, set_below, list_has, list_from}
 use Rattle.table.specs.declared.Statement.{Statement}
-use Rattle.table.specs.declared.Reference.{Reference}
-use Rattle.table.specs.declared.Reference.TheVariants.{To}
 use Rattle.table.specs.declared.View.{View}
 use Rattle.report.proofs.OverLaws.{Within, union_has, union_from_lem, union_from_below, tabulate_sets, tabulate_has, tabulate_from_lem}
 use Rattle.report.specs.Over.{joined_from}
@@ -87,21 +85,21 @@ module _ (flow : ℕ → ℕ) (below : (h : ℕ) → flow h < 2 ^ 64) where
 -- ---- up from the copies that statements name
 
 -- from the copy that a statement leads to, if an attribute of it refers to a routine
-abbrev up_by : Layout → (View → Reference) → ℕ → ℕ → ℕ → Statement → List Edge
+abbrev up_by : Layout → (View → Option ℕ) → ℕ → ℕ → ℕ → Statement → List Edge
 up_by k attribute p c s σ = list_on (attribute (view σ)) (λ q. plain (k.leads c s) c ∷ [])
 
-module _ (t : Table) (k : Layout) (fits : Fits t k) (attribute : View → Reference) where
+module _ (t : Table) (k : Layout) (fits : Fits t k) (attribute : View → Option ℕ) where
   abbrev all_up : List Edge
   all_up = joined_from 0 k.statements (λ p. up_by k attribute p (k.statement_copy p) (k.statement_at p) (statement t (k.statement_at p)))
 
-  up_among : (c s q : ℕ) → Place (copies_of fits) c s → attribute (view (statement t s)) ≡ To q → Memᴰ (plain (k.leads c s) c) all_up
+  up_among : (c s q : ℕ) → Place (copies_of fits) c s → attribute (view (statement t s)) ≡ Some q → Memᴰ (plain (k.leads c s) c) all_up
   up_among c s q w e =
       among_all t k fits (up_by k attribute) _ c s w (statement t s) refl
       (list_has (attribute (view (statement t s))) (λ r. plain (k.leads c s) c ∷ []) _ e (mathlib.Core.List.Memᴰ.head refl))
 
   -- what goes up from every copy that a statement leads to so, goes along every edge
   up_along : (P : ℕ → ℕ → Type 0)
-      → ((c s q : ℕ) → Place (copies_of fits) c s → attribute (view (statement t s)) ≡ To q → (x : ℕ) → P (k.leads c s) x → P c x)
+      → ((c s q : ℕ) → Place (copies_of fits) c s → attribute (view (statement t s)) ≡ Some q → (x : ℕ) → P (k.leads c s) x → P c x)
       → (e : Edge) → Memᴰ e all_up → (x : ℕ) → P e.from x → P e.to x
   up_along P f e m x a =
       let r = of_some t k fits (up_by k attribute) e m in

@@ -1,6 +1,6 @@
 -- What the report says of a cell and of a GIVE, by the rules: common locks, unguarded, stray. Assumes nothing.
 use Prim.Native.Nat.{ℕ, ◌^◌, ◌<◌}
-use Rattle.std.specs.Prelude.{◌≡◌, Bool, not, ◌&&◌, ◌||◌, ◌⊎◌, ◌↔◌, length}
+use Rattle.std.specs.Prelude.{◌≡◌, Bool, not, ◌&&◌, ◌||◌, ◌⊎◌, ◌↔◌, length, Option, Some, None}
 use Rattle.std.proofs.Math.Path.{refl, sym, ap, subst}
 use Rattle.std.proofs.Common.{◌∙◌, eqb-true, eq-eqb}
 use Rattle.std.proofs.Math.Bool.{true, false, cond}
@@ -15,8 +15,6 @@ use Rattle.table.specs.Table.{Table, statement}
 use Rattle.table.specs.View.{view, on_or, test_on}
 use Rattle.table.proofs.ViewLaws.{nothing_to, write_alone, test_is}
 use Rattle.table.specs.Accepted.{Accepted}
-use Rattle.table.specs.declared.Reference.{Reference}
-use Rattle.table.specs.declared.Reference.TheVariants.{To, Nothing}
 use Rattle.table.specs.declared.Statement.{Statement}
 use Rattle.report.specs.Over.{union_at}
 use Rattle.report.proofs.OverLaws.{never, none_in, both_true, true_both, either, either_left, either_right, not_has, inter_at, inter_inside, inter_has, union_at_has, union_at_from, below_within, within_below}
@@ -59,11 +57,11 @@ pub stray_own : (flow : ℕ → ℕ) (to_write either_way : ℕ) (σ : Statement
 unfolding stray_by
 stray_own flow to_write either_way σ = go (view σ).writes refl
   where
-    go : (r : Reference) → (view σ).writes ≡ r
+    go : (r : Option ℕ) → (view σ).writes ≡ r
         → test_on (view σ).gives (λ h. not (is_single (flow h) && subset (flow h) (on_or r (λ h. to_write) either_way)))
         ≡ test_on (view σ).gives (λ h. not (is_single (flow h) && subset (flow h) either_way))
-    go (To x) e = rw (write_alone σ e).1
-    go Nothing e = refl
+    go (Some x) e = rw (write_alone σ e).1
+    go None e = refl
 
 module _ (t : Table) (k : Layout) (acc : Accepted t) (fits : Fits t k) where
   abbrev the_sets : Sets
@@ -107,10 +105,10 @@ module _ (t : Table) (k : Layout) (acc : Accepted t) (fits : Fits t k) where
   held_by_way p true x (h, e, a) = rw e
   held_by_way p false x (h, e, a) = go (view (statement t (k.statement_at p))).writes refl
     where
-      go : (r : Reference) → (view (statement t (k.statement_at p))).writes ≡ r
+      go : (r : Option ℕ) → (view (statement t (k.statement_at p))).writes ≡ r
           → on_or r (λ h. get_or the_sets.held_to_write p 0) (get_or the_sets.held p 0) ≡ get_or the_sets.held p 0
-      go (To y) i = nothing_to (sym (write_alone (statement t (k.statement_at p)) i).0 ∙ e)
-      go Nothing i = refl
+      go (Some y) i = nothing_to (sym (write_alone (statement t (k.statement_at p)) i).0 ∙ e)
+      go None i = refl
 
   pub common_has : (x l : ℕ) → has (all_locks t) l ≡ true → Common (copies_of fits) (families t k).flow (families t k).held (families t k).preceded x l
       → has (common_locks t k the_sets x) l ≡ true
@@ -193,7 +191,7 @@ module _ (t : Table) (k : Layout) (acc : Accepted t) (fits : Fits t k) where
   abbrev stray_through : ℕ → ℕ → ℕ → Bool
   stray_through c locks h = let F : ℕ = flow_at k the_sets.flow c h in not (is_single F && subset F locks)
 
-  pub sound_if : (c s h : ℕ) → Place (copies_of fits) c s → (view (statement t s)).gives ≡ To h → stray_at t k the_sets (k.statement_place c s) ≡ false
+  pub sound_if : (c s h : ℕ) → Place (copies_of fits) c s → (view (statement t s)).gives ≡ Some h → stray_at t k the_sets (k.statement_place c s) ≡ false
       → Sound (families t k).flow ((families t k).held false) c s h
   unfolding stray_at stray_by is_single
   sound_if c s h v e f =
@@ -210,7 +208,7 @@ module _ (t : Table) (k : Layout) (acc : Accepted t) (fits : Fits t k) where
         before = subset_has F H b.1 i.0 i.1;
       }
 
-  pub sound_is : (c s h : ℕ) → Place (copies_of fits) c s → (view (statement t s)).gives ≡ To h → Sound (families t k).flow ((families t k).held false) c s h
+  pub sound_is : (c s h : ℕ) → Place (copies_of fits) c s → (view (statement t s)).gives ≡ Some h → Sound (families t k).flow ((families t k).held false) c s h
       → stray_at t k the_sets (k.statement_place c s) ≡ false
   unfolding stray_at stray_by
   sound_is c s h v e o =

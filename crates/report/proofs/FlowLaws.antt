@@ -1,6 +1,6 @@
 -- The flow sets satisfy their rules, and are inside any that do. Assumes nothing.
 use Prim.Native.Nat.{ℕ, ◌+◌, ◌^◌, ◌≤◌, ◌<◌}
-use Rattle.std.specs.Prelude.{◌≡◌, Bool, true, false, cond, ◌⊎◌, eqb, length, get_or}
+use Rattle.std.specs.Prelude.{◌≡◌, Bool, true, false, cond, ◌⊎◌, eqb, length, get_or, Some}
 use Rattle.std.proofs.Math.Path.{refl, subst}
 use Rattle.std.proofs.Common.{sym, ap, ◌∙◌, inl, inr, arith, eqb-true, eq-eqb}
 use Rattle.std.proofs.Math.Logic.{⊎_elim}
@@ -15,7 +15,6 @@ use Rattle.table.proofs.ViewLaws.{list_has, list_from}
 use Rattle.table.specs.Accepted.{Accepted, Operands, Passes, Names, HandleFacts}
 use Rattle.table.specs.declared.Arguments.{Arguments}
 use Rattle.table.specs.declared.Statement.{Statement}
-use Rattle.table.specs.declared.Reference.TheVariants.{To}
 use Rattle.report.proofs.OverLaws.{Within, none_in, joined_has, joined_from_lem, below_within, within_below, tabulate_sets, tabulate_has, tabulate_from_lem}
 use Rattle.report.specs.Layout.{Layout}
 use Rattle.report.specs.Fits.{Fits, HandlePlaced, HandleThere, copies_of}
@@ -105,7 +104,7 @@ module _ (t : Table) (k : Layout) (acc : Accepted t) (fits : Fits t k) where
         (subst (λ (r : ℕ). OwnHandle t r ((routine t q).handle + j)) (sym e)
         (parameter_own t k fits acc q j (subst (λ (r : ℕ). r < length t.routines) e (fits.of_there (k.leads c s) d)) l))
 
-    point_rule : (h : ℕ) → (view (statement t s)).points ≡ To h → (x : ℕ) → FlowHas k (flow_sets t k) c (view (statement t s)).source x → FlowHas k (flow_sets t k) c h x
+    point_rule : (h : ℕ) → (view (statement t s)).points ≡ Some h → (x : ℕ) → FlowHas k (flow_sets t k) c (view (statement t s)).source x → FlowHas k (flow_sets t k) c h x
     unfolding flow_edges
     point_rule h e x b =
         carries (plain (k.handle_place c (view (statement t s)).source) (k.handle_place c h))

@@ -1,7 +1,7 @@
 -- C-12: passes from the highest statement down come to the flow sets; no more are made than there are handles; where helpers stand before the routines that
 -- use them two passes settle the sets, so at most three are made. Assumes nothing.
 use Prim.Native.Nat.{ℕ, zero, suc, ◌+◌, ◌-◌, ◌≤◌, ◌<◌, max}
-use Rattle.std.specs.Prelude.{◌≡◌, Bool, true, false, ◌⊎◌, ltb, get_or}
+use Rattle.std.specs.Prelude.{◌≡◌, Bool, true, false, ◌⊎◌, ltb, get_or, Option, Some, None}
 use Rattle.std.proofs.Math.Path.{refl, sym, ap, subst, fun_ext}
 use Rattle.std.proofs.Common.{◌∙◌, zero-add, le_refl, add-one, ltb-true, ltb-false}
 use Rattle.std.proofs.Math.Logic.{inl, inr, ⊎_elim}
@@ -18,8 +18,6 @@ use Rattle.table.specs.Table.{Table, declaration, routine, statement, passed, In
 use Rattle.table.specs.View.{view, On, list_on}
 use Rattle.table.proofs.ViewLaws.{list_from, nothing_to, points_or_names}
 use Rattle.table.specs.Accepted.{Accepted, Operands, Passes, Names}
-use Rattle.table.specs.declared.Reference.{Reference}
-use Rattle.table.specs.declared.Reference.TheVariants.{To, Nothing}
 use Rattle.table.specs.declared.View.{View}
 use Rattle.table.specs.declared.Statement.{Statement}
 use Rattle.report.specs.Over.{joined_from}
@@ -78,7 +76,7 @@ module _ (t : Table) (k : Layout) where
 pub record Ends (t : Table) (r s : ℕ) (e : Edge) : Type 0 where
   pub from : OwnHandle t r e.from
   pub also : e.also ≡ e.from
-  pub to : (((view (statement t s)).points ≡ To e.to) × OwnHandle t r e.to) ⊎ ((q : ℕ) × Names (statement t s) q × OwnHandle t q e.to)
+  pub to : (((view (statement t s)).points ≡ Some e.to) × OwnHandle t r e.to) ⊎ ((q : ℕ) × Names (statement t s) q × OwnHandle t q e.to)
 
 module _ (t : Table) (acc : Accepted t) where
   ends_of : (r s c : ℕ) → r < length t.routines → InRoutine t r s → (e : Edge) → Memᴰ e (flow_edges t (one_each t) c s (statement t s)) → Ends t r s e
@@ -134,12 +132,12 @@ module _ (t : Table) (acc : Accepted t) where
 
   -- ---- within a statement: the order of its arguments does not show
 
-  no_arguments : (x : Reference) (g : ℕ → Edge) (y : Reference) (h : ℕ → List Edge) (u : List ℕ) → y ≡ Nothing
+  no_arguments : (x : Option ℕ) (g : ℕ → Edge) (y : Option ℕ) (h : ℕ → List Edge) (u : List ℕ) → y ≡ None
       → pass_edges (list_on x (λ n. g n ∷ []) ++ list_on y h) u ≡ pass_down (list_on x (λ n. g n ∷ []) ++ list_on y h) u
   unfolding pass_edges pass_down
-  no_arguments (To n) g Nothing h u e = refl
-  no_arguments Nothing g Nothing h u e = refl
-  no_arguments x g (To m) h u e = nothing_to (sym e)
+  no_arguments (Some n) g None h u e = refl
+  no_arguments None g None h u e = refl
+  no_arguments x g (Some m) h u e = nothing_to (sym e)
 
   pub arguments_any_order : (r s : ℕ) → r < length t.routines → InRoutine t r s → (u : List ℕ)
       → pass_edges (flow_edges t (one_each t) r s (statement t s)) u ≡ pass_down (flow_edges t (one_each t) r s (statement t s)) u
@@ -149,7 +147,7 @@ module _ (t : Table) (acc : Accepted t) where
       v : View
       v = view (statement t s)
 
-      passing_apart : (view (statement t s)).points ≡ Nothing
+      passing_apart : (view (statement t s)).points ≡ None
           → pass_edges (flow_edges t (one_each t) r s (statement t s)) u ≡ pass_down (flow_edges t (one_each t) r s (statement t s)) u
       passing_apart still = any_order _ u (λ e d m k. apart e d (ends_of r s r l i e m) (ends_of r s r l i d k))
         where

@@ -1,6 +1,6 @@
 -- The futures satisfy their rules, and are inside any sets that do. Assumes nothing.
 use Prim.Native.Nat.{ℕ, ◌+◌, ◌^◌, ◌<◌}
-use Rattle.std.specs.Prelude.{◌≡◌, Bool, ◌⊎◌, ltb}
+use Rattle.std.specs.Prelude.{◌≡◌, Bool, ◌⊎◌, ltb, Some}
 use Rattle.std.proofs.Math.Path.{refl, subst}
 use Rattle.std.proofs.Common.{sym, inl, inr, ltb-true, lt-ltb}
 use Rattle.std.proofs.Math.Bool.{true, false, cond}
@@ -16,7 +16,6 @@ use Rattle.table.specs.View.{view, On, list_on, calls}
 use Rattle.table.proofs.ViewLaws.{set_below, list_has, list_from}
 use Rattle.table.specs.Accepted.{Accepted}
 use Rattle.table.specs.declared.Statement.{Statement}
-use Rattle.table.specs.declared.Reference.TheVariants.{To}
 use Rattle.report.specs.Over.{union_at}
 use Rattle.report.proofs.OverLaws.{none_in, union_at_has, union_at_from, union_at_below, tabulate_sets, tabulate_has, tabulate_from_lem}
 use Rattle.report.specs.Layout.{Layout}
@@ -106,7 +105,7 @@ module _ (t : Table) (k : Layout) (acc : Accepted t) (fits : Fits t k) (flow : L
       (mathlib.Core.List.Memᴰ.append_left (plain (callers k c) (k.statement_place c s) ∷ call_edges (k.statement_place c s) c s (statement t s)) (map_has (λ (n : ℕ). plain (k.statement_place c n) (k.statement_place c s)) _ s' (goes_next s (statement t s) s' g)))
       (place_below c s v) x a a
 
-  of_callers : (c s z : ℕ) (w : Bool) (x q : ℕ) → Place (copies_of fits) c s → calls (view (statement t s)) ≡ To q
+  of_callers : (c s z : ℕ) (w : Bool) (x q : ℕ) → Place (copies_of fits) c s → calls (view (statement t s)) ≡ Some q
       → Place (copies_of fits) (k.leads c s) z → Future c s w x → Future (k.leads c s) z w x
   unfolding callers
   of_callers c s z w x q v e u f =
@@ -143,7 +142,7 @@ module _ (t : Table) (k : Layout) (acc : Accepted t) (fits : Fits t k) (flow : L
         let u : StatementPlaced k c s = placed t k fits c s v in
         subst (λ (z : ℕ). other c z w x) u.same (subst (λ (d : ℕ). other d (k.statement_at (k.statement_place c s)) w x) u.copy (a.here u.there))
 
-    called : (c s q : ℕ) → Place (copies_of fits) c s → calls (view (statement t s)) ≡ To q → (x : ℕ) → other c s w x → Ahead (callers k (k.leads c s)) x
+    called : (c s q : ℕ) → Place (copies_of fits) c s → calls (view (statement t s)) ≡ Some q → (x : ℕ) → other c s w x → Ahead (callers k (k.leads c s)) x
     unfolding callers
     called c s q v e x o = record {
       here = λ l. absurd (omega arith);

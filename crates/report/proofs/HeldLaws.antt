@@ -1,6 +1,6 @@
 -- The held sets of each mode satisfy their rules, and contain any sets that do. Assumes nothing.
 use Prim.Native.Nat.{ℕ, ◌^◌, ◌≤◌, ◌<◌}
-use Rattle.std.specs.Prelude.{◌≡◌, Bool, cond, ltb}
+use Rattle.std.specs.Prelude.{◌≡◌, Bool, cond, ltb, Some}
 use Rattle.std.proofs.Math.Path.{refl, sym, ap, subst}
 use Rattle.std.proofs.Common.{◌∙◌, ⊎_elim, arith, le_refl}
 use Rattle.std.proofs.Math.Bool.{true, false}
@@ -15,7 +15,6 @@ use Rattle.table.specs.View.{view, On, set_on, list_on, calls, starts, takes_in}
 use Rattle.table.proofs.ViewLaws.{set_has, set_from, list_has, list_from, calls_names, starts_names}
 use Rattle.table.specs.Accepted.{Accepted, Names}
 use Rattle.table.specs.declared.Statement.{Statement}
-use Rattle.table.specs.declared.Reference.TheVariants.{To}
 use Rattle.report.proofs.OverLaws.{never, none_in, inter_at, inter_inside, inter_has}
 use Rattle.report.specs.Greatest.{Way, leaving, left_out}
 use Rattle.report.proofs.GreatestLaws.{Monotone, minus_has, minus_from, greatest_is, greatest_inside, greatest_kept, greatest_contains, greatest_meets}
@@ -115,12 +114,12 @@ module _ (t : Table) (k : Layout) (acc : Accepted t) (fits : Fits t k) (mode : B
         way_among _ (mathlib.Core.List.Memᴰ.append_left (call_ways c s (statement t s) ++ start_ways c s (statement t s))
         (map_has (onward c s (statement t s)) (nexts s (statement t s)) n (goes_next s (statement t s) n g)))
 
-    call_among : (q : ℕ) → calls (view (statement t s)) ≡ To q → Memᴰ (call_way c s) (all_ways t k mode flow given)
+    call_among : (q : ℕ) → calls (view (statement t s)) ≡ Some q → Memᴰ (call_way c s) (all_ways t k mode flow given)
     call_among q e =
         way_among _ (mathlib.Core.List.Memᴰ.append_right (map (onward c s (statement t s)) (nexts s (statement t s)))
         (mathlib.Core.List.Memᴰ.append_left (start_ways c s (statement t s)) (list_has (calls (view (statement t s))) (λ r. call_way c s ∷ []) _ e (mathlib.Core.List.Memᴰ.head refl))))
 
-    start_among : (q : ℕ) → starts (view (statement t s)) ≡ To q → Memᴰ (start_way c s) (all_ways t k mode flow given)
+    start_among : (q : ℕ) → starts (view (statement t s)) ≡ Some q → Memᴰ (start_way c s) (all_ways t k mode flow given)
     start_among q e =
         way_among _ (mathlib.Core.List.Memᴰ.append_right (map (onward c s (statement t s)) (nexts s (statement t s)))
         (mathlib.Core.List.Memᴰ.append_right (call_ways c s (statement t s)) (list_has (starts (view (statement t s))) (λ r. start_way c s ∷ []) _ e (mathlib.Core.List.Memᴰ.head refl))))
@@ -128,8 +127,8 @@ module _ (t : Table) (k : Layout) (acc : Accepted t) (fits : Fits t k) (mode : B
   -- a way is the first one, or goes on from a statement, or goes into the copy that a CALL or a START leads to
   module _ {ℓ} (C : Way → Type ℓ) (first : C first_way)
       (on : (c s n : ℕ) → Place (copies_of fits) c s → Goes s (statement t s) n → C (onward c s (statement t s) n))
-      (by_call : (c s q : ℕ) → Place (copies_of fits) c s → calls (view (statement t s)) ≡ To q → C (call_way c s))
-      (by_start : (c s q : ℕ) → Place (copies_of fits) c s → starts (view (statement t s)) ≡ To q → C (start_way c s)) where
+      (by_call : (c s q : ℕ) → Place (copies_of fits) c s → calls (view (statement t s)) ≡ Some q → C (call_way c s))
+      (by_start : (c s q : ℕ) → Place (copies_of fits) c s → starts (view (statement t s)) ≡ Some q → C (start_way c s)) where
     way_from : (c s : ℕ) → Place (copies_of fits) c s → (w : Way) → (p : ℕ) → Memᴰ w (ways_at p c s (statement t s)) → C w
     way_from c s v w p m =
         ⊎_elim
@@ -384,8 +383,8 @@ module _ (t : Table) (k : Layout) (acc : Accepted t) (fits : Fits t k) (mode : B
   pub record EveryWay (c s x : ℕ) : Type 0 where
     pub before : (z : ℕ) → Place (copies_of fits) c z → Goes z (statement t z) s → After (copies_of fits) mode (FlowHas k flow) (GivesHas given) Held c z x (statement t z)
     pub by_main : s ≡ (routine t (k.routine_of c)).first → c ≡ k.first → ⊥
-    pub by_call : s ≡ (routine t (k.routine_of c)).first → (d z q : ℕ) → Place (copies_of fits) d z → calls (view (statement t z)) ≡ To q → k.leads d z ≡ c → Held d z x
-    pub by_start : s ≡ (routine t (k.routine_of c)).first → (d z q : ℕ) → Place (copies_of fits) d z → starts (view (statement t z)) ≡ To q → k.leads d z ≡ c → ⊥
+    pub by_call : s ≡ (routine t (k.routine_of c)).first → (d z q : ℕ) → Place (copies_of fits) d z → calls (view (statement t z)) ≡ Some q → k.leads d z ≡ c → Held d z x
+    pub by_start : s ≡ (routine t (k.routine_of c)).first → (d z q : ℕ) → Place (copies_of fits) d z → starts (view (statement t z)) ≡ Some q → k.leads d z ≡ c → ⊥
 
   -- two places are the same only where copy and statement are
   same_place : (c s d z : ℕ) → Place (copies_of fits) c s → Place (copies_of fits) d z → k.statement_place d z ≡ k.statement_place c s → (d ≡ c) × (z ≡ s)

@@ -1,7 +1,7 @@
 -- C-18: the held sets of the two modes. What is held for writing is held in either way, and where nothing is taken for reading the two are the same.
 -- Assumes nothing.
 use Prim.Native.Nat.{ℕ, ◌^◌, ◌<◌}
-use Rattle.std.specs.Prelude.{◌≡◌, refl, Bool, true, false, cond, not, get_or}
+use Rattle.std.specs.Prelude.{◌≡◌, refl, Bool, true, false, cond, not, get_or, Option, Some, None}
 use Rattle.std.proofs.Math.Path.{ap, fun_ext}
 use Rattle.std.proofs.Common.{inl, inr}
 use mathlib.Core.List.{List, [], ◌∷◌, ◌++◌, map}
@@ -10,8 +10,6 @@ use Rattle.table.specs.Table.{Table, statement}
 use Rattle.table.specs.View.{view, set_on, list_on, test_on, calls, starts, takes_in, takes_to_read}
 use Rattle.table.proofs.ViewLaws.{taken_takes}
 use Rattle.table.specs.Accepted.{Accepted}
-use Rattle.table.specs.declared.Reference.{Reference}
-use Rattle.table.specs.declared.Reference.TheVariants.{To, Nothing}
 use Rattle.table.specs.declared.Statement.{Statement}
 use Rattle.report.specs.Over.{joined_from}
 use Rattle.report.proofs.OverLaws.{never}
@@ -59,17 +57,17 @@ module _ (t : Table) (k : Layout) (none : (s : ℕ) → takes_to_read (view (sta
   taken_same : (s : ℕ) → takes_in true (view (statement t s)) ≡ takes_in false (view (statement t s))
   taken_same s = go (view (statement t s)).takes (view (statement t s)).writing (none s)
     where
-      go : (r : Reference) (b : Bool) → test_on r (λ h. not b) ≡ false → cond b r Nothing ≡ r
-      go (To h) true e = refl
-      go (To h) false e = never e
-      go Nothing true e = refl
-      go Nothing false e = refl
+      go : (r : Option ℕ) (b : Bool) → test_on r (λ h. not b) ≡ false → cond b r None ≡ r
+      go (Some h) true e = refl
+      go (Some h) false e = never e
+      go None true e = refl
+      go None false e = refl
 
   ways_same : (c s : ℕ) → ways_from t k true flow given c s ≡ ways_from t k false flow given c s
   unfolding ways_from held_after gained taken_in
   ways_same c s =
       ap {B = List Way}
-      (λ (r : Reference).
+      (λ (r : Option ℕ).
       map
       (λ (n : ℕ).
       record {

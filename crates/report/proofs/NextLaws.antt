@@ -1,11 +1,10 @@
 -- What may come next, as a list and by the rule. Assumes nothing.
-use Rattle.std.specs.Prelude.{ℕ, ◌+◌, ◌≡◌, refl, ◌⊎◌}
+use Rattle.std.specs.Prelude.{ℕ, ◌+◌, ◌≡◌, refl, ◌⊎◌, Some}
 use Rattle.std.proofs.Common.{sym, ap, ◌∙◌, inl, inr}
 use mathlib.Core.List.{List, [], ◌∷◌, map, Memᴰ}
 use Rattle.table.specs.Table.{Table, statement, InRoutine}
 use Rattle.table.specs.View.{view, On, list_on, when}
 use Rattle.table.proofs.ViewLaws.{list_has, list_from, when_has, when_from}
-use Rattle.table.specs.declared.Reference.TheVariants.{To}
 use Rattle.table.specs.Accepted.{Accepted, Operands, GoesOn}
 use Rattle.table.specs.declared.Statement.{Statement}
 use Rattle.report.specs.Layout.{Layout}
@@ -26,7 +25,7 @@ next_goes s σ n m = go (mathlib.Core.List.Memᴰ.append_cases (list_on (view σ
     go : Memᴰ n (list_on (view σ).target (λ m. m ∷ [])) ⊎ Memᴰ n (when (view σ).onward ((s + 1) ∷ [])) → Goes s σ n
     go (inl a) =
         let o : On (view σ).target (λ m. Memᴰ n (m ∷ [])) = list_from (view σ).target (λ m. m ∷ []) n a in
-        inl (o.1 ∙ ap To (sym (mathlib.Core.List.Memᴰ.eq_of_singleton o.2)))
+        inl (o.1 ∙ ap Some (sym (mathlib.Core.List.Memᴰ.eq_of_singleton o.2)))
     go (inr a) = let o = when_from (view σ).onward ((s + 1) ∷ []) n a in inr (o.0, mathlib.Core.List.Memᴰ.eq_of_singleton o.1)
 
 -- what may come next is of the same routine

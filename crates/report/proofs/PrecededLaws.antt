@@ -1,7 +1,7 @@
 -- The copies that reach a START, and the statements that a START can precede, satisfy their rules, and are inside any that do; and these are document 02's
 -- sentence. Assumes nothing.
 use Prim.Native.Nat.{ℕ, ◌+◌, ◌^◌, ◌<◌}
-use Rattle.std.specs.Prelude.{◌≡◌, Bool, cond, ◌⊎◌, ◌↔◌, get_or}
+use Rattle.std.specs.Prelude.{◌≡◌, Bool, cond, ◌⊎◌, ◌↔◌, get_or, Option, Some, None}
 use Rattle.std.proofs.Math.Path.{refl, subst}
 use Rattle.std.proofs.Common.{sym, ap, ◌∙◌}
 use Rattle.std.proofs.Math.Bool.{true, false}
@@ -18,8 +18,6 @@ use Rattle.table.specs.Table.{Table, statement}
 use Rattle.table.specs.View.{view, On, test_on, list_on, calls, starts}
 use Rattle.table.proofs.ViewLaws.{list_has, list_from, test_is, calls_names}
 use Rattle.table.specs.Accepted.{Accepted}
-use Rattle.table.specs.declared.Reference.{Reference}
-use Rattle.table.specs.declared.Reference.TheVariants.{To, Nothing}
 use Rattle.table.specs.declared.Statement.{Statement}
 use Rattle.report.proofs.OverLaws.{never, none_in, either, either_left, either_right, tabulate_sets, tabulate_has, tabulate_from_lem}
 use Rattle.report.specs.Layout.{Layout}
@@ -144,9 +142,9 @@ module _ (t : Table) (k : Layout) (fits : Fits t k) where
 abbrev pub Preceded : Layout → List ℕ → ℕ → ℕ → Type 0
 Preceded k preceded c s = is_preceded k preceded (k.statement_place c s) ≡ true
 
-test_from : (r : Reference) (f : ℕ → Bool) → test_on r f ≡ true → On r (λ n. f n ≡ true)
-test_from (To n) f h = (n, refl, h)
-test_from Nothing f h = never (sym h)
+test_from : (r : Option ℕ) (f : ℕ → Bool) → test_on r f ≡ true → On r (λ n. f n ≡ true)
+test_from (Some n) f h = (n, refl, h)
+test_from None f h = never (sym h)
 
 module _ (t : Table) (k : Layout) (acc : Accepted t) (fits : Fits t k) (reach : List ℕ) where
   -- ---- a START, or a CALL that reaches one, as a test and by the rule
@@ -228,7 +226,7 @@ module _ (t : Table) (k : Layout) (acc : Accepted t) (fits : Fits t k) (reach : 
       (omega arith) h)
 
   -- the copy that a START leads to
-  start_enters : (c s q : ℕ) → Place (copies_of fits) c s → starts (view (statement t s)) ≡ To q → k.leads c s < k.copies
+  start_enters : (c s q : ℕ) → Place (copies_of fits) c s → starts (view (statement t s)) ≡ Some q → k.leads c s < k.copies
       → is_marked sets (entered k (k.leads c s)) ≡ true
   start_enters c s q v e l =
       along c s v (entered k k.copies) (entered k (k.leads c s))
@@ -237,7 +235,7 @@ module _ (t : Table) (k : Layout) (acc : Accepted t) (fits : Fits t k) (reach : 
       (entered_below (k.leads c s) l) start_so
 
   -- and a CALL that a START can precede
-  call_enters : (c s q : ℕ) → Place (copies_of fits) c s → calls (view (statement t s)) ≡ To q → k.leads c s < k.copies → Preceded k sets c s
+  call_enters : (c s q : ℕ) → Place (copies_of fits) c s → calls (view (statement t s)) ≡ Some q → k.leads c s < k.copies → Preceded k sets c s
       → is_marked sets (entered k (k.leads c s)) ≡ true
   call_enters c s q v e l h =
       ⊎_elim (λ a. from (k.statement_place c s) (Memᴰ.head refl) a) (λ b. from (entered k c) (Memᴰ.tail (Memᴰ.head refl)) b) (own_or_entered c s v h)
@@ -323,7 +321,7 @@ module _ (t : Table) (k : Layout) (acc : Accepted t) (fits : Fits t k) (reach : 
           go true e a = so_placed c n u (rules.next c s n v u g (is_brings c s σ e))
           go false e a = so_placed c n u (rules.later c s n v u g (a.here l))
 
-      enter : (q f : ℕ) → calls (view σ) ≡ To q → (So f → other c s) → So f → So (entered k (k.leads c s))
+      enter : (q f : ℕ) → calls (view σ) ≡ Some q → (So f → other c s) → So f → So (entered k (k.leads c s))
       unfolding c s σ
       enter q f e known a = so_copy (k.leads c s) (λ z u. rules.by_call c s z q v e u (known a))
 
@@ -334,7 +332,7 @@ module _ (t : Table) (k : Layout) (acc : Accepted t) (fits : Fits t k) (reach : 
           along_edge : (f g : ℕ) → e ≡ plain f g → (So f → So g) → So e.to
           along_edge f g i h = subst (λ (d : Edge). So d.to) (sym i) (h (subst (λ (d : Edge). So d.from) i a))
 
-          called : (q : ℕ) → calls (view σ) ≡ To q → Memᴰ e (plain p (entered k (k.leads c s)) ∷ plain (entered k c) (entered k (k.leads c s)) ∷ []) → So e.to
+          called : (q : ℕ) → calls (view σ) ≡ Some q → Memᴰ e (plain p (entered k (k.leads c s)) ∷ plain (entered k c) (entered k (k.leads c s)) ∷ []) → So e.to
           called q w (Memᴰ.head i) = along_edge p (entered k (k.leads c s)) i (enter q p w (λ b. b.here l))
           called q w (Memᴰ.tail m) =
               along_edge (entered k c) (entered k (k.leads c s)) (Memᴰ.eq_of_singleton m) (enter q (entered k c) w (λ b. b.every c s refl v))
@@ -381,7 +379,7 @@ module _ {t : Table} (copies : Copies t) (reaches : ℕ → Type 0) (preceded : 
     pub number : ℕ
     pub routine_named : ℕ
     pub place : Place copies copy number
-    pub start : starts (view (statement t number)) ≡ To routine_named
+    pub start : starts (view (statement t number)) ≡ Some routine_named
     pub leads_here : copies.leads copy number ≡ c
 
   -- "a START can precede some CALL of its routine"
@@ -390,7 +388,7 @@ module _ {t : Table} (copies : Copies t) (reaches : ℕ → Type 0) (preceded : 
     pub number : ℕ
     pub routine_named : ℕ
     pub place : Place copies copy number
-    pub call : calls (view (statement t number)) ≡ To routine_named
+    pub call : calls (view (statement t number)) ≡ Some routine_named
     pub leads_here : copies.leads copy number ≡ c
     pub before : preceded copy number
 

@@ -1,7 +1,7 @@
 -- The sets of a table that is accepted satisfy all rules of the report, and what the report says of a cell and of a GIVE is what the rules say.
 -- Assumes nothing.
 use Prim.Native.Nat.{ℕ, ◌^◌, ◌<◌}
-use Rattle.std.specs.Prelude.{◌≡◌, Bool, cond, ◌⊎◌}
+use Rattle.std.specs.Prelude.{◌≡◌, Bool, cond, ◌⊎◌, Some}
 use Rattle.std.proofs.Math.Path.{refl, subst, fun_ext}
 use Rattle.std.proofs.Common.{sym, ◌∙◌}
 use Rattle.std.proofs.Math.Bool.{true, false}
@@ -14,7 +14,6 @@ use Rattle.table.specs.Table.{Table, statement}
 use Rattle.table.specs.View.{view, On, set_on, starts}
 use Rattle.table.proofs.ViewLaws.{set_has, set_from}
 use Rattle.table.specs.Accepted.{Accepted}
-use Rattle.table.specs.declared.Reference.TheVariants.{To}
 use Rattle.report.proofs.OverLaws.{both_true, true_both, union_has, union_from_lem, below_within, within_below}
 use Rattle.report.specs.Layout.{Layout}
 use Rattle.report.specs.Fits.{Fits, copies_of}
@@ -151,7 +150,7 @@ module _ (t : Table) (k : Layout) (acc : Accepted t) (fits : Fits t k) where
     pub number : ℕ
     pub routine_named : ℕ
     pub place : Place (copies_of fits) copy number
-    pub start : starts (view (statement t number)) ≡ To routine_named
+    pub start : starts (view (statement t number)) ≡ Some routine_named
     pub clashes : Clash (EffectHas (effect_list the_sets) (k.leads copy number)) (FutureHas k (future_list the_sets) copy number) x
 
   start_from : (p : ℕ) → p < k.statements → (x : ℕ) → has (shared_at t k the_sets p) x ≡ true → AtStart x

@@ -1,10 +1,9 @@
 -- What the rules say where document 01 names a trap, and C-18 one more: a law each. Assumes nothing.
-use Rattle.std.specs.Prelude.{ℕ, ◌+◌, ◌≡◌, refl, Bool, true}
+use Rattle.std.specs.Prelude.{ℕ, ◌+◌, ◌≡◌, refl, Bool, true, Some, None}
 use Rattle.std.proofs.Common.{sym, ap, subst, ◌∙◌, inl, inr, ⊎_elim}
 use Rattle.table.specs.Table.{Table, routine, statement}
 use Rattle.table.specs.View.{view, calls, starts, takes_in}
 use Rattle.table.proofs.ViewLaws.{nothing_to, one_reference, taken_takes}
-use Rattle.table.specs.declared.Reference.TheVariants.{To, Nothing}
 use Rattle.table.specs.declared.Arguments.{Arguments}
 use Rattle.table.specs.declared.Handle.{Handle}
 use Rattle.table.specs.declared.Statement.{Statement}
@@ -20,15 +19,15 @@ module _ {t : Table} (copies : Copies t) (f : Families) (rules : Rules copies f)
       ((rules.held_rules mode).way c s (s + 1) k here (inr (ap (λ (τ : Statement). (view τ).onward) eq ∙ on, refl)) held)
 
   -- a statement that takes no lock in a mode, and calls nothing, adds none to its sets
-  adds_none : (mode : Bool) (c s k : ℕ) (σ : Statement) → takes_in mode (view σ) ≡ Nothing → calls (view σ) ≡ Nothing
+  adds_none : (mode : Bool) (c s k : ℕ) (σ : Statement) → takes_in mode (view σ) ≡ None → calls (view σ) ≡ None
       → After copies mode f.flow f.gives (f.held mode) c s k σ → f.held mode c s k
   adds_none mode c s k σ takes calls (inl (inl (h, e, only))) = nothing_to (sym takes ∙ e)
   adds_none mode c s k σ takes calls (inl (inr (q, e, all))) = nothing_to (sym calls ∙ e)
   adds_none mode c s k σ takes calls (inr (was, kept)) = was
 
   -- "taking any possible lock of a handle as held": a TAKE, or TAKER, whose handle may be two locks adds none
-  pub two_locks_add_none : (mode : Bool) (c s k a b h : ℕ) (σ : Statement) → Place copies c s → statement t s ≡ σ → (view σ).onward ≡ true → (view σ).takes ≡ To h
-      → calls (view σ) ≡ Nothing → f.flow c h a → f.flow c h b → (a ≡ b → ⊥) → f.held mode c (s + 1) k → f.held mode c s k
+  pub two_locks_add_none : (mode : Bool) (c s k a b h : ℕ) (σ : Statement) → Place copies c s → statement t s ≡ σ → (view σ).onward ≡ true → (view σ).takes ≡ Some h
+      → calls (view σ) ≡ None → f.flow c h a → f.flow c h b → (a ≡ b → ⊥) → f.held mode c (s + 1) k → f.held mode c s k
   two_locks_add_none mode c s k a b h σ here eq on takes calls is_a is_b differ held = go (held_after_lem mode c s k σ here eq on held)
     where
       go : After copies mode f.flow f.gives (f.held mode) c s k σ → f.held mode c s k

@@ -1,12 +1,11 @@
 -- C-12: "let it pass over the statements from the highest number down until a pass changes nothing." The passes, the sets that they come to, how many are
 -- made, and the tables for which C-12 says that two settle the sets. Assumes nothing.
-use Rattle.std.specs.Prelude.{ℕ, zero, suc, ◌+◌, ◌≤◌, ◌<◌, ◌≡◌, List, length}
+use Rattle.std.specs.Prelude.{ℕ, zero, suc, ◌+◌, ◌≤◌, ◌<◌, ◌≡◌, List, length, None}
 use Rattle.sets.specs.Least.{Edge, settled}
 use Rattle.round_robin.specs.RoundRobin.{pass_down, passes_made}
 use Rattle.table.specs.Table.{Table, statement, InRoutine}
 use Rattle.table.specs.View.{view}
 use Rattle.table.specs.Accepted.{Names}
-use Rattle.table.specs.declared.Reference.TheVariants.{Nothing}
 use Rattle.report.specs.Layout.{Layout}
 use Rattle.report.specs.Flow.{flow_edges, flow_initials}
 
@@ -33,5 +32,5 @@ flow_passes t k = passes_made (flow_pass t k) (flow_initials t k)
 
 -- "If a table has no POINT and each CALL or START outside routine 0 names a lower routine"
 pub record HelpersFirst (t : Table) : Type 0 where
-  pub no_point : (s : ℕ) → s < length t.statements → (view (statement t s)).points ≡ Nothing
+  pub no_point : (s : ℕ) → s < length t.statements → (view (statement t s)).points ≡ None
   pub lower : (r s q : ℕ) → 1 ≤ r → r < length t.routines → InRoutine t r s → Names (statement t s) q → q < r

@@ -1,11 +1,10 @@
 -- The rules of "The report", as document 01 words them, with C-13 and C-18: flow, held, effect, future, shared, common locks and stray, over copies of routines and over sets
 -- that are predicates. Each record says that sets satisfy their rules; "least" and "greatest" are said elsewhere, of the sets that satisfy them. Assumes nothing.
-use Rattle.std.specs.Prelude.{ℕ, ◌+◌, ◌<◌, ◌≡◌, Bool, true, false, ◌⊎◌, get_or, length}
+use Rattle.std.specs.Prelude.{ℕ, ◌+◌, ◌<◌, ◌≡◌, Bool, true, false, ◌⊎◌, get_or, length, Some}
 use Rattle.table.specs.Table.{Table, declaration, routine, statement, passed, InRoutine, OwnHandle}
 use Rattle.table.specs.View.{view, On, accesses, calls, starts, takes_in}
 use Rattle.table.specs.Accepted.{Names}
 use Rattle.table.specs.declared.Arguments.{Arguments}
-use Rattle.table.specs.declared.Reference.TheVariants.{To}
 use Rattle.table.specs.declared.Statement.{Statement}
 
 -- ---- copies
@@ -33,7 +32,7 @@ pub record Place {t : Table} (copies : Copies t) (c s : ℕ) : Type 0 where
 
 -- statement s' may follow statement s in its routine: "JUMPZ may go both ways and CALL goes on to the next statement, whatever the values"
 abbrev pub Goes : ℕ → Statement → ℕ → Type 0
-Goes s σ s' = ((view σ).target ≡ To s') ⊎ (((view σ).onward ≡ true) × (s' ≡ s + 1))
+Goes s σ s' = ((view σ).target ≡ Some s') ⊎ (((view σ).onward ≡ true) × (s' ≡ s + 1))
 
 -- ---- flow: sets of things for each copy and handle
 
@@ -47,7 +46,7 @@ module _ {t : Table} (copies : Copies t) (flow : ℕ → ℕ → ℕ → Type 0)
   -- Document 01's are the least
   pub record FlowRules : Type 0 where
     pub local : (c h : ℕ) → c < copies.count → OwnHandle t (copies.of c) h → (declaration t h).origin ≡ 1 → flow c h (declaration t h).start
-    pub point : (c s h : ℕ) → Place copies c s → (view (statement t s)).points ≡ To h → (x : ℕ) → flow c (view (statement t s)).source x → flow c h x
+    pub point : (c s h : ℕ) → Place copies c s → (view (statement t s)).points ≡ Some h → (x : ℕ) → flow c (view (statement t s)).source x → flow c h x
     pub passing : (c s q : ℕ) → Place copies c s → Names (statement t s) q → Passing c s q (view (statement t s)).arguments
 
 -- k is the one member of a set
@@ -59,8 +58,8 @@ pub record Only (set : ℕ → Type 0) (k : ℕ) : Type 0 where
 
 -- the locks that "a GIVE in r, or in what r reaches by CALLs, has in its flow set". The least such sets
 pub record GivesRules {t : Table} (copies : Copies t) (flow : ℕ → ℕ → ℕ → Type 0) (gives : ℕ → ℕ → Type 0) : Type 0 where
-  pub by_give : (c s k h : ℕ) → Place copies c s → (view (statement t s)).gives ≡ To h → flow c h k → gives c k
-  pub by_call : (c s k q : ℕ) → Place copies c s → calls (view (statement t s)) ≡ To q → gives (copies.leads c s) k → gives c k
+  pub by_give : (c s k h : ℕ) → Place copies c s → (view (statement t s)).gives ≡ Some h → flow c h k → gives c k
+  pub by_call : (c s k q : ℕ) → Place copies c s → calls (view (statement t s)) ≡ Some q → gives (copies.leads c s) k → gives c k
 
 -- ---- held: sets of locks before each statement of each copy; C-18: surely held for writing (mode true), and surely held in either way (mode false)
 
@@ -89,8 +88,8 @@ module _ {t : Table} (copies : Copies t) (mode : Bool) (flow : ℕ → ℕ → �
   pub record HeldRules : Type 0 where
     pub locks : (c s k : ℕ) → Place copies c s → held c s k → k < t.locks
     pub way : (c s s' k : ℕ) → Place copies c s → Goes s (statement t s) s' → held c s' k → After c s k (statement t s)
-    pub by_call : (c s k q : ℕ) → Place copies c s → calls (view (statement t s)) ≡ To q → held (copies.leads c s) (routine t q).first k → held c s k
-    pub by_start : (c s k q : ℕ) → Place copies c s → starts (view (statement t s)) ≡ To q → held (copies.leads c s) (routine t q).first k → ⊥
+    pub by_call : (c s k q : ℕ) → Place copies c s → calls (view (statement t s)) ≡ Some q → held (copies.leads c s) (routine t q).first k → held c s k
+    pub by_start : (c s k q : ℕ) → Place copies c s → starts (view (statement t s)) ≡ Some q → held (copies.leads c s) (routine t q).first k → ⊥
     pub by_main : (k : ℕ) → held copies.main (routine t 0).first k → ⊥
 
 -- ---- effect and future: sets of reads (false) and writes (true) of cells
@@ -116,7 +115,7 @@ module _ {t : Table} (copies : Copies t) (flow : ℕ → ℕ → ℕ → Type 0)
           → future c s w x
       pub later : (c s s' : ℕ) (w : Bool) (x : ℕ) → Place copies c s → Place copies c s' → Goes s (statement t s) s' → future c s' w x
           → future c s w x
-      pub callers : (c s z : ℕ) (w : Bool) (x q : ℕ) → Place copies c s → calls (view (statement t s)) ≡ To q → Place copies (copies.leads c s) z
+      pub callers : (c s z : ℕ) (w : Bool) (x q : ℕ) → Place copies c s → calls (view (statement t s)) ≡ Some q → Place copies (copies.leads c s) z
           → future c s w x → future (copies.leads c s) z w x
 
 -- ---- C-13: what a START can precede
@@ -124,8 +123,8 @@ module _ {t : Table} (copies : Copies t) (flow : ℕ → ℕ → ℕ → Type 0)
 module _ {t : Table} (copies : Copies t) (reaches : ℕ → Type 0) where
   -- the copies that hold a START, or reach one by CALLs. The least such set
   pub record ReachRules : Type 0 where
-    pub by_start : (c s q : ℕ) → Place copies c s → starts (view (statement t s)) ≡ To q → reaches c
-    pub by_call : (c s q : ℕ) → Place copies c s → calls (view (statement t s)) ≡ To q → reaches (copies.leads c s) → reaches c
+    pub by_start : (c s q : ℕ) → Place copies c s → starts (view (statement t s)) ≡ Some q → reaches c
+    pub by_call : (c s q : ℕ) → Place copies c s → calls (view (statement t s)) ≡ Some q → reaches (copies.leads c s) → reaches c
 
   -- statement s of copy c is "a START or a CALL that reaches one by CALLs"
   abbrev pub Brings : ℕ → ℕ → Statement → Type 0
@@ -134,9 +133,9 @@ module _ {t : Table} (copies : Copies t) (reaches : ℕ → Type 0) where
   -- "A START can precede a statement if its routine is named by a START, if a START can precede some CALL of its routine, or if it may follow, in its
   -- routine, a START or a CALL that reaches one by CALLs", in one step or more. The least such sets of statements
   pub record PrecededRules (preceded : ℕ → ℕ → Type 0) : Type 0 where
-    pub by_start : (c s z q : ℕ) → Place copies c s → starts (view (statement t s)) ≡ To q → Place copies (copies.leads c s) z
+    pub by_start : (c s z q : ℕ) → Place copies c s → starts (view (statement t s)) ≡ Some q → Place copies (copies.leads c s) z
         → preceded (copies.leads c s) z
-    pub by_call : (c s z q : ℕ) → Place copies c s → calls (view (statement t s)) ≡ To q → Place copies (copies.leads c s) z → preceded c s
+    pub by_call : (c s z q : ℕ) → Place copies c s → calls (view (statement t s)) ≡ Some q → Place copies (copies.leads c s) z → preceded c s
         → preceded (copies.leads c s) z
     pub next : (c s s' : ℕ) → Place copies c s → Place copies c s' → Goes s (statement t s) s' → Brings c s (statement t s) → preceded c s'
     pub later : (c s s' : ℕ) → Place copies c s → Place copies c s' → Goes s (statement t s) s' → preceded c s → preceded c s'
@@ -154,7 +153,7 @@ pub record Clash (one other : Bool → ℕ → Type 0) (x : ℕ) : Type 0 where
 -- "A cell is shared if at some START the effect of the started routine and the future of that START both touch it and one of them writes it"
 pub record SharedRules {t : Table} (copies : Copies t) (effect : ℕ → Bool → ℕ → Type 0) (future : ℕ → ℕ → Bool → ℕ → Type 0) (shared : ℕ → Type 0)
     : Type 0 where
-  pub at_start : (c s x q : ℕ) → Place copies c s → starts (view (statement t s)) ≡ To q → Clash (effect (copies.leads c s)) (future c s) x → shared x
+  pub at_start : (c s x q : ℕ) → Place copies c s → starts (view (statement t s)) ≡ Some q → Clash (effect (copies.leads c s)) (future c s) x → shared x
 
 -- C-18: "A lock is now common to a cell if it is surely held for writing at each counted WRITE and surely held either way at each counted READ", and C-13:
 -- "Leave an access out of the common locks if no START can precede it": lock k is one of cell x
@@ -196,4 +195,4 @@ pub record Rules {t : Table} (copies : Copies t) (f : Families) : Type 0 where
 -- the report is clean: no cell is unguarded (each is not shared or has a common lock), and no GIVE is stray
 pub record Clean {t : Table} (copies : Copies t) (f : Families) : Type 0 where
   pub guarded : (x : ℕ) → x < t.cells → (f.shared x → ⊥) ⊎ ((k : ℕ) × Common copies f.flow f.held f.preceded x k)
-  pub not_stray : (c s h : ℕ) → Place copies c s → (view (statement t s)).gives ≡ To h → Sound f.flow (f.held false) c s h
+  pub not_stray : (c s h : ℕ) → Place copies c s → (view (statement t s)).gives ≡ Some h → Sound f.flow (f.held false) c s h

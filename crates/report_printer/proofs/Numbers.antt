@@ -1,12 +1,12 @@
 -- Numbers as fields of a line: they are below 1,000,000, and a signed word holds them. Assumes nothing.
-use mathlib.Core.Path.{◌≡◌, ap, ◌∙◌}
+use mathlib.Core.Path.{◌≡◌, refl, ap, ◌∙◌}
 use mathlib.Core.Bool.{Bool, true, false}
 use Prim.Native.Nat.{ℕ, ◌<◌}
 use native.Mathlib.Omega.{arith}
 use lib.IntN.{ℤ, pos}
 use borrow.Author.Tests.{ltb-true}
 use mir.Syntax.{w32}
-use mir.Val.{to_z, of_z}
+use mir.Val.{to_z, of_z, bool_byte}
 use mir.Facts.{to_z_pos}
 use Rattle.lines.proofs.LineLaws.{all_at}
 use Rattle.report.specs.Report.{bit, stray_line}
@@ -17,15 +17,20 @@ pub word : (n : ℕ) → n < 1000000 → to_z w32 n ≡ pos n
 word n h = to_z_pos w32 (omega arith)
 
 -- a number that was passed as a signed word comes back
-pub back : {z : ℤ} (n : ℕ) → z ≡ pos n → n < 1000000 → to_z w32 (of_z w32 z) ≡ pos n
+back : {z : ℤ} (n : ℕ) → z ≡ pos n → n < 1000000 → to_z w32 (of_z w32 z) ≡ pos n
 back n e h = ap (λ (x : ℤ). to_z w32 (of_z w32 x)) e ∙ word n h
 
 flag_small : (b : Bool) → bit b < 1000000
 flag_small true = omega arith
 flag_small false = omega arith
 
-pub back_flag : {z : ℤ} (b : Bool) → z ≡ pos (bit b) → to_z w32 (of_z w32 z) ≡ pos (bit b)
-back_flag b e = back (bit b) e (flag_small b)
+-- a test as a number
+bit_is : (b : Bool) → bool_byte b ≡ bit b
+bit_is true = refl
+bit_is false = refl
+
+pub back_flag : {z : ℤ} (b : Bool) → z ≡ pos (bool_byte b) → to_z w32 (of_z w32 z) ≡ pos (bit b)
+back_flag b e = back (bit b) (e ∙ ap pos (bit_is b)) (flag_small b)
 
 -- the numbers of a line 51 and of a line 59
 pub record CellSmall (x reading writing common : ℕ) : Type 0 where

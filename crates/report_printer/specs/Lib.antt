@@ -1,4 +1,5 @@
 pub mod Printed
 pub mod Lines
+pub mod Written
 pub mod WriteLaws
 pub mod ReportedLaws

@@ -9,6 +9,7 @@ use Rattle.report.specs.Over.{joined_from}
 use Rattle.report.specs.Report.{bit, stray_line, text_of}
 use Rattle.report.specs.ReportTextLaws.{Line8}
 use Rattle.findings.specs.Steps.{stray_in}
+use Rattle.findings.specs.declared.Noted.{Noted}
 
 -- line 51 of cell x
 unfoldable pub cell_numbers : ℕ → ℕ → ℕ → ℕ → ℕ → List ℕ
@@ -20,8 +21,8 @@ unfoldable pub total_numbers : ℕ → ℕ → List ℕ
 total_numbers unguarded strays = 59 ∷ unguarded ∷ strays ∷ 0 ∷ 0 ∷ 0 ∷ 0 ∷ 0 ∷ []
 
 -- the line of cell x, from what is noted of the accesses
-unfoldable pub cells_by : ℕ → List ℕ → ℕ → List (List ℕ)
-cells_by shared noted x = cell_numbers x (get_or noted (64 + x) 0) (get_or noted (128 + x) 0) shared (get_or noted x 0) ∷ []
+unfoldable pub cells_by : ℕ → Noted → ℕ → List (List ℕ)
+cells_by shared noted x = cell_numbers x (get_or noted.reads x 0) (get_or noted.writes x 0) shared (get_or noted.common x 0) ∷ []
 
 -- the line of statement s if it is a stray GIVE, else none
 unfoldable pub strays_by : List ℤ → List ℕ → List ℕ → ℕ → List (List ℕ)
@@ -36,7 +37,7 @@ unfoldable pub put_at : List ℕ → ℕ → List ℕ → List ℕ
 put_at out at text = take at out ++ text ++ drop (at + length text) out
 
 -- the bytes of all lines
-unfoldable pub report_by : List ℤ → List ℕ → List ℕ → ℕ → List ℕ → ℕ → ℕ → List ℕ
+unfoldable pub report_by : List ℤ → List ℕ → List ℕ → ℕ → Noted → ℕ → ℕ → List ℕ
 report_by f flow held shared noted unguarded strays =
     (text_from 0 (cells f) (cells_by shared noted) ++ text_from 0 (statements f) (strays_by f flow held)) ++ line_text (map pos (total_numbers unguarded strays))
 
@@ -46,7 +47,7 @@ pub record RoomFor (lines : ℕ → List (List ℕ)) (n at : ℕ) (out : List �
   pub room : at + length (text_from 0 n lines) ≤ length out
 
 -- so are all lines of the report
-pub record RoomForAll (f : List ℤ) (flow held : List ℕ) (shared : ℕ) (noted : List ℕ) (unguarded strays : ℕ) (out : List ℕ) : Type 0 where
+pub record RoomForAll (f : List ℤ) (flow held : List ℕ) (shared : ℕ) (noted : Noted) (unguarded strays : ℕ) (out : List ℕ) : Type 0 where
   pub cells_eight : (i : ℕ) → i < cells f → (l : List ℕ) → Memᴰ l (cells_by shared noted i) → Line8 l
   pub strays_eight : (i : ℕ) → i < statements f → (l : List ℕ) → Memᴰ l (strays_by f flow held i) → Line8 l
   pub total_eight : Line8 (total_numbers unguarded strays)

@@ -1,5 +1,5 @@
 -- What printing a report leaves in a lent buffer, and what it says of the report. Assumes nothing.
-use Rattle.std.specs.Prelude.{ℕ, Bool, false, cond, ◌&&◌, List, ◌++◌, eqb, ltb, ℤ, pos, negsuc, length, drop}
+use Rattle.std.specs.Prelude.{ℕ, Bool, false, cond, ◌&&◌, List, ◌++◌, eqb, ltb, ℤ, pos, negsuc, length, drop, Option, Some, None}
 use Rattle.table.specs.Table.{Table}
 use Rattle.report.specs.Report.{unguarded_total, stray_total}
 
@@ -7,9 +7,9 @@ use Rattle.report.specs.Report.{unguarded_total, stray_total}
 abbrev pub printed_over : List ℕ → List ℕ → List ℕ
 printed_over report out = cond (ltb (length out) (length report)) out (report ++ drop (length report) out)
 
--- how many bytes are written into a buffer of so many
-abbrev pub bytes_in : List ℕ → ℕ → ℕ
-bytes_in report room = cond (ltb room (length report)) 0 (length report)
+-- how many bytes are written into a buffer of so many; none where it is too short
+abbrev pub bytes_in : List ℕ → ℕ → Option ℕ
+bytes_in report room = cond (ltb room (length report)) None (Some (length report))
 
 -- a total is 0
 abbrev pub is_none : ℤ → Bool

@@ -1,5 +1,5 @@
 -- The printed lines are the report's, its totals are those that were counted, and so many bytes are written. Assumes nothing.
-use Rattle.std.specs.Prelude.{◌≡◌, refl, cond, ◌&&◌, ℕ, zero, suc, ◌+◌, ◌*◌, ◌≤◌, ◌<◌, eqb, ℤ, length, drop}
+use Rattle.std.specs.Prelude.{◌≡◌, refl, cond, ◌&&◌, ℕ, zero, suc, ◌+◌, ◌*◌, ◌≤◌, ◌<◌, eqb, ℤ, length, drop, Some, None}
 use Rattle.std.proofs.Math.Path.{sym, ap, ap₂, subst}
 use Rattle.std.proofs.Common.{◌∙◌, arith, zero-add, lt-ltb, le-ltb}
 use mathlib.Core.List.Memᴰ
@@ -20,6 +20,7 @@ use Rattle.report.proofs.ReportLaws as Totals
 use Rattle.report.specs.ReportTextLaws.{Line8}
 use Rattle.report.proofs.ReportTextLaws.{lines_8, report_length}
 use Rattle.findings.specs.Steps.{stray_in, unguarded_in}
+use Rattle.findings.specs.declared.Noted.{Noted}
 use Rattle.findings.specs.Found.{sets_in, Found}
 use Rattle.findings.specs.FoundLaws.{stray_is, strays_counted, unguarded_counted}
 use Rattle.report_printer.specs.Printed.{printed_over, bytes_in, counts_nothing}
@@ -34,7 +35,7 @@ joined_same from (suc n) g h e =
 
 -- ---- the report of what is found
 
-module _ (f : List ℤ) {flow held : List ℕ} {shared : ℕ} {noted : List ℕ} (is : Found f flow held shared noted) where
+module _ (f : List ℤ) {flow held : List ℕ} {shared : ℕ} {noted : Noted} (is : Found f flow held shared noted) where
   abbrev t : Table
   t = table_of f
 
@@ -59,7 +60,7 @@ module _ (f : List ℤ) {flow held : List ℕ} {shared : ℕ} {noted : List ℕ}
   unfolding strays_by
   stray_said s h = rw (stray_is f is s h)
 
-  module _ (unguarded strays : ℕ) (u : unguarded ≡ count_from 0 (cells f) (unguarded_in shared noted))
+  module _ (unguarded strays : ℕ) (u : unguarded ≡ count_from 0 (cells f) (unguarded_in shared noted.common))
       (z : strays ≡ count_from 0 (statements f) (stray_in f flow held)) where
     -- line 59
     total_is : total_numbers unguarded strays ≡ total_line (finding_lines t (one_each t))
@@ -121,12 +122,12 @@ module _ (f : List ℤ) {flow held : List ℕ} {shared : ℕ} {noted : List ℕ}
 
 -- ---- a buffer that has room, or not
 
-pub no_room : (report out : List ℕ) → length out < length report → (0 ≡ bytes_in report (length out)) × (out ≡ printed_over report out)
+pub no_room : (report out : List ℕ) → length out < length report → (None ≡ bytes_in report (length out)) × (out ≡ printed_over report out)
 no_room report out h = (rw (lt-ltb (length out) (length report) h), rw (lt-ltb (length out) (length report) h))
 
 put_front : (out report : List ℕ) → put_at out 0 report ≡ report ++ drop (length report) out
 unfolding put_at
 put_front out report = rw (zero-add (length report))
 
-pub has_room : (report out : List ℕ) → length report ≤ length out → (length report ≡ bytes_in report (length out)) × (put_at out 0 report ≡ printed_over report out)
+pub has_room : (report out : List ℕ) → length report ≤ length out → (Some (length report) ≡ bytes_in report (length out)) × (put_at out 0 report ≡ printed_over report out)
 has_room report out h = (rw (le-ltb (length out) (length report) h), rw (le-ltb (length out) (length report) h) (put_front out report))

@@ -9,7 +9,7 @@ use Rattle.std.proofs.Math.ListN.{length, length-append}
 use Rattle.std.proofs.lemmas.List.{length-map}
 use Rattle.std.proofs.Math.Seq.{take-length, paste}
 use Rattle.std.proofs.lemmas.List.Edits.{take-paste, drop-paste}
-use Rattle.lines.specs.Line.{line_text}
+use Rattle.lines.specs.Line.{line_text, all_in_field}
 use Rattle.lines.proofs.LineLaws.{line_text_length}
 use Rattle.line_printer.specs.Print.{printed_at}
 use Rattle.report.specs.Over.{joined_from}
@@ -17,6 +17,9 @@ use Rattle.report.specs.Report.{text_of, stray_line}
 use Rattle.report.specs.ReportTextLaws.{Line8}
 use Rattle.table.specs.Header.{cells, statements}
 use Rattle.findings.specs.Steps.{stray_in}
+use Rattle.findings.specs.declared.Noted.{Noted}
+use Rattle.report_printer.specs.declared.Lines.{Lines}
+use Rattle.report_printer.specs.Written.{Written}
 use Rattle.report_printer.specs.Lines.{text_from, put_at, total_numbers, cells_by, strays_by, report_by, RoomFor, RoomForAll}
 
 -- ---- lines
@@ -78,9 +81,12 @@ put_next out at a b h =
     whole p t d = rw (t, d) (ap (λ (x : List ℕ). x ++ drop (at + length (a ++ b)) out) (append_assoc (take at out) a b))
 
 -- a line printed into a buffer with room
-pub put_line : (out : List ℕ) (at : ℕ) (l : List ℕ) → Line8 l → at + 49 ≤ length out → printed_at out at (map pos l) ≡ put_at out at (line_text (map pos l))
+pub put_line : (out : List ℕ) (at : ℕ) (zs : List ℤ) → length zs ≡ 8 → all_in_field zs ≡ true → at + 49 ≤ length out
+    → (49 ≡ length (line_text zs)) × (printed_at out at zs ≡ put_at out at (line_text zs))
 unfolding put_at
-put_line out at l h r = rw (h.range, le-leb (at + 49) (length out) r, line_long l h)
+put_line out at zs l h r =
+    let long : length (line_text zs) ≡ 49 = line_text_length zs h ∙ omega (arith, l) in
+    (sym long, rw (h, le-leb (at + 49) (length out) r, long))
 
 put_length : (out : List ℕ) (at : ℕ) (a : List ℕ) → at + length a ≤ length out → length (put_at out at a) ≡ length out
 unfolding put_at
@@ -134,7 +140,7 @@ module _ {g : ℕ → List (List ℕ)} {n at₀ : ℕ} {out₀ out : List ℕ} {
         ∙ ap (λ (x : List ℕ). x ++ text_from (i + 1) (n - (i + 1)) g) (ap (λ (x : List (List ℕ)). text_of (map (map pos) x)) e ∙ text_one l)
 
     -- there is room for the line
-    pub writing_room : at + 49 ≤ length out₀
+    pub writing_room : at + 49 ≤ length out
     writing_room =
         let r : at₀ + length (text_from 0 n g) ≤ length out₀ = w.has_room.room in
         let a = text_fits in
@@ -142,25 +148,25 @@ module _ {g : ℕ → List (List ℕ)} {n at₀ : ℕ} {out₀ out : List ℕ} {
         ap length next_text ∙ length-append (line_text (map pos l)) (text_from (i + 1) (n - (i + 1)) g) in
         let c = line_long l writing_eight in
         let p = w.place in
-        omega arith
+        omega (arith, writing_length)
 
-    pub writing_line : Writing g n at₀ out₀ (printed_at out at (map pos l)) (at + 49) (i + 1)
-    writing_line =
-        let room : at + 49 ≤ length out = omega (arith, writing_room, writing_length) in
-        let before : at₀ ≤ length out₀ = omega (arith, writing_room, w.place) in
-        record {
-          text = w.text ++ line_text (map pos l);
-          left =
-              append_assoc w.text (line_text (map pos l)) (text_from (i + 1) (n - (i + 1)) g)
-              ∙ ap (λ (x : List ℕ). w.text ++ x) (sym next_text) ∙ w.left;
-          is =
-              put_line out at l writing_eight room
-              ∙ ap₂ (λ (o : List ℕ) (p : ℕ). put_at o p (line_text (map pos l))) w.is w.place
-              ∙ put_next out₀ at₀ w.text (line_text (map pos l)) before;
-          place = omega (arith, w.place, length-append w.text (line_text (map pos l)), line_long l writing_eight);
-          has_room = w.has_room;
-          few = omega arith;
-        }
+    module _ {out' : List ℕ} {at' : ℕ} (e_at : at' ≡ at + length (line_text (map pos l))) (e_out : out' ≡ put_at out at (line_text (map pos l))) where
+      pub writing_line : Writing g n at₀ out₀ out' at' (i + 1)
+      writing_line =
+          let before : at₀ ≤ length out₀ = omega (arith, writing_room, writing_length, w.place) in
+          record {
+            text = w.text ++ line_text (map pos l);
+            left =
+                append_assoc w.text (line_text (map pos l)) (text_from (i + 1) (n - (i + 1)) g)
+                ∙ ap (λ (x : List ℕ). w.text ++ x) (sym next_text) ∙ w.left;
+            is =
+                e_out
+                ∙ ap₂ (λ (o : List ℕ) (p : ℕ). put_at o p (line_text (map pos l))) w.is w.place
+                ∙ put_next out₀ at₀ w.text (line_text (map pos l)) before;
+            place = omega (arith, e_at, w.place, length-append w.text (line_text (map pos l)));
+            has_room = w.has_room;
+            few = omega arith;
+          }
 
   -- a number with no line
   pub writing_none : i < n → g i ≡ [] → Writing g n at₀ out₀ out at (i + 1)
@@ -182,11 +188,16 @@ module _ {g : ℕ → List (List ℕ)} {n at₀ : ℕ} {out₀ out : List ℕ} {
     all_text : w.text ≡ text_from 0 n g
     all_text = sym (append-nil w.text) ∙ ap (λ (x : List ℕ). w.text ++ x) (sym (text_none g i n h)) ∙ w.left
 
-    pub writing_place : at ≡ at₀ + length (text_from 0 n g)
+    writing_place : at ≡ at₀ + length (text_from 0 n g)
     writing_place = w.place ∙ ap (λ (x : List ℕ). at₀ + length x) all_text
 
-    pub writing_done : out ≡ put_at out₀ at₀ (text_from 0 n g)
-    writing_done = w.is ∙ ap (put_at out₀ at₀) all_text
+    writing_out : out ≡ put_at out₀ at₀ (text_from 0 n g)
+    writing_out = w.is ∙ ap (put_at out₀ at₀) all_text
+
+-- all lines of a loop
+pub writing_done : {g : ℕ → List (List ℕ)} {n i : ℕ} {a b : Lines} → Writing g n a.used a.out.now b.out.now b.used i → n ≤ i → b.out.ghost_name ≡ a.out.ghost_name
+    → Written a b (text_from 0 n g)
+writing_done w h e = record { same = e; used_is = writing_place w h; bytes_are = writing_out w h }
 
 -- ---- the whole report
 
@@ -198,7 +209,7 @@ pub no_line : (f : List ℤ) (flow held : List ℕ) (s : ℕ) → stray_in f flo
 unfolding strays_by
 no_line f flow held s e = rw e
 
-module _ {f : List ℤ} {flow held : List ℕ} {shared : ℕ} {noted : List ℕ} {unguarded strays : ℕ} {out : List ℕ}
+module _ {f : List ℤ} {flow held : List ℕ} {shared : ℕ} {noted : Noted} {unguarded strays : ℕ} {out : List ℕ}
     (h : RoomForAll f flow held shared noted unguarded strays out) where
   abbrev cell_text : List ℕ
   cell_text = text_from 0 (cells f) (cells_by shared noted)

@@ -1,38 +1,43 @@
 #![tactic(auto)]
 // The report's lines, written one behind the other into a lent buffer, from what is found of a table.
-ghost use Rattle.std.specs.Prelude.{◌≡◌, map, ◌+◌, ◌≤◌, ◌<◌, pos, length};
-ghost use Rattle.lines.specs.Line.{line_text};
-ghost use Rattle.table.specs.Header.{cells, statements};
+ghost use Rattle.std.specs.Prelude.{◌≡◌, true, map, ◌+◌, ◌≤◌, pos, length};
+ghost use Rattle.lines.specs.Line.{all_in_field, line_text};
+ghost use Rattle.table.specs.Header.{statements};
 ghost use Rattle.table.specs.Table.{table_of};
-ghost use Rattle.table.specs.Accepted.{Accepted};
-ghost use Rattle.report.specs.Over.{count_from};
-ghost use Rattle.report.specs.Report.{bit, report_text};
+ghost use Rattle.report.specs.Report.{report_text};
 ghost use Rattle.report.specs.ReportTextLaws.{Line8};
-ghost use Rattle.findings.specs.Steps.{stray_in, unguarded_in};
 ghost use Rattle.findings.specs.Found.{Found};
-ghost use Rattle.report_printer.specs.Lines.{cell_numbers, total_numbers, cells_by, strays_by, text_from, put_at, RoomFor};
+ghost use Rattle.report_printer.specs.Lines.{cell_numbers, total_numbers, cells_by, strays_by, text_from, RoomFor};
+ghost use Rattle.report_printer.specs.Written.{Written};
 ghost use Rattle.report_printer.specs.Printed.{bytes_in, printed_over, counts_nothing};
 
-// What was printed: how many bytes, 0 if the report does not fit; and whether both totals in line 59 are 0.
+use declarations::program::Program;
+use findings::Noted;
+
+// What was printed: how many bytes, if the report fits; and whether both totals in line 59 are 0.
 #[derive(Clone, Copy)]
 pub struct Printed {
-    pub bytes: usize,
+    pub bytes: Option<usize>,
     pub clean: bool,
 }
 
-// A number as a field of a line.
-fn as_field(n: u64) -> i32
-    requires { n < 1000000 }
-    ensures { result ≡ pos n }
-{
-    n as i32
+// A lent buffer, and how many of its bytes the lines so far take.
+#[derive(Drop)]
+struct Lines<'a> {
+    out: &'a mut [u8],
+    used: usize,
 }
 
-// 1 or 0, as a field of a line.
-fn flag(test: bool) -> i32
-    ensures { result ≡ pos (bit test) }
-{
-    if test { 1 } else { 0 }
+impl<'a> Lines<'a> {
+    // Writes a line behind those so far; all other places stay.
+    fn push(&mut self, line: [i32; 8])
+        requires { (all_in_field line ≡ true) × (self.old.used + 49 ≤ length self.old.out.now) }
+        ensures { Written self.old self.new (line_text line) }
+    {
+        // It fits, and its numbers are fields.
+        let _ = line_printer::print_line(self.out, self.used, line);
+        self.used += 49;
+    }
 }
 
 // Line 51 of cell `x`.
@@ -42,127 +47,86 @@ fn cell_line(x: usize, reading: u64, writing: u64, shared: u64, common: u64) -> 
 {
     [
         51,
-        as_field(x as u64),
-        as_field(reading),
-        as_field(writing),
-        flag(sets::has(shared, x)),
-        as_field(common),
-        flag(sets::has(shared, x) & sets::is_empty(common)),
+        x as i32,
+        reading as i32,
+        writing as i32,
+        i32::from(sets::has(shared, x)),
+        common as i32,
+        i32::from(sets::has(shared, x) & sets::is_empty(common)),
         0,
     ]
 }
 
-// Writes line 51 of each of the first `count` cells from `at` on, and returns the place behind them; all other places stay.
-fn print_cells(out: &mut [u8], at: usize, shared: u64, noted: &[u64], count: usize) -> usize
-    requires { RoomFor (cells_by shared noted.now) count at out.old }
-    ensures place { result ≡ at + length (text_from 0 count (cells_by shared noted.now)) }
-    ensures buffer { out.new ≡ put_at out.old at (text_from 0 count (cells_by shared noted.now)) }
+// Writes line 51 of each of the first `count` cells.
+fn print_cells(lines: &mut Lines<'_>, shared: u64, noted: &Noted, count: usize)
+    requires { RoomFor (cells_by shared noted.now) count lines.old.used lines.old.out.now }
+    ensures { Written lines.old lines.new (text_from 0 count (cells_by shared noted.now)) }
 {
-    let mut place = at;
-    let mut x = 0;
-    while x < count {
-        let line = cell_line(
+    for x in 0..count {
+        lines.push(cell_line(
             x,
-            lists::set_at(noted, 64 + x),
-            lists::set_at(noted, 128 + x),
+            lists::value_at(&noted.reads, x, 0),
+            lists::value_at(&noted.writes, x, 0),
             shared,
-            lists::set_at(noted, x),
-        );
-        line_printer::print_line(out, place, line);
-        place += 49;
-        x += 1;
+            lists::value_at(&noted.common, x, 0),
+        ));
     }
-    place
 }
 
-// Writes line 52 of each stray GIVE from `at` on, and returns the place behind them; all other places stay.
-fn print_strays(out: &mut [u8], at: usize, numbers: &[i32], flow: &[u64], held: &[u64]) -> usize
-    requires { RoomFor (strays_by numbers.now flow.now held.now) (statements numbers.now) at out.old }
-    ensures place { result ≡ at + length (text_from 0 (statements numbers.now) (strays_by numbers.now flow.now held.now)) }
-    ensures buffer { out.new ≡ put_at out.old at (text_from 0 (statements numbers.now) (strays_by numbers.now flow.now held.now)) }
+// Writes line 52 of each stray GIVE.
+fn print_strays(lines: &mut Lines<'_>, program: &Program<'_>, flow: &[u64], held: &[u64])
+    requires { RoomFor (strays_by program.now flow.now held.now) (statements program.now) lines.old.used lines.old.out.now }
+    ensures { Written lines.old lines.new (text_from 0 (statements program.now) (strays_by program.now flow.now held.now)) }
 {
-    let base = table::first_line(numbers);
-    let count = table::field_of(numbers, 0, 5);
-    let mut place = at;
-    let mut s = 0;
-    while s < count {
-        let here = s;
-        s += 1;
-        if findings::is_stray(numbers, here, base + here, flow, lists::set_at(held, here)) {
-            line_printer::print_line(out, place, [52, as_field(here as u64), 0, 0, 0, 0, 0, 0]);
-            place += 49;
+    for s in 0..program.statements() {
+        if findings::is_stray(
+            program.numbers,
+            s,
+            program.line_of(s),
+            flow,
+            lists::value_at(held, s, 0),
+        ) {
+            lines.push([52, s as i32, 0, 0, 0, 0, 0, 0]);
         }
     }
-    place
 }
 
-// Writes line 59 from `at` on; all other places stay.
-fn print_total(out: &mut [u8], at: usize, unguarded: usize, strays: usize)
-    requires { Line8 (total_numbers unguarded strays) × (at + 49 ≤ length out.old) }
-    ensures { out.new ≡ put_at out.old at (line_text (map pos (total_numbers unguarded strays))) }
+// Writes line 59.
+fn print_total(lines: &mut Lines<'_>, unguarded: usize, strays: usize)
+    requires { Line8 (total_numbers unguarded strays) × (lines.old.used + 49 ≤ length lines.old.out.now) }
+    ensures { Written lines.old lines.new (line_text (map pos (total_numbers unguarded strays))) }
 {
-    line_printer::print_line(
-        out,
-        at,
-        [
-            59,
-            as_field(unguarded as u64),
-            as_field(strays as u64),
-            0,
-            0,
-            0,
-            0,
-            0,
-        ],
-    );
-}
-
-// Writes the report of an accepted table to the start of a buffer that has room for it; the places behind it stay.
-fn print_lines(
-    out: &mut [u8],
-    numbers: &[i32],
-    flow: &[u64],
-    held: &[u64],
-    shared: u64,
-    noted: &[u64],
-    unguarded: usize,
-    strays: usize,
-)
-    requires accepted { Accepted (table_of numbers.now) }
-    requires found { Found numbers.now flow.now held.now shared noted.now }
-    requires unguarded_value { unguarded ≡ count_from 0 (cells numbers.now) (unguarded_in shared noted.now) }
-    requires strays_value { strays ≡ count_from 0 (statements numbers.now) (stray_in numbers.now flow.now held.now) }
-    requires numbers_in_bounds { length (report_text (table_of numbers.now)) ≤ length out.old }
-    ensures { out.new ≡ put_at out.old 0 (report_text (table_of numbers.now)) }
-{
-    let behind_cells = print_cells(out, 0, shared, noted, table::field_of(numbers, 0, 1));
-    let behind_strays = print_strays(out, behind_cells, numbers, flow, held);
-    print_total(out, behind_strays, unguarded, strays);
+    lines.push([59, unguarded as i32, strays as i32, 0, 0, 0, 0, 0]);
 }
 
 // Writes the report of an accepted table to the start of `out`, the places behind it stay; if it does not fit, no byte is written.
 pub fn print_report(
-    numbers: &[i32],
+    program: &Program<'_>,
     flow: &[u64],
     held: &[u64],
     shared: u64,
-    noted: &[u64],
+    noted: &Noted,
     out: &mut [u8],
 ) -> Printed
-    requires accepted { Accepted (table_of numbers.now) }
-    requires found { Found numbers.now flow.now held.now shared noted.now }
-    ensures bytes { result.bytes ≡ bytes_in (report_text (table_of numbers.now)) (length out.old) }
-    ensures clean { result.clean ≡ counts_nothing (table_of numbers.now) }
-    ensures buffer { out.new ≡ printed_over (report_text (table_of numbers.now)) out.old }
+    requires { Found program.now flow.now held.now shared noted.now }
+    ensures bytes { result.bytes ≡ bytes_in (report_text (table_of program.now)) (length out.old) }
+    ensures clean { result.clean ≡ counts_nothing (table_of program.now) }
+    ensures buffer { out.new ≡ printed_over (report_text (table_of program.now)) out.old }
 {
-    let cells = table::field_of(numbers, 0, 1);
-    let strays = findings::stray_count(numbers, flow, held);
+    let cells = table::field_of(program.numbers, 0, 1);
+    let strays = findings::stray_count(program, flow, held);
     let unguarded = findings::unguarded_count(shared, noted, cells);
     let clean = (unguarded == 0) & (strays == 0);
     let bytes = 49 * (cells + strays + 1);
     if out.len() < bytes {
-        return Printed { bytes: 0, clean };
+        return Printed { bytes: None, clean };
     }
-    print_lines(out, numbers, flow, held, shared, noted, unguarded, strays);
-    Printed { bytes, clean }
+    let mut lines = Lines { out, used: 0 };
+    print_cells(&mut lines, shared, noted, cells);
+    print_strays(&mut lines, program, flow, held);
+    print_total(&mut lines, unguarded, strays);
+    Printed {
+        bytes: Some(bytes),
+        clean,
+    }
 }

@@ -53,11 +53,6 @@ put_length b l (suc s) = length-set l s b
 pub put_long : (b : ℕ) (e e' : Ending) → e' ≡ put b e → length e'.bytes ≡ length e.bytes
 put_long b e e' p = ap (λ (d : Ending). length d.bytes) p ∙ put_length b e.bytes e.start
 
-puts_length : (t : List ℕ) (e : Ending) → length (puts t e).bytes ≡ length e.bytes
-unfolding puts
-puts_length [] e = refl
-puts_length (b ∷ t) e = put_length b (puts t e).bytes (puts t e).start ∙ puts_length t e
-
 -- ---- the text never begins behind its end
 
 put_within : (b : ℕ) (l : List ℕ) (s : ℕ) → (put b (ending l s)).start ≤ s
@@ -97,9 +92,6 @@ module _ {A : Type 0} (f : ℕ → A → List ℕ) (xs : List A) (e₀ : Ending)
             (rw one at h) ∙ ap (puts (f i (get_or xs i d))) b.is
             ∙ rw (drop-cons xs i d (omega arith), add-one) (sym (puts_both (f i (get_or xs i d)) (texts_from f (suc i) (drop (suc i) xs)) e₀));
       })
-
-  pub backing_length : {i : ℕ} {e : Ending} → Backing i e → length e.bytes ≡ length e₀.bytes
-  backing_length {i} b = ap (λ (d : Ending). length d.bytes) b.is ∙ puts_length (texts_from f i (drop i xs)) e₀
 
   pub backing_done : {i : ℕ} {e : Ending} → Backing i e → i ≤ 0 → e ≡ puts (texts_from f 0 xs) e₀
   backing_done {i = zero} b z = b.is

@@ -2,14 +2,15 @@
 // begins at `start`, and the answer is where the whole then begins; what has no room before it is lost.
 #![tactic(auto)]
 
-ghost use Rattle.std.specs.Prelude.{◌≡◌, ◌<◌, ◌≤◌, IfOk, IfSome, length, take};
+ghost use Rattle.std.specs.Prelude.{◌≡◌, ◌<◌, ◌≤◌, IfOk, IfSome, OnOk, length, take};
 ghost use Rattle.fields.specs.Field.{decimal_text};
 ghost use Rattle.run_printer.specs.Words.{ending, put, puts, word_text, answers_text, values_text, cell_text, cells_text};
 ghost use Rattle.std.specs.Io.{ReadsAtMost};
-ghost use Rattle.std.specs.Io.KnownBytes.{Consumes, IsAtEnd};
+ghost use Rattle.refusal.specs.Refusal.{refusal_in};
+ghost use Rattle.std.specs.Io.KnownBytes.{Appends, Consumes, IsAtEnd};
 ghost use Rattle.std.specs.Str.{IsUtf8};
 
-use std::io::Read;
+use std::io::{Read, Write};
 use std::rt::Files;
 use std::{fs, io};
 
@@ -27,15 +28,14 @@ fn put_byte(out: &mut [u8], start: usize, byte: u8) -> usize
     place
 }
 
-// The bytes of a text.
+// The bytes of a text. This loop and the three below are not one function that takes a closure: of a closure that takes `&mut`
+// rattle's check said "a bug in rattle keeps any answer from counting".
 pub fn put_text(out: &mut [u8], start: usize, text: &[u8]) -> usize
     ensures is { ending out.new result ≡ puts text.now (ending out.old start) }
     ensures within { result ≤ start }
 {
     let mut at = start;
-    let mut i = text.len();
-    while 0 < i {
-        i -= 1;
+    for i in (0..text.len()).rev() {
         at = put_byte(out, at, text[i]);
     }
     at
@@ -58,7 +58,7 @@ fn put_digits(out: &mut [u8], start: usize, n: u64) -> usize
 fn put_number(out: &mut [u8], start: usize, x: i32) -> usize
     ensures { ending out.new result ≡ puts (word_text x) (ending out.old start) }
 {
-    let at = put_digits(out, start, line_printer::magnitude(x) as u64);
+    let at = put_digits(out, start, x.unsigned_abs() as u64);
     if x < 0 {
         return put_text(out, at, b" -");
     }
@@ -71,9 +71,7 @@ pub fn put_answers(out: &mut [u8], start: usize, answers: &[u8]) -> usize
     ensures within { result ≤ start }
 {
     let mut at = start;
-    let mut i = answers.len();
-    while 0 < i {
-        i -= 1;
+    for i in (0..answers.len()).rev() {
         at = put_number(out, at, lists::wide_byte(answers[i]) as i32);
     }
     at
@@ -85,9 +83,7 @@ pub fn put_values(out: &mut [u8], start: usize, cells: &[i32]) -> usize
     ensures within { result ≤ start }
 {
     let mut at = start;
-    let mut i = cells.len();
-    while 0 < i {
-        i -= 1;
+    for i in (0..cells.len()).rev() {
         at = put_number(out, at, cells[i]);
     }
     at
@@ -109,12 +105,19 @@ pub fn put_cells(out: &mut [u8], start: usize, cells: &[i32]) -> usize
     ensures within { result ≤ start }
 {
     let mut at = start;
-    let mut i = cells.len();
-    while 0 < i {
-        i -= 1;
+    for i in (0..cells.len()).rev() {
         at = put_cell(out, at, i, cells[i]);
     }
     at
+}
+
+// Writes line 50: the number and the line of a refusal; nothing where one of them is no field of a line.
+pub fn say_refusal<W: Write>(out: &mut W, number: u32, line: usize) -> io::Result<()>
+    ensures { OnOk result (Appends (W.contents out.old) (W.contents out.new) (refusal_in number line 49)) }
+{
+    let mut bytes = [0u8; 49];
+    let n = refusal::print_refusal(&mut bytes, number, line);
+    out.write_all(&bytes[..n])
 }
 
 // Opens the file of a name that is text; none where it cannot be opened, which is said on standard error.
@@ -141,7 +144,8 @@ pub fn open<R: Files + Eprint>(rt: &R, path: &[u8]) -> io::Result<Option<R::File
     }
 }
 
-// Reads until the buffer is full or the input ends, and says how many bytes it put at the buffer's start.
+// Reads until the buffer is full or the input ends, and says how many bytes it put at the buffer's start: std's `read_exact` fails where the input
+// ends, and its `read_to_end` allocates.
 pub fn read_full<R: Read>(input: &mut R, buffer: &mut [u8]) -> io::Result<usize>
     ensures count { ReadsAtMost result buffer.new }
     ensures bytes { IfOk result (λ n. Consumes (R.remaining input.old) (R.remaining input.new) (take n buffer.new)) }

@@ -1,19 +1,21 @@
--- The lists as they are filled at first show where a run begins. Assumes nothing.
+-- A run's state as it is at first shows where a run begins. Assumes nothing.
 use Rattle.std.specs.Prelude.{ℕ, zero, suc, ◌<◌, ◌≡◌, refl, List, [], ℤ, pos, length, set, replicate}
 use Rattle.std.proofs.Math.Path.{sym}
-use Rattle.std.proofs.Common.{ap, ◌∙◌, subst, arith, length-set}
-use Rattle.std.proofs.Math.ListN.{get_or, length-replicate, get_or-replicate}
+use Rattle.std.proofs.Common.{◌∙◌, subst, arith}
+use Rattle.std.proofs.Math.ListN.{get_or, take, length-replicate, get_or-replicate}
+use Rattle.std.proofs.lemmas.List.{take-replicate}
 use Rattle.table.specs.Table.{Table, table_of, routine}
 use Rattle.table.specs.Extents.{first_statements, first_handles}
 use Rattle.table.specs.Accepted.{Accepted}
 use Rattle.table.specs.declared.Arguments.{Arguments}
 use Rattle.machine.specs.State.{thread, start}
 use Rattle.machine.proofs.FrameLaws.{start_bounded}
-use Rattle.run_state.specs.ListLaws.{part_replicate, parts_count, parts_started}
 use Rattle.run_state.specs.LockWordLaws.{all_free}
-use Rattle.run_state.specs.Shown.{Arrays, arrays, parts_of, Shows, ListsShow, Entering, Entered}
+use Rattle.run_state.specs.declared.State as Run
+use Rattle.run_state.specs.Lists.{cleared}
+use Rattle.run_state.specs.Shown.{Arrays, arrays, Shows, ListsShow, Entering, Entered}
 use Rattle.run_state.specs.ShownLaws.{ThreadIn, opened_shown}
-use Rattle.run_state.specs.TableLaws.{LookedUp, looked_up, naming}
+use Rattle.run_state.specs.TableLaws.{LookedUp, looked_up}
 
 -- nothing is passed to routine 0
 abbrev pub nothing_passed : Arguments
@@ -31,8 +33,15 @@ module _ (numbers : List ℤ) (handle : List ℕ) (accepted : Accepted (table_of
   -- what the first frame asks
   pub entering : Entering (table_of numbers) (get_or handle 0 0) (get_or handle 1 0) 0 1
   entering =
-      let q = naming numbers (first_statements numbers) handle 0 accepted (omega (arith, accepted.routines_some)) looked in
-      record { accepted = accepted; few = q.few; there = q.there; slot_low = omega arith; caller_low = omega arith; apart = λ e. omega (arith, e) }
+      let facts = accepted.routine_facts 0 (omega (arith, accepted.routines_some)) in
+      record {
+        accepted = accepted;
+        few = omega (arith, looked.from_is, looked.end_is, facts.few_handles);
+        there = omega (arith, looked.end_is, facts.handles_there);
+        slot_low = omega arith;
+        caller_low = omega arith;
+        apart = λ e. omega (arith, e);
+      }
 
   module _ (values new : List ℕ) (long : length values ≡ 4096)
       (e : Entered (table_of numbers) values new 0 1 (get_or handle 0 0) (get_or handle 1 0) nothing_passed) where
@@ -67,27 +76,10 @@ module _ (numbers : List ℤ) (handle : List ℕ) (accepted : Accepted (table_of
             }
         only (suc m) l = absurd (omega arith)
 
-    -- the lists cleared, with one frame of one thread
-    pub begun : ListsShow (table_of numbers) (set (set (replicate 545 0) 512 1) 528 1) new (replicate 80 (pos 0)) (start (table_of numbers))
-    begun =
-        record {
-          shows = subst (λ (a : Arrays). Shows (table_of numbers) a (start (table_of numbers))) (sym (both (replicate 545 0) (replicate 80 (pos 0)) refl refl)) shown;
-          bounded = start_bounded accepted;
-        }
-      where
-        both : (zeros : List ℕ) (registers : List ℤ) → zeros ≡ replicate 545 0 → registers ≡ replicate 80 (pos 0)
-            → parts_of (table_of numbers) (set (set zeros 512 1) 528 1) new registers ≡ first_arrays (table_of numbers) new
-        both zeros registers z r =
-            let long : length zeros ≡ 545 = ap length z ∙ length-replicate {A = ℕ} 545 0 in
-            let t = table_of numbers in
-            parts_started t (set zeros 512 1) new registers 1 (omega (arith, length-set zeros 512 1))
-            ∙ ap (λ (a : Arrays). arrays 1 a.nexts a.values a.counts a.accumulators a.locks a.cells) (parts_count t zeros new registers 0 512 1 (omega arith) refl)
-            ∙ rw (
-              z,
-              r,
-              part_replicate {A = ℕ} 0 512 545 0 (omega arith),
-              part_replicate {A = ℕ} 512 16 545 0 (omega arith),
-              part_replicate {A = ℕ} 529 t.locks 545 0 (omega (arith, accepted.locks_most)),
-              part_replicate {A = ℤ} 0 16 80 (pos 0) (omega arith),
-              part_replicate {A = ℤ} 16 t.cells 80 (pos 0) (omega (arith, accepted.cells_most)),
-            )
+    -- all cleared, with one frame of one thread
+    pub begun : (b : Run.State) → b ≡ cleared → ListsShow (table_of numbers) (record b { started = 1; counts = set b.counts 0 1; values = new }) (start (table_of numbers))
+    begun b q =
+        let t = table_of numbers in
+        let locks : take {A = ℕ} t.locks (replicate 16 0) ≡ replicate t.locks 0 = take-replicate t.locks 16 0 accepted.locks_most in
+        let cells : take t.cells (replicate 64 (pos 0)) ≡ replicate t.cells (pos 0) = take-replicate t.cells 64 (pos 0) accepted.cells_most in
+        rw q (record { shows = rw (locks, cells) shown; bounded = start_bounded accepted })

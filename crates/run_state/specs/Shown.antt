@@ -1,4 +1,4 @@
--- How the lists of a run show a state of the machine. Nothing that a promise of `engine::run` says rests on it. Assumes nothing.
+-- How a run's state shows a state of the machine. Nothing that a promise of `engine::run` says rests on it. Assumes nothing.
 use Rattle.std.specs.Prelude.{ℕ, ◌+◌, ◌-◌, ◌*◌, ◌%◌, ◌<◌, ◌≤◌, ◌≡◌, cond, List, [], ◌∷◌, map, eqb, ℤ, pos, length, get_or}
 use Rattle.table.specs.Header.{statements, statement_line}
 use Rattle.table.specs.Table.{Table, table_of, declaration, passed, OwnHandle}
@@ -10,9 +10,11 @@ use Rattle.machine.specs.State.{State, Frame, Thread, Holder, writer, readers, f
 use Rattle.machine.specs.Engine.{frame_slots}
 use Rattle.machine.proofs.FrameLaws.{Bounded}
 use Rattle.run_state.specs.declared.Sizes.{Sizes}
-use Rattle.run_state.specs.Lists.{nexts_in, counts_in, started_in, locks_in, accumulators_in, cells_in}
+use Rattle.run_state.specs.declared.Program.{Program}
+use Rattle.run_state.specs.declared.State as Run
+use Rattle.run_state.specs.Lists.{locks_in, cells_in}
 
--- what the lists hold, apart: how many threads are started; each slot's next statement and its values, eight a slot; each thread's frame count and
+-- what it holds of a table: how many threads are started; each slot's next statement and its values, eight a slot; each thread's frame count and
 -- accumulator; each lock's word; the cells
 pub record Arrays : Type 0 where
   pub started : ℕ
@@ -27,10 +29,9 @@ abbrev pub arrays : ℕ → List ℕ → List ℕ → List ℕ → List ℤ → 
 arrays started nexts values counts accumulators locks cells =
     record { started = started; nexts = nexts; values = values; counts = counts; accumulators = accumulators; locks = locks; cells = cells }
 
--- the lists of a run of a table, apart
-abbrev pub parts_of : Table → List ℕ → List ℕ → List ℤ → Arrays
-parts_of t words values registers =
-    arrays (started_in words) (nexts_in words) values (counts_in words) (accumulators_in registers) (locks_in t.locks words) (cells_in t.cells registers)
+-- what the state of a run holds of a table
+abbrev pub parts_of : Table → Run.State → Arrays
+parts_of t s = arrays s.started s.nexts s.values s.counts s.accumulators (locks_in t.locks s) (cells_in t.cells s)
 
 -- the machine's thread that has thread number n in the run: "takes the next thread number"
 abbrev pub user : ℕ → ℕ
@@ -101,9 +102,9 @@ pub record ShowsBounded (t : Table) (a : Arrays) (state : State) : Type 0 where
   pub shows : Shows t a state
   pub bounded : Bounded t state
 
--- the lists show a state of the machine, in a run of the table
-abbrev pub ListsShow : Table → List ℕ → List ℕ → List ℤ → State → Type 0
-ListsShow t words values registers state = ShowsBounded t (parts_of t words values registers) state
+-- a run's state shows a state of the machine, in a run of the table
+abbrev pub ListsShow : Table → Run.State → State → Type 0
+ListsShow t s state = ShowsBounded t (parts_of t s) state
 
 -- the sizes are those that the header of the numbers says
 pub record Sized (numbers : List ℤ) (sizes : Sizes) : Type 0 where
@@ -112,31 +113,30 @@ pub record Sized (numbers : List ℤ) (sizes : Sizes) : Type 0 where
   pub locks_are : sizes.locks ≡ (table_of numbers).locks
 
 -- what a run never changes: the numbers of an accepted text, the two lists that CALL and START look routines up in, and the sizes
-pub record Fixed (numbers : List ℤ) (first handle : List ℕ) (sizes : Sizes) : Type 0 where
-  pub accepted : Accepted (table_of numbers)
-  pub long : length numbers ≡ 8 * statement_line numbers (statements numbers)
-  pub first_is : first ≡ first_statements numbers
-  pub handle_is : handle ≡ first_handles numbers
-  pub sized : Sized numbers sizes
+pub record Fixed (p : Program) : Type 0 where
+  pub accepted : Accepted (table_of p.numbers.now)
+  pub long : length p.numbers.now ≡ 8 * statement_line p.numbers.now (statements p.numbers.now)
+  pub first_is : p.first ≡ first_statements p.numbers.now
+  pub handle_is : p.handle ≡ first_handles p.numbers.now
+  pub sized : Sized p.numbers.now p.sizes
 
--- lists that show some state of the machine
-pub record Standing (numbers : List ℤ) (first handle : List ℕ) (sizes : Sizes) (words values : List ℕ) (registers : List ℤ) : Type 0 where
-  pub fixed : Fixed numbers first handle sizes
+-- a state of a run that shows some state of the machine
+pub record Standing (p : Program) (s : Run.State) : Type 0 where
+  pub fixed : Fixed p
   pub state : State
-  pub shows : ListsShow (table_of numbers) words values registers state
+  pub shows : ListsShow (table_of p.numbers.now) s state
 
 -- the lines of the handles are there
 abbrev pub HandlesThere : List ℤ → Type 0
 HandlesThere numbers = 8 * length (table_of numbers).handles + 8 ≤ length numbers
 
--- what handle h refers to in a new frame, with arguments from the frame in slot `caller`
-unfoldable pub start_value : Table → List ℕ → ℕ → ℕ → Arguments → ℕ → ℕ
-start_value t values caller from arguments h =
-    cond (eqb (declaration t h).origin 0) (get_or values (value_place caller (get_or (passed arguments) (h - from) 0)) 0) (declaration t h).start
+-- what handle h refers to in a new frame: as a parameter what handle g does in the frame in slot `caller`, as a local its start
+unfoldable pub entry_value : Table → List ℕ → ℕ → ℕ → ℕ → ℕ
+entry_value t values caller g h = cond (eqb (declaration t h).origin 0) (get_or values (value_place caller g) 0) (declaration t h).start
 
--- the arguments behind the first
-abbrev pub arguments_behind : Arguments → Arguments
-arguments_behind a = record { first = a.second; second = a.third; third = a.fourth; fourth = 0 }
+-- what handle h refers to in a new frame, with arguments from the frame in slot `caller`
+abbrev pub start_value : Table → List ℕ → ℕ → ℕ → Arguments → ℕ → ℕ
+start_value t values caller from arguments h = entry_value t values caller (get_or (passed arguments) (h - from) 0) h
 
 -- the handles `from` to `end` are at most eight of an accepted table, and their slot is not the caller's
 pub record Entering (t : Table) (from end slot caller : ℕ) : Type 0 where
@@ -155,9 +155,9 @@ pub record Entered (t : Table) (values new : List ℕ) (slot caller from end : �
   pub kept_above : (i : ℕ) → slot * 8 + 8 ≤ i → get_or new i 0 ≡ get_or values i 0
 
 -- what CALL and START ask of the routine that they name
-pub record Naming (numbers : List ℤ) (first handle : List ℕ) (routine : ℕ) : Type 0 where
-  pub accepted : Accepted (table_of numbers)
+pub record Naming (p : Program) (routine : ℕ) : Type 0 where
+  pub accepted : Accepted (table_of p.numbers.now)
   pub low : routine < 32
-  pub first_low : get_or first routine 0 < 512
-  pub few : get_or handle (routine + 1) 0 ≤ get_or handle routine 0 + 8
-  pub there : get_or handle (routine + 1) 0 ≤ length (table_of numbers).handles
+  pub first_low : get_or p.first routine 0 < 512
+  pub few : get_or p.handle (routine + 1) 0 ≤ get_or p.handle routine 0 + 8
+  pub there : get_or p.handle (routine + 1) 0 ≤ length (table_of p.numbers.now).handles

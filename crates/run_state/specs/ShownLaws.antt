@@ -14,7 +14,7 @@ use Rattle.table.proofs.TabulateLaws.{length_tabulate, get_d_tabulate}
 use Rattle.table.specs.Accepted.{Accepted}
 use Rattle.table.specs.declared.Arguments.{Arguments}
 use Rattle.machine.specs.State.{State, Frame, Thread, Holder, ended, thread, entered, opened}
-use Rattle.run_state.specs.Shown.{Arrays, value_place, ShowsFrame, ShowsFrames, ShowsThread, Lengths, ShowsLocks, Shows, start_value, Entered}
+use Rattle.run_state.specs.Shown.{Arrays, value_place, ShowsFrame, ShowsFrames, ShowsThread, Lengths, ShowsLocks, Shows, entry_value, start_value, Entered}
 
 -- ---- frames are shown as before where their slots are as before
 
@@ -163,7 +163,7 @@ module _ (t : Table) (accepted : Accepted t) where
       → Entered t values values' slot caller (routine t r).handle ((routine t r).handle + (routine t r).handles) arguments
       → ((k : ℕ) → k < (routine t r).parameters → get_or values (value_place caller (get_or (passed arguments) k 0)) 0 ≡ get_or passed_values (get_or (passed arguments) k 0) 0)
       → ShowsFrame t nexts values' slot (opened t r passed_values arguments)
-  unfolding opened entered start_value
+  unfolding opened entered entry_value
   opened_shown nexts values values' passed_values slot caller r arguments low first_is e same =
       record {
         next_is = first_is;

@@ -10,10 +10,10 @@ use Rattle.table.proofs.TabulateLaws.{length_tabulate, get_d_tabulate}
 use Rattle.table.proofs.ExtentLaws.{handles_next, first_at, handle_at_lem}
 use Rattle.table.proofs.LookupLaws.{routines_length}
 use Rattle.table.proofs.UntilLaws.{until_range}
-use Rattle.table.specs.Table.{Table, table_of, declaration, routine, statement, passed, declaration_of, routine_at, statement_of}
+use Rattle.table.specs.Table.{Table, table_of, declaration, routine, statement, declaration_of, routine_at, statement_of}
 use Rattle.table.specs.Accepted.{Accepted, HandleFacts}
-use Rattle.table.specs.declared.Arguments.{Arguments}
-use Rattle.run_state.specs.Shown.{HandlesThere, Naming, value_place, start_value}
+use Rattle.run_state.specs.declared.Program.{Program}
+use Rattle.run_state.specs.Shown.{HandlesThere, Naming, value_place, entry_value}
 
 pub declaration_read : (f : List ℤ) (h : ℕ) → h < length (table_of f).handles → declaration (table_of f) h ≡ declaration_of f h
 unfolding table_of
@@ -29,17 +29,16 @@ routine_read f r l = get_d_tabulate (routines f) (routine_at f) r _ (rw length_t
 
 -- ---- a new frame's values, by a handle's line
 
-module _ (f : List ℤ) (values : List ℕ) (caller from : ℕ) (arguments : Arguments) (h : ℕ) (there : h < length (table_of f).handles) where
+module _ (f : List ℤ) (values : List ℕ) (caller g h : ℕ) (there : h < length (table_of f).handles) where
   same : declaration (table_of f) h ≡ declaration_of f h
   same = declaration_read f h there
 
-  pub argument_value : (g x : ℕ) → field f (1 + h) 3 ≡ 0 → g ≡ get_or (passed arguments) (h - from) 0 → x ≡ get_or values (value_place caller g) 0
-      → x ≡ start_value (table_of f) values caller from arguments h
-  unfolding start_value declaration_of
-  argument_value g x o e v = rw (same, eq-eqb (field f (1 + h) 3) 0 o, ← e) v
+  pub argument_value : (x : ℕ) → field f (1 + h) 3 ≡ 0 → x ≡ get_or values (value_place caller g) 0 → x ≡ entry_value (table_of f) values caller g h
+  unfolding entry_value declaration_of
+  argument_value x o v = rw (same, eq-eqb (field f (1 + h) 3) 0 o) v
 
-  pub local_value : (field f (1 + h) 3 ≡ 0 → ⊥) → field f (1 + h) 4 ≡ start_value (table_of f) values caller from arguments h
-  unfolding start_value declaration_of
+  pub local_value : (field f (1 + h) 3 ≡ 0 → ⊥) → field f (1 + h) 4 ≡ entry_value (table_of f) values caller g h
+  unfolding entry_value declaration_of
   local_value o = rw (same, ne_eqb (field f (1 + h) 3) 0 o)
 
   pub local_small : Accepted (table_of f) → (field f (1 + h) 3 ≡ 0 → ⊥) → field f (1 + h) 4 < 256
@@ -82,9 +81,9 @@ looked_up f first handle r accepted a b l =
     }
 
 -- what CALL and START ask
-pub naming : (f : List ℤ) (first handle : List ℕ) (r : ℕ) → Accepted (table_of f) → r < length (table_of f).routines → LookedUp (table_of f) first handle r
-    → Naming f first handle r
-naming f first handle r accepted l u =
+pub naming : (p : Program) (r : ℕ) → Accepted (table_of p.numbers.now) → r < length (table_of p.numbers.now).routines → LookedUp (table_of p.numbers.now) p.first p.handle r
+    → Naming p r
+naming p r accepted l u =
     let facts = accepted.routine_facts r l in
     record {
       accepted = accepted;

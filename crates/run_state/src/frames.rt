@@ -3,7 +3,7 @@
 ghost use Rattle.std.specs.Prelude.{◌≡◌, ◌+◌, ◌*◌, ◌<◌, get_or, set, length};
 ghost use Rattle.table.specs.Table.{table_of};
 ghost use Rattle.table.specs.Accepted.{Accepted};
-ghost use Rattle.run_state.specs.Shown.{value_place, HandlesThere, Entering, Entered, start_value, arguments_behind};
+ghost use Rattle.run_state.specs.Shown.{value_place, HandlesThere, Entering, Entered, entry_value};
 
 use table::Arguments;
 
@@ -20,36 +20,18 @@ pub fn put_value(values: &mut [u8; 4096], slot: usize, h: usize, v: usize)
     requires { (slot < 512) × (v < 256) }
     ensures { values.new ≡ set values.old (value_place slot h) v }
 {
-    values[slot * 8 + h % 8] = (v % 256) as u8;
+    values[slot * 8 + h % 8] = v as u8;
 }
 
-// What handle `h` refers to in a new frame, with arguments from the frame in slot `caller`: the first of them is the one for `h`.
-fn entry_value(
-    numbers: &[i32],
-    h: usize,
-    left: Arguments,
-    values: &[u8; 4096],
-    caller: usize,
-) -> usize
+// What handle `h` refers to in a new frame: as a parameter what handle `g` does in the frame in slot `caller`, as a local its start.
+fn entry_value(numbers: &[i32], h: usize, g: usize, values: &[u8; 4096], caller: usize) -> usize
     requires { (caller < 512) × (h < length (table_of numbers.now).handles) × Accepted (table_of numbers.now) × HandlesThere numbers.now }
-    ensures { (result ≡ start_value (table_of numbers.now) values.now caller h left h) × (result < 256) }
+    ensures { (result ≡ entry_value (table_of numbers.now) values.now caller g h) × (result < 256) }
 {
     if table::field_in(numbers, 1 + h, 3) == 0 {
-        value_of(values, caller, left.first)
+        value_of(values, caller, g)
     } else {
         table::field_in(numbers, 1 + h, 4)
-    }
-}
-
-// The arguments behind the first.
-fn behind(left: Arguments) -> Arguments
-    ensures { result ≡ arguments_behind left }
-{
-    Arguments {
-        first: left.second,
-        second: left.third,
-        third: left.fourth,
-        fourth: 0,
     }
 }
 
@@ -64,15 +46,18 @@ pub fn enter(
     slot: usize,
     caller: usize,
 )
-    requires { Entering (table_of numbers.now) from end slot caller × (length values.old ≡ 4096) × HandlesThere numbers.now }
+    requires { Entering (table_of numbers.now) from end slot caller × HandlesThere numbers.now }
     ensures { Entered (table_of numbers.now) values.old values.new slot caller from end arguments }
 {
-    let mut h = from;
-    let mut left = arguments;
-    while h < end {
-        let v = entry_value(numbers, h, left, values, caller);
+    let passed = [
+        arguments.first,
+        arguments.second,
+        arguments.third,
+        arguments.fourth,
+    ];
+    for h in from..end {
+        let g = passed.get(h - from).copied().unwrap_or(0);
+        let v = entry_value(numbers, h, g, values, caller);
         put_value(values, slot, h, v);
-        left = behind(left);
-        h += 1;
     }
 }

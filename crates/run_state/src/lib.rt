@@ -1,17 +1,14 @@
 #![tactic(auto)]
-// The state of a run in three lists, lent by the caller of a step: `words`, `values` and `registers`. `words` has each slot's next statement, each
-// thread's frame count, how many threads are started, and each lock's word; `values` each slot's handle values; `registers` each thread's
-// accumulator, and the cells. Places past the table's locks and cells are never read.
+// The state of a run, which the caller of a step holds, and what a run is of. Places past the table's locks and cells are never read.
 pub mod frames;
-pub mod places;
 
-ghost use Rattle.std.specs.Prelude.{◌≡◌, ◌*◌, ◌≤◌, length};
+ghost use Rattle.std.specs.Prelude.{◌≡◌, ◌*◌, ◌<◌, ◌≤◌, get_or, length, pos, take};
 ghost use Rattle.table.specs.Header.{statements, statement_line};
 ghost use Rattle.table.specs.Table.{table_of};
 ghost use Rattle.table.specs.Extents.{first_handles};
 ghost use Rattle.table.specs.Accepted.{Accepted};
 ghost use Rattle.machine.specs.State.{start};
-ghost use Rattle.run_state.specs.Lists.{cells_in};
+ghost use Rattle.run_state.specs.Lists.{cleared, locks_in, cells_in, put_lock, put_cell};
 ghost use Rattle.run_state.specs.Shown.{ListsShow, Sized};
 
 use table::Arguments;
@@ -36,22 +33,100 @@ pub fn sizes_of(numbers: &[i32]) -> Sizes
     }
 }
 
-// Makes the lists show where a run begins: thread 0 alone, in routine 0, cells zero and locks free.
-pub fn begin(
-    numbers: &[i32],
-    handle: &[usize; 33],
-    words: &mut [u32; 545],
-    values: &mut [u8; 4096],
-    registers: &mut [i32; 80],
-)
-    requires { Accepted (table_of numbers.now) × (handle.now ≡ first_handles numbers.now) × (length numbers.now ≡ 8 * statement_line numbers.now (statements numbers.now)) }
-    ensures { ListsShow (table_of numbers.now) words.new values.new registers.new (start (table_of numbers.now)) }
+// What a run never changes: the numbers of an accepted text, each routine's first statement and first handle, and the sizes. That they are so (`Fixed`) is
+// no ghost field: `Accepted` gives each routine a rank, so it has more than one proof, and a truncated one cannot be taken apart where the rank is used.
+#[derive(Clone, Copy)]
+pub struct Program<'a> {
+    pub numbers: &'a [i32],
+    pub first: [usize; 33],
+    pub handle: [usize; 33],
+    pub sizes: Sizes,
+}
+
+// The state of a run: how many threads are started, each thread's frame count and accumulator, each slot's next statement and handle values, each lock's word, the cells.
+#[derive(Clone, Copy)]
+pub struct State {
+    pub started: usize,
+    pub nexts: [u32; 512],
+    pub values: [u8; 4096],
+    pub counts: [usize; 16],
+    pub accumulators: [i32; 16],
+    pub locks: [u64; 16],
+    pub cells: [i32; 64],
+}
+
+impl State {
+    // With no thread, all cleared.
+    pub fn new() -> State
+        ensures { result ≡ cleared }
+    {
+        State {
+            started: 0,
+            nexts: [0; 512],
+            values: [0; 4096],
+            counts: [0; 16],
+            accumulators: [0; 16],
+            locks: [0; 16],
+            cells: [0; 64],
+        }
+    }
+
+    // The word of lock `k` of so many locks: who holds it. 0 past them.
+    pub fn lock(&self, locks: usize, k: usize) -> u64
+        requires { locks ≤ 16 }
+        ensures { result ≡ get_or (locks_in locks self.now) k 0 }
+    {
+        if k < locks { self.locks[k] } else { 0 }
+    }
+
+    #[tactic(auto, unfolding(crate::specs::Lists::put))]
+    // Stores the word of lock `k` of so many locks; nothing past them.
+    pub fn put_lock(&mut self, locks: usize, k: usize, word: u64)
+        requires { locks ≤ 16 }
+        ensures { self.new ≡ put_lock locks self.old k word }
+    {
+        if k < locks {
+            self.locks[k] = word;
+        }
+    }
+
+    // Beside `lock` and `put_lock`: a generic one would take the list that it reads as a parameter, and say no more.
+    // The value of cell `x` of so many cells; 0 past them.
+    pub fn cell(&self, cells: usize, x: usize) -> i32
+        requires { cells ≤ 64 }
+        ensures { result ≡ get_or (cells_in cells self.now) x (pos 0) }
+    {
+        if x < cells { self.cells[x] } else { 0 }
+    }
+
+    #[tactic(auto, unfolding(crate::specs::Lists::put))]
+    // Stores `v` in cell `x` of so many cells; nothing past them.
+    pub fn put_cell(&mut self, cells: usize, x: usize, v: i32)
+        requires { cells ≤ 64 }
+        ensures { self.new ≡ put_cell cells self.old x v }
+    {
+        if x < cells {
+            self.cells[x] = v;
+        }
+    }
+
+    // Copies the cells' values out.
+    pub fn leave(&self, cells: &mut [i32])
+        requires { length cells.old ≤ 64 }
+        ensures { cells.new ≡ cells_in (length cells.old) self.now }
+    {
+        cells.copy_from_slice(&self.cells[..cells.len()]);
+    }
+}
+
+// Makes the state show where a run begins: thread 0 alone, in routine 0, cells zero and locks free.
+pub fn begin(program: &Program<'_>, state: &mut State)
+    requires { Accepted (table_of program.now.numbers.now) × (program.now.handle ≡ first_handles program.now.numbers.now) × (length program.now.numbers.now ≡ 8 * statement_line program.now.numbers.now (statements program.now.numbers.now)) }
+    ensures { ListsShow (table_of program.now.numbers.now) state.new (start (table_of program.now.numbers.now)) }
 {
-    *words = [0u32; 545];
-    *values = [0u8; 4096];
-    *registers = [0i32; 80];
-    words[512] = 1;
-    words[528] = 1;
+    *state = State::new();
+    state.started = 1;
+    state.counts[0] = 1;
     // routine 0 has no parameter
     let nothing = Arguments {
         first: 0,
@@ -59,17 +134,13 @@ pub fn begin(
         third: 0,
         fourth: 0,
     };
-    frames::enter(numbers, handle[0], handle[1], nothing, values, 0, 1);
-}
-
-// Copies the cells' values out.
-pub fn leave(registers: &[i32; 80], cells: &mut [i32])
-    requires { (length (cells_in (length cells.old) registers.now) ≡ length cells.old) × (length cells.old ≤ 64) }
-    ensures { cells.new ≡ cells_in (length cells.old) registers.now }
-{
-    let mut i = 0;
-    while i < cells.len() {
-        cells[i] = registers[16 + i];
-        i += 1;
-    }
+    frames::enter(
+        program.numbers,
+        program.handle[0],
+        program.handle[1],
+        nothing,
+        &mut state.values,
+        0,
+        1,
+    );
 }

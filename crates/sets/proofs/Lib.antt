@@ -6,3 +6,4 @@ pub mod Rules
 pub mod Settled
 pub mod LeastLaws
 pub mod AppendLaws
+pub mod Clear

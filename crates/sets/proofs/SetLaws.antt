@@ -1,6 +1,6 @@
 -- The laws of sets: what the operations do to membership, when two sets are equal, what is inside what, and how many elements there are.
 -- Each is over any sets and elements. Assumes nothing.
-use Rattle.std.specs.Prelude.{◌≡◌, refl, Bool, true, false, not, ◌&&◌, ◌||◌, ℕ, zero, suc, ◌+◌, ◌-◌, ◌*◌, ◌/◌, ◌%◌, ◌^◌, ◌≤◌, ◌<◌, min, ltb}
+use Rattle.std.specs.Prelude.{◌≡◌, refl, Bool, true, false, Some, None, not, ◌&&◌, ◌||◌, ℕ, zero, suc, ◌+◌, ◌-◌, ◌*◌, ◌/◌, ◌%◌, ◌^◌, ◌≤◌, ◌<◌, min, ltb}
 use Rattle.std.proofs.Common.{sym, ◌∙◌, subst, zero-le, suc-le-suc, le_trans, le_of_eq, le_of_suc-le-suc, add-le-add, zero-add, mod-lt, pow-suc, zero-lt-suc, lt_of_lt_of_le, lt_of_le_of_lt, arith, pow_pos, pow_mono, shr-shr, eqb-true, eq-eqb, ne_eqb, ltb-true, ltb-false, lt-ltb, le-ltb}
 use Rattle.std.proofs.Math.Path.{ap}
 use Rattle.std.proofs.Math.Bool.{or-true, or-false}
@@ -13,23 +13,22 @@ use Rattle.std.proofs.lemmas.Nat.{or_shr, or_mod, and_shr, and_mod, xor_shr, xor
 use Rattle.std.specs.Int.Count.{ones, ones_in, ones_step, under, count_trailing_zeros}
 use Rattle.std.proofs.lemmas.Bool.{eqb-false}
 use Rattle.sets.specs.Set.{has, firsts, one, with, union, inter, minus, subset, is_empty, count, is_single, only, lowest}
-use Rattle.sets.specs.declared.Which.TheVariants.{Element, Nothing}
 
 -- ---- the definitions by a test, one equation a case
 
-pub only_when : (s : ℕ) → is_single s ≡ true → only s ≡ Element (count_trailing_zeros 64 s)
+pub only_when : (s : ℕ) → is_single s ≡ true → only s ≡ Some (count_trailing_zeros 64 s)
 unfolding only
 only_when s t = rw (only, t)
 
-pub only_unless : (s : ℕ) → is_single s ≡ false → only s ≡ Nothing
+pub only_unless : (s : ℕ) → is_single s ≡ false → only s ≡ None
 unfolding only
 only_unless s t = rw (only, t)
 
-pub lowest_none : (s : ℕ) → is_empty s ≡ true → lowest s ≡ Nothing
+pub lowest_none : (s : ℕ) → is_empty s ≡ true → lowest s ≡ None
 unfolding lowest
 lowest_none s t = rw (lowest, t)
 
-pub lowest_some : (s : ℕ) → is_empty s ≡ false → lowest s ≡ Element (count_trailing_zeros 64 s)
+pub lowest_some : (s : ℕ) → is_empty s ≡ false → lowest s ≡ Some (count_trailing_zeros 64 s)
 unfolding lowest
 lowest_some s t = rw (lowest, t)
 
@@ -62,7 +61,7 @@ digit_pairs P a b c d (suc (suc x)) y hx hy = absurd (omega arith)
 digit_pairs P a b c d zero (suc (suc y)) hx hy = absurd (omega arith)
 digit_pairs P a b c d (suc zero) (suc (suc y)) hx hy = absurd (omega arith)
 
-digits_of : (P : ℕ → ℕ → Type 0) → P 0 0 → P 0 1 → P 1 0 → P 1 1 → (x y : ℕ) → P (x % 2) (y % 2)
+pub digits_of : (P : ℕ → ℕ → Type 0) → P 0 0 → P 0 1 → P 1 0 → P 1 1 → (x y : ℕ) → P (x % 2) (y % 2)
 digits_of P a b c d x y = digit_pairs P a b c d (x % 2) (y % 2) (mod-lt x (zero-lt-suc 1)) (mod-lt y (zero-lt-suc 1))
 
 -- an operation that works on each bit apart does so to membership
@@ -464,63 +463,63 @@ pub count_one : (i : ℕ) → i < 64 → count (one i) ≡ 1
 unfolding with union
 count_one i l = ap count (sym (or_zero_l (one i))) ∙ count_with 0 i l (has_empty i) ∙ ap suc count_empty
 
-pub only_is : (s i : ℕ) → s < 2 ^ 64 → only s ≡ Element i → (i < 64) × (s ≡ one i)
+pub only_is : (s i : ℕ) → s < 2 ^ 64 → only s ≡ Some i → (i < 64) × (s ≡ one i)
 unfolding is_single
 only_is s i h e = go (is_single s) refl
   where
     go : (b : Bool) → is_single s ≡ b → (i < 64) × (s ≡ one i)
     go true t =
-        let q : only s ≡ Element (count_trailing_zeros 64 s) = only_when s t in
+        let q : only s ≡ Some (count_trailing_zeros 64 s) = only_when s t in
         let r : count_trailing_zeros 64 s ≡ i = cc in
         rw r at (single_is_one s h (eqb-true (count s) 1 t))
     go false t =
-        let q : only s ≡ Nothing = only_unless s t in
+        let q : only s ≡ None = only_unless s t in
         let w : ◌≡◌ {A = ℕ} 0 1 = cc in
         absurd (omega arith)
 
-pub only_of_one : (i : ℕ) → i < 64 → only (one i) ≡ Element i
+pub only_of_one : (i : ℕ) → i < 64 → only (one i) ≡ Some i
 unfolding is_single
 only_of_one i l =
     let t : is_single (one i) ≡ true = eq-eqb (count (one i)) 1 (count_one i l) in
     let h : one i < 2 ^ 64 = one_below i in
     let p : 0 < one i = has_positive (one i) i (has_one i i l ∙ eq-eqb i i refl) in
     let e : count_trailing_zeros 64 (one i) ≡ i = eqb-true (count_trailing_zeros 64 (one i)) i (sym (has_one i (count_trailing_zeros 64 (one i)) l) ∙ trailing_has 64 (one i) h p) in
-    only_when (one i) t ∙ ap Element e
+    only_when (one i) t ∙ ap Some e
 
-pub lowest_is : (s i : ℕ) → s < 2 ^ 64 → lowest s ≡ Element i → (has s i ≡ true) × ((j : ℕ) → has s j ≡ true → i ≤ j)
+pub lowest_is : (s i : ℕ) → s < 2 ^ 64 → lowest s ≡ Some i → (has s i ≡ true) × ((j : ℕ) → has s j ≡ true → i ≤ j)
 lowest_is s i h e = go (is_empty s) refl
   where
     go : (b : Bool) → is_empty s ≡ b → (has s i ≡ true) × ((j : ℕ) → has s j ≡ true → i ≤ j)
     go true t =
-        let q : lowest s ≡ Nothing = lowest_none s t in
+        let q : lowest s ≡ None = lowest_none s t in
         let w : ◌≡◌ {A = ℕ} 0 1 = cc in
         absurd (omega arith)
     go false t =
-        let q : lowest s ≡ Element (count_trailing_zeros 64 s) = lowest_some s t in
+        let q : lowest s ≡ Some (count_trailing_zeros 64 s) = lowest_some s t in
         let r : count_trailing_zeros 64 s ≡ i = cc in
         (ap (has s) (sym r) ∙ trailing_has 64 s h (not_empty s t), λ j f. subst (λ (x : ℕ). x ≤ j) r (trailing_least 64 s j f))
 
-pub lowest_nothing : (s : ℕ) → lowest s ≡ Nothing → s ≡ 0
+pub lowest_nothing : (s : ℕ) → lowest s ≡ None → s ≡ 0
 unfolding is_empty
 lowest_nothing s e = go (is_empty s) refl
   where
     go : (b : Bool) → is_empty s ≡ b → s ≡ 0
     go true t = eqb-true s 0 t
     go false t =
-        let q : lowest s ≡ Element (count_trailing_zeros 64 s) = lowest_some s t in
+        let q : lowest s ≡ Some (count_trailing_zeros 64 s) = lowest_some s t in
         let w : ◌≡◌ {A = ℕ} 0 1 = cc in
         absurd (omega arith)
 
-pub only_has : (s i : ℕ) → s < 2 ^ 64 → only s ≡ Element i → has s i ≡ true
+pub only_has : (s i : ℕ) → s < 2 ^ 64 → only s ≡ Some i → has s i ≡ true
 only_has s i h e = let p : (i < 64) × (s ≡ one i) = only_is s i h e in ap (λ (x : ℕ). has x i) p.1 ∙ has_one i i p.0 ∙ eq-eqb i i refl
 
-pub only_alone : (s i j : ℕ) → s < 2 ^ 64 → only s ≡ Element i → has s j ≡ true → j ≡ i
+pub only_alone : (s i j : ℕ) → s < 2 ^ 64 → only s ≡ Some i → has s j ≡ true → j ≡ i
 only_alone s i j h e g =
     let p : (i < 64) × (s ≡ one i) = only_is s i h e in
     eqb-true j i (sym (has_one i j p.0) ∙ ap (λ (x : ℕ). has x j) (sym p.1) ∙ g)
 
 -- a set that has i and nothing else is that of i
-pub alone_only : (s i : ℕ) → s < 2 ^ 64 → has s i ≡ true → ((j : ℕ) → has s j ≡ true → j ≡ i) → only s ≡ Element i
+pub alone_only : (s i : ℕ) → s < 2 ^ 64 → has s i ≡ true → ((j : ℕ) → has s j ≡ true → j ≡ i) → only s ≡ Some i
 alone_only s i h e f = ap only same ∙ only_of_one i l
   where
     within : (b : Bool) → ltb i 64 ≡ b → i < 64
@@ -538,9 +537,9 @@ alone_only s i h e f = ap only same ∙ only_of_one i l
         inside_both s (one i) (λ j g. has_one i j l ∙ eq-eqb j i (f j g))
         (λ j g. subst (λ (x : ℕ). has s x ≡ true) (sym (eqb-true j i (sym (has_one i j l) ∙ g))) e)
 
-pub only_nothing : (s : ℕ) → only s ≡ Nothing → count s ≡ 1 → ⊥
+pub only_nothing : (s : ℕ) → only s ≡ None → count s ≡ 1 → ⊥
 unfolding is_single
 only_nothing s e c =
-    let q : only s ≡ Element (count_trailing_zeros 64 s) = only_when s (eq-eqb (count s) 1 c) in
+    let q : only s ≡ Some (count_trailing_zeros 64 s) = only_when s (eq-eqb (count s) 1 c) in
     let w : ◌≡◌ {A = ℕ} 0 1 = cc in
     omega arith

@@ -4,7 +4,7 @@ use mathlib.Core.List.{[], ◌∷◌, map}
 use lib.Count.{ones_in, count_trailing_zeros}
 use Rattle.sets.specs.Set.{union, minus, count, is_single, only, inter}
 use Rattle.sets.specs.Least.{same, room, settle, settled, put_into, edge_of, edges_of, along, pass_edges, least}
-use Rattle.sets.specs.declared.Which.TheVariants.{Element, Nothing}
+use Rattle.std.specs.Prelude.{Some, None}
 
 chain : least (map edge_of (131075 ∷ 65538 ∷ 1 ∷ [])) (1 ∷ 2 ∷ 4 ∷ 8 ∷ []) ≡ 1 ∷ 3 ∷ 7 ∷ 15 ∷ []
 unfolding least settled settle room same pass_edges along put_into edge_of union inter
@@ -23,15 +23,15 @@ meeting : least (edges_of (2 ∷ 131075 ∷ []) (1 ∷ [])) (6 ∷ 12 ∷ 1 ∷ 
 unfolding least settled settle room same pass_edges along put_into edge_of edges_of union inter
 meeting = refl
 
-only_of_none : only 0 ≡ Nothing
+only_of_none : only 0 ≡ None
 unfolding only is_single count ones_in
 only_of_none = refl
 
-only_of_one_element : only 9223372036854775808 ≡ Element 63
+only_of_one_element : only 9223372036854775808 ≡ Some 63
 unfolding only is_single count ones_in count_trailing_zeros
 only_of_one_element = refl
 
-only_of_two : only 6 ≡ Nothing
+only_of_two : only 6 ≡ None
 unfolding only is_single count ones_in
 only_of_two = refl
 

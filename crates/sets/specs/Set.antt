@@ -1,9 +1,7 @@
 -- Sets of numbers below 64, each as one number: what the operations are. Assumes nothing.
-use Rattle.std.specs.Prelude.{Bool, true, false, ℕ, ◌-◌, ◌/◌, ◌%◌, ◌^◌, min, eqb, ltb}
+use Rattle.std.specs.Prelude.{Bool, true, false, Option, Some, None, ℕ, ◌-◌, ◌/◌, ◌%◌, ◌^◌, min, eqb, ltb}
 use Rattle.std.specs.Int.Bits.{bit_or, bit_and, bit_xor}
 use Rattle.std.specs.Int.Count.{ones_in, count_trailing_zeros}
-use Rattle.sets.specs.declared.Which.{Which}
-use Rattle.sets.specs.declared.Which.TheVariants.{Element, Nothing}
 
 -- i is an element of s: bit i of s is 1
 unfoldable pub has : ℕ → ℕ → Bool
@@ -50,9 +48,9 @@ unfoldable pub is_single : ℕ → Bool
 is_single s = eqb (count s) 1
 
 -- the one element of s, if it has exactly one
-unfoldable pub only : ℕ → Which
-only s = elim (is_single s) [ true ↦ Element (count_trailing_zeros 64 s) | false ↦ Nothing ]
+unfoldable pub only : ℕ → Option ℕ
+only s = elim (is_single s) [ true ↦ Some (count_trailing_zeros 64 s) | false ↦ None ]
 
 -- the lowest element of s, if it has one
-unfoldable pub lowest : ℕ → Which
-lowest s = elim (is_empty s) [ true ↦ Nothing | false ↦ Element (count_trailing_zeros 64 s) ]
+unfoldable pub lowest : ℕ → Option ℕ
+lowest s = elim (is_empty s) [ true ↦ None | false ↦ Some (count_trailing_zeros 64 s) ]

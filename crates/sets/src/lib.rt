@@ -1,23 +1,15 @@
 #![tactic(auto)]
-// Sets of at most 64 elements, each in one number: element i is bit i.
+// Sets of at most 64 elements, each in one number: element i is bit i. A struct around the number would be no plainer: the lists of sets that C and the
+// solver lend are lists of u64.
 ghost use Rattle.std.specs.Prelude.{◌≡◌};
 ghost use Rattle.sets.specs.Set.{has, firsts, one, with, union, inter, minus, subset, is_empty, count, is_single, only, lowest};
 
-// The element that a question finds, or that there is none.
-#[derive(Clone, Copy)]
-pub enum Which {
-    Element(usize),
-    Nothing,
-}
-
 // Whether i is an element of s.
+#[tactic(auto, unfolding(crate::specs::Set::has))]
 pub fn has(s: u64, i: usize) -> bool
     ensures { result ≡ has s i }
 {
-    if i < 64 {
-        return (s >> i) % 2 == 1;
-    }
-    false
+    i < 64 && (s >> i) % 2 == 1
 }
 
 // The set with no element.
@@ -31,23 +23,18 @@ pub fn empty() -> u64
 pub fn firsts(n: usize) -> u64
     ensures { result ≡ firsts n }
 {
-    if n < 64 {
-        return (1u64 << n) - 1;
-    }
-    18446744073709551615
+    if n < 64 { (1u64 << n) - 1 } else { u64::MAX }
 }
 
 // The set of the one element i, empty if i is 64 or more.
 pub fn one(i: usize) -> u64
     ensures { result ≡ one i }
 {
-    if i < 64 {
-        return 1u64 << i;
-    }
-    0
+    if i < 64 { 1u64 << i } else { 0 }
 }
 
 // s and the element i.
+#[tactic(auto, unfolding(crate::specs::Set::with, crate::specs::Set::union))]
 pub fn with_element(s: u64, i: usize) -> u64
     ensures { result ≡ with s i }
 {
@@ -55,6 +42,7 @@ pub fn with_element(s: u64, i: usize) -> u64
 }
 
 // What is in a or in b.
+#[tactic(auto, unfolding(crate::specs::Set::union))]
 pub fn union(a: u64, b: u64) -> u64
     ensures { result ≡ union a b }
 {
@@ -62,6 +50,7 @@ pub fn union(a: u64, b: u64) -> u64
 }
 
 // What is in a and in b.
+#[tactic(auto, unfolding(crate::specs::Set::inter))]
 pub fn intersection(a: u64, b: u64) -> u64
     ensures { result ≡ inter a b }
 {
@@ -72,10 +61,11 @@ pub fn intersection(a: u64, b: u64) -> u64
 pub fn difference(a: u64, b: u64) -> u64
     ensures { result ≡ minus a b }
 {
-    a ^ (a & b)
+    a & !b
 }
 
 // Whether all of a is in b.
+#[tactic(auto, unfolding(crate::specs::Set::subset, crate::specs::Set::union))]
 pub fn subset(a: u64, b: u64) -> bool
     ensures { result ≡ subset a b }
 {
@@ -83,6 +73,7 @@ pub fn subset(a: u64, b: u64) -> bool
 }
 
 // Whether s has no element.
+#[tactic(auto, unfolding(crate::specs::Set::is_empty))]
 pub fn is_empty(s: u64) -> bool
     ensures { result ≡ is_empty s }
 {
@@ -90,35 +81,41 @@ pub fn is_empty(s: u64) -> bool
 }
 
 // How many elements s has.
+#[tactic(auto, using(crate::proofs::SetLaws::count_ones))]
 pub fn count(s: u64) -> u32
     ensures { result ≡ count s }
 {
-    u64::count_ones(s)
+    s.count_ones()
 }
 
 // Whether s has exactly one element.
+#[tactic(auto, unfolding(crate::specs::Set::is_single))]
 pub fn is_single(s: u64) -> bool
     ensures { result ≡ is_single s }
 {
     count(s) == 1
 }
 
-// The one element of s, or nothing if s has none or several.
-pub fn only(s: u64) -> Which
+// The one element of s, or none if s has none or several.
+#[tactic(auto, unfolding(crate::specs::Set::only))]
+pub fn only(s: u64) -> Option<usize>
     ensures { result ≡ only s }
 {
-    if count(s) == 1 {
-        return Which::Element(u64::trailing_zeros(s) as usize);
+    if is_single(s) {
+        Some(s.trailing_zeros() as usize)
+    } else {
+        None
     }
-    Which::Nothing
 }
 
-// The lowest element of s, or nothing if s is empty.
-pub fn lowest(s: u64) -> Which
+// The lowest element of s, or none if s is empty.
+#[tactic(auto, unfolding(crate::specs::Set::lowest))]
+pub fn lowest(s: u64) -> Option<usize>
     ensures { result ≡ lowest s }
 {
-    if s == 0 {
-        return Which::Nothing;
+    if is_empty(s) {
+        None
+    } else {
+        Some(s.trailing_zeros() as usize)
     }
-    Which::Element(u64::trailing_zeros(s) as usize)
 }

@@ -1,7 +1,6 @@
 // Prints what the set operations and the solver give on chosen inputs, one to a line: what was asked, and the answer.
 #![tactic(auto)]
 
-use sets::Which;
 use solver::Order;
 use std::io;
 
@@ -13,18 +12,14 @@ fn number(rt: &impl Print, label: &[u8], n: u64) -> io::Result<()> {
 
 // Prints the label, 1 or 0, and a line feed.
 fn truth(rt: &impl Print, label: &[u8], b: bool) -> io::Result<()> {
-    if b {
-        number(rt, label, 1)
-    } else {
-        number(rt, label, 0)
-    }
+    number(rt, label, u64::from(b))
 }
 
 // Prints the label, the element or the word nothing, and a line feed.
-fn which(rt: &impl Print, label: &[u8], w: Which) -> io::Result<()> {
+fn which(rt: &impl Print, label: &[u8], w: Option<usize>) -> io::Result<()> {
     match w {
-        Which::Element(i) => number(rt, label, i as u64),
-        Which::Nothing => {
+        Some(i) => number(rt, label, i as u64),
+        None => {
             rt.write_all(label)?;
             rt.write_all(b"nothing\n")
         }
@@ -44,19 +39,17 @@ fn line_end(rt: &impl Print) -> io::Result<()> {
 // Prints the label, each number after a space, and a line feed.
 fn list(rt: &impl Print, label: &[u8], s: &[u64]) -> io::Result<()> {
     rt.write_all(label)?;
-    let mut i = 0;
-    while i < s.len() {
-        spaced(rt, s[i])?;
-        i += 1;
+    for n in s {
+        spaced(rt, *n)?;
     }
     line_end(rt)
 }
 
 fn membership(rt: &impl Print) -> io::Result<()> {
     truth(rt, b"has 1 0: ", sets::has(1, 0))?;
-    truth(rt, b"has 2^63 63: ", sets::has(9223372036854775808, 63))?;
-    truth(rt, b"has 2^63 62: ", sets::has(9223372036854775808, 62))?;
-    truth(rt, b"has all 64: ", sets::has(18446744073709551615, 64))?;
+    truth(rt, b"has 2^63 63: ", sets::has(1 << 63, 63))?;
+    truth(rt, b"has 2^63 62: ", sets::has(1 << 63, 62))?;
+    truth(rt, b"has all 64: ", sets::has(u64::MAX, 64))?;
     number(rt, b"empty: ", sets::empty())
 }
 
@@ -94,8 +87,8 @@ fn inclusions(rt: &impl Print) -> io::Result<()> {
 
 fn counts(rt: &impl Print) -> io::Result<()> {
     number(rt, b"count 0: ", sets::count(0) as u64)?;
-    number(rt, b"count 2^63: ", sets::count(9223372036854775808) as u64)?;
-    number(rt, b"count all: ", sets::count(18446744073709551615) as u64)?;
+    number(rt, b"count 2^63: ", sets::count(1 << 63) as u64)?;
+    number(rt, b"count all: ", sets::count(u64::MAX) as u64)?;
     truth(rt, b"is_single 0: ", sets::is_single(0))?;
     truth(rt, b"is_single 4: ", sets::is_single(4))?;
     truth(rt, b"is_single 6: ", sets::is_single(6))
@@ -105,7 +98,7 @@ fn found(rt: &impl Print) -> io::Result<()> {
     which(rt, b"only 0: ", sets::only(0))?;
     which(rt, b"only 4: ", sets::only(4))?;
     which(rt, b"only 6: ", sets::only(6))?;
-    which(rt, b"only 2^63: ", sets::only(9223372036854775808))?;
+    which(rt, b"only 2^63: ", sets::only(1 << 63))?;
     which(rt, b"lowest 0: ", sets::lowest(0))?;
     which(rt, b"lowest 12: ", sets::lowest(12))
 }

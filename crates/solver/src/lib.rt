@@ -8,36 +8,13 @@ ghost use Rattle.sets.specs.Least.{edge_of, edges_of, least};
 ghost use Rattle.passes.specs.Pass.{Stepped};
 
 use crate::worklist::follow;
-
-// Which way a pass goes over the edges.
-#[derive(Clone, Copy)]
-pub enum Order {
-    FirstToLast,
-    LastToFirst,
-}
-
-// The other order.
-fn turned(order: Order) -> Order {
-    match order {
-        Order::FirstToLast => Order::LastToFirst,
-        Order::LastToFirst => Order::FirstToLast,
-    }
-}
-
-// One pass in an order, which marks the places that changed. Returns whether any did.
-fn pass(sets: &mut [u64], marks: &mut [u64; 16], edges: &[u32], also: &[u16], order: Order) -> bool
-    ensures { Stepped edges.now also.now sets.old sets.new result }
-{
-    match order {
-        Order::FirstToLast => passes::pass_up(sets, marks, edges, also),
-        Order::LastToFirst => passes::pass_down(sets, marks, edges, also),
-    }
-}
+use passes::Edges;
+pub use passes::Order;
 
 // The order of a pass: every other one turns round where places have many edges, since then one of the two ways is mostly right.
 fn way(order: Order, many: bool, turn: usize) -> Order {
-    if many & (turn % 2 == 1) {
-        turned(order)
+    if many && turn % 2 == 1 {
+        order.reversed()
     } else {
         order
     }
@@ -50,16 +27,14 @@ fn last_turn(many: bool) -> usize {
 
 // One pass; if it is the last before the worklist and changed anything, the worklist goes on from there, in the other order. Returns whether anything may
 // be left to put.
-fn step(sets: &mut [u64], edges: &[u32], also: &[u16], order: Order, turn: usize) -> bool
-    ensures { Stepped edges.now also.now sets.old sets.new result }
+fn step(sets: &mut [u64], edges: Edges<'_>, order: Order, turn: usize) -> bool
+    ensures { Stepped edges.entry.ends.now edges.entry.also.now sets.old sets.new result }
 {
     let many = sets.len() < edges.len() / 2;
     let mut marks = [0u64; 16];
-    let changed = pass(sets, &mut marks, edges, also, way(order, many, turn));
-    if changed {
-        if turn == last_turn(many) {
-            follow(sets, &mut marks, edges, also, turned(order));
-        }
+    let changed = passes::pass(sets, &mut marks, edges, way(order, many, turn));
+    if changed && turn == last_turn(many) {
+        follow(sets, &mut marks, edges, order.reversed());
     }
     changed
 }
@@ -69,10 +44,9 @@ fn step(sets: &mut [u64], edges: &[u32], also: &[u16], order: Order, turn: usize
 pub fn solve(sets: &mut [u64], edges: &[u32], also: &[u16], order: Order)
     ensures { sets.new ≡ least (edges_of edges.now also.now) sets.old }
 {
+    let all = Edges { ends: edges, also };
     let mut turn = 0;
-    let mut going = true;
-    while going {
-        going = step(sets, edges, also, order, turn);
+    'passes: while step(sets, all, order, turn) {
         turn = (turn + 1) % 8;
     }
 }
@@ -81,6 +55,5 @@ pub fn solve(sets: &mut [u64], edges: &[u32], also: &[u16], order: Order)
 pub fn solve_plain(sets: &mut [u64], edges: &[u32], order: Order)
     ensures { sets.new ≡ least (map edge_of edges.now) sets.old }
 {
-    let also = [0u16; 0];
-    solve(sets, edges, &also[..], order);
+    solve(sets, edges, &[], order);
 }

@@ -1,5 +1,5 @@
 -- What the attributes of a statement's line say of its edges. Assumes nothing.
-use Rattle.std.specs.Prelude.{ℕ, ◌+◌, ◌≡◌, refl, Bool, true, false, ◌||◌, ℤ}
+use Rattle.std.specs.Prelude.{ℕ, ◌+◌, ◌≡◌, refl, Bool, true, false, ◌||◌, ℤ, Option, Some, None, is_some}
 use Rattle.std.proofs.Math.Path.{sym, ap, ap₂}
 use Rattle.std.proofs.Common.{◌∙◌, zero-add}
 use Rattle.std.proofs.Math.Bool.{cond}
@@ -10,8 +10,6 @@ use Rattle.table.proofs.LookupLaws.{routines_length, statements_length}
 use Rattle.table.specs.Table.{Table, table_of, statement}
 use Rattle.table.specs.View.{view, on_or, set_on, list_on, test_on, when, calls, starts}
 use Rattle.table.proofs.ViewLaws.{on_number, on_called, list_same, list_map, when_map}
-use Rattle.table.specs.declared.Reference.{Reference}
-use Rattle.table.specs.declared.Reference.TheVariants.{To, Nothing}
 use Rattle.table.specs.declared.View.{View}
 use Rattle.table.specs.declared.Statement.{Statement}
 use Rattle.report.specs.Layout.{named, owner_of, one_each}
@@ -25,14 +23,19 @@ use Rattle.start_edges.specs.StartEdges.{reach_at, following_edges, entering_edg
 on_started : {A : Type 0} (v : View) (g : ℕ → A) (d : A) → on_or (starts v) (λ q. g (set_on v.names (λ n. n))) d ≡ on_or (starts v) g d
 on_started v g d = go v.starting
   where
-    go : (b : Bool) → on_or (cond b v.names Nothing) (λ q. g (set_on v.names (λ n. n))) d ≡ on_or (cond b v.names Nothing) g d
+    go : (b : Bool) → on_or (cond b v.names None) (λ q. g (set_on v.names (λ n. n))) d ≡ on_or (cond b v.names None) g d
     go true = on_number v.names g d
     go false = refl
 
 -- a list if anything is referred to
-when_on : (r : Reference) (l : List Edge) → when (test_on r (λ q. true)) l ≡ list_on r (λ q. l)
-when_on (To n) l = refl
-when_on Nothing l = refl
+when_on : (r : Option ℕ) (l : List Edge) → when (test_on r (λ q. true)) l ≡ list_on r (λ q. l)
+when_on (Some n) l = refl
+when_on None l = refl
+
+-- whether anything is referred to
+pub some_is : {b : Bool} (r : Option ℕ) → b ≡ is_some r → b ≡ test_on r (λ q. true)
+some_is (Some n) e = e
+some_is None e = e
 
 -- from a place to what may follow, by the two ways on
 pub following_split : (origin s : ℕ) (σ : Statement)
@@ -52,7 +55,7 @@ module _ (f : List ℤ) (s : ℕ) {v : View} (is : v ≡ view (statement (table_
 
   -- ---- routines that reach a START
 
-  pub reach_parts : (last c : ℕ) → last ≡ routines f → c ≡ owner_of t s → {b : Bool} {started called : Reference}
+  pub reach_parts : (last c : ℕ) → last ≡ routines f → c ≡ owner_of t s → {b : Bool} {started called : Option ℕ}
       → b ≡ test_on started (λ q. true) → started ≡ starts v → called ≡ calls v
       → (when b (edge last c ∷ []) ++ list_on called (λ (q : ℕ). edge q c ∷ [])) ≡ reach_at t s
   unfolding reach_at reach_edges one_each named
@@ -66,7 +69,7 @@ module _ (f : List ℤ) (s : ℕ) {v : View} (is : v ≡ view (statement (table_
 
   -- ---- what a statement's followers follow
 
-  module _ (reach : List ℕ) {started called : Reference} (p : started ≡ starts v) (q : called ≡ calls v) {b : Bool}
+  module _ (reach : List ℕ) {started called : Option ℕ} (p : started ≡ starts v) (q : called ≡ calls v) {b : Bool}
       (h : b ≡ (test_on started (λ q. true) || test_on called (is_marked reach))) where
     brings : b ≡ brings_start (one_each t) reach (owner_of t s) s σ
     unfolding brings_start one_each named
@@ -87,10 +90,10 @@ module _ (f : List ℤ) (s : ℕ) {v : View} (is : v ≡ view (statement (table_
 
   -- ---- the edges to them
 
-  pub following_parts : (origin : ℕ) {r : Reference} {b : Bool} → r ≡ v.target → b ≡ v.onward
+  pub following_parts : (origin : ℕ) {r : Option ℕ} {b : Bool} → r ≡ v.target → b ≡ v.onward
       → (list_on r (λ (n : ℕ). edge origin (0 + n) ∷ []) ++ when b (edge origin (s + 1) ∷ [])) ≡ following_edges origin s σ
   following_parts origin {r} {b} p q =
-      ap₂ {C = List Edge} (λ (x : Reference) (y : Bool). list_on x (λ (n : ℕ). edge origin (0 + n) ∷ []) ++ when y (edge origin (s + 1) ∷ []))
+      ap₂ {C = List Edge} (λ (x : Option ℕ) (y : Bool). list_on x (λ (n : ℕ). edge origin (0 + n) ∷ []) ++ when y (edge origin (s + 1) ∷ []))
       (p ∙ ap (λ (v : View). v.target) is) (q ∙ ap (λ (v : View). v.onward) is)
       ∙ ap {B = List Edge} (λ (l : List Edge). l ++ when (view σ).onward (edge origin (s + 1) ∷ []))
       (list_same (view σ).target _ _ (λ n. ap {B = List Edge} (λ (k : ℕ). edge origin k ∷ []) (zero-add n)))
@@ -98,14 +101,14 @@ module _ (f : List ℤ) (s : ℕ) {v : View} (is : v ≡ view (statement (table_
 
   -- ---- the edges into the routine that is named
 
-  pub entering_parts : (end last : ℕ) → end ≡ statements f → {started : Reference} → started ≡ starts v
-      → (list_on started (λ (q : ℕ). edge last (end + q) ∷ []) ++ edges_at Callers t s) ≡ entering_edges (statements f) last (owner_of t s) s σ
+  pub entering_parts : (end last : ℕ) → end ≡ statements f → last ≡ statements f + routines f → {started : Option ℕ} → started ≡ starts v
+      → (list_on started (λ (q : ℕ). edge last (end + q) ∷ []) ++ edges_at Callers t s) ≡ entering_edges (statements f) (statements f + routines f) (owner_of t s) s σ
   unfolding entering_edges edges_at call_edges named
-  entering_parts end last e p =
-      ap₂ {C = List Edge} (λ (x y : List Edge). x ++ y)
-      (ap₂ {C = List Edge} (λ (x : ℕ) (y : Reference). list_on y (λ (q : ℕ). edge last (x + q) ∷ [])) e (p ∙ ap starts is)
+  entering_parts end last e l p = rw (← l)
+      (ap₂ {C = List Edge} (λ (x y : List Edge). x ++ y)
+      (ap₂ {C = List Edge} (λ (x : ℕ) (y : Option ℕ). list_on y (λ (q : ℕ). edge last (x + q) ∷ [])) e (p ∙ ap starts is)
       ∙ sym (on_started (view σ) (λ (q : ℕ). edge last (statements f + q) ∷ []) []))
-      (ap {B = List Edge} (λ (x : ℕ). call_edges x s σ ++ call_edges x (x + owner_of t s) σ) (statements_length f))
+      (ap {B = List Edge} (λ (x : ℕ). call_edges x s σ ++ call_edges x (x + owner_of t s) σ) (statements_length f)))
 
 -- both together
 pub preceding_parts : (f : List ℤ) (reach : List ℕ) (s : ℕ) {origin last : ℕ} → origin ≡ origin_of (table_of f) reach s → last ≡ statements f + routines f

@@ -1,20 +1,19 @@
 -- A list of four places a statement has room for the edges of both equations: at most four a statement, and every number small. Assumes nothing.
 use Prim.Native.Nat.{ℕ, ◌+◌, ◌*◌, ◌≤◌, ◌<◌}
-use Rattle.std.specs.Prelude.{◌≡◌, Bool, ℤ}
+use Rattle.std.specs.Prelude.{◌≡◌, Bool, ℤ, None, take, map}
 use Rattle.std.proofs.Common.{sym, ap, ◌∙◌}
 use Rattle.std.proofs.Math.Path.{subst}
 use Rattle.std.proofs.Math.Bool.{true, false, cond}
 use mathlib.Core.List.{List, [], ◌∷◌, ◌++◌}
 use native.Mathlib.Omega.{arith}
 use Rattle.std.proofs.Math.ListN.{length}
-use Rattle.sets.specs.Least.{Edge}
-use Rattle.sets.proofs.AppendLaws.{Room, room_none, room_both, room_more, appended_same}
+use Rattle.sets.specs.Least.{Edge, edge_of}
+use Rattle.sets.proofs.AppendLaws.{Room, room_none, room_both, room_more}
 use Rattle.table.specs.Header.{statements}
 use Rattle.table.specs.Table.{Table, table_of, statement, InRoutine}
 use Rattle.table.specs.Accepted.{Accepted, Operands}
 use Rattle.table.proofs.LookupLaws.{statements_length}
 use Rattle.table.specs.View.{view, list_on, when, calls, starts}
-use Rattle.table.specs.declared.Reference.TheVariants.{Nothing}
 use Rattle.table.specs.declared.View.{View}
 use Rattle.table.specs.declared.Statement.{Statement}
 use Rattle.report.specs.Over.{joined_from}
@@ -22,7 +21,8 @@ use Rattle.report.proofs.OverLaws.{within_below}
 use Rattle.report.specs.Layout.{named, owner_of, one_each}
 use Rattle.report.specs.Preceded.{brings_start, reach_edges}
 use Rattle.edges.specs.Equations.{edge, call_edges}
-use Rattle.edges.specs.EdgeLaws.{Growing, growing_done, Ready, ready}
+use Rattle.edges.specs.declared.list.EdgeList.{EdgeList}
+use Rattle.edges.specs.Grown.{Grown, filled}
 use Rattle.edges.specs.RoomLaws.{room_edge, room_joined, room_on, room_when, named_small, owner_small, target_small}
 use Rattle.start_edges.specs.StartEdges.{reach_at, reach_for, following_edges, entering_edges, last_of, origin_of, preceding_at, preceding_for}
 use Rattle.start_edges.proofs.StartEdges.{both_on}
@@ -32,7 +32,7 @@ use Rattle.start_edges.proofs.StartLaws.{following_split}
 room_either : (m : ℕ) (v : View) (a b : ℕ → List Edge) → ((q : ℕ) → Room m (a q)) → ((q : ℕ) → Room m (b q)) → Room m (list_on (starts v) a ++ list_on (calls v) b)
 room_either m v a b p q = go v.starting
   where
-    go : (x : Bool) → Room m (list_on (cond x v.names Nothing) a ++ list_on (cond x Nothing v.names) b)
+    go : (x : Bool) → Room m (list_on (cond x v.names None) a ++ list_on (cond x None v.names) b)
     go true = room_more m (omega arith) (room_both {m = m} {n = 0} (list_on v.names a) [] (room_on v.names a (λ n e. p n)) room_none)
     go false = room_on v.names b (λ n e. q n)
 
@@ -91,19 +91,19 @@ module _ (t : Table) (acc : Accepted t) (s : ℕ) (below : s < length t.statemen
   preceding_room reach =
       room_both {m = 2} {n = 2} (following_edges (origin_of t reach s) s σ) _ (following_room (origin_of t reach s) (origin_there reach)) entering_room
 
--- so a list with that much room holds the edges of an equation, whatever stood in it before, when the loop through the statements is at its end
-module _ (f : List ℤ) (acc : Accepted (table_of f)) {end : ℕ} {edges edges' : List ℕ} {n i : ℕ} (e : end ≡ statements f) (room : 4 * statements f ≤ length edges) where
-  all_ready : (part : ℕ → List Edge) → ((s : ℕ) → s < length (table_of f).statements → Room 4 (part s)) → Growing part end edges 0 edges' n i → end ≤ i
-      → Ready edges' n (joined_from 0 (length (table_of f).statements) part)
-  all_ready part fits g l =
+-- so a list with that much room holds the edges of an equation, whatever stood in it before
+module _ (f : List ℤ) (acc : Accepted (table_of f)) {a b : EdgeList} (room : 4 * statements f ≤ length a.room.now) (e : a.used ≡ 0) where
+  all_are : (part : ℕ → List Edge) → ((s : ℕ) → s < length (table_of f).statements → Room 4 (part s)) → Grown a b (joined_from 0 (length (table_of f).statements) part)
+      → {l : List ℕ} → l ≡ take b.used b.room.now → map edge_of l ≡ joined_from 0 (length (table_of f).statements) part
+  all_are part fits g p =
       let all = room_joined 4 0 (length (table_of f).statements) part (λ s w. fits s (within_below w)) in
-      ready (appended_same _ _ (ap {B = List Edge} (λ (m : ℕ). joined_from 0 m part) (e ∙ sym (statements_length f))) (growing_done g l))
-      (room_more (length edges) (omega (arith, statements_length f)) all)
+      ap {B = List Edge} (λ (l : List ℕ). map edge_of l) p ∙ filled e g (room_more (length a.room.now) (omega (arith, statements_length f)) all)
 
-  pub reach_ready : Growing (reach_at (table_of f)) end edges 0 edges' n i → end ≤ i → Ready edges' n (reach_for (table_of f))
+  pub reach_are : Grown a b (reach_for (table_of f)) → {l : List ℕ} → l ≡ take b.used b.room.now → map edge_of l ≡ reach_for (table_of f)
   unfolding reach_for
-  reach_ready = all_ready (reach_at (table_of f)) (reach_room (table_of f) acc)
+  reach_are = all_are (reach_at (table_of f)) (reach_room (table_of f) acc)
 
-  pub preceding_ready : (reach : List ℕ) → Growing (preceding_at (table_of f) reach) end edges 0 edges' n i → end ≤ i → Ready edges' n (preceding_for (table_of f) reach)
+  pub preceding_are : (reach : List ℕ) → Grown a b (preceding_for (table_of f) reach) → {l : List ℕ} → l ≡ take b.used b.room.now
+      → map edge_of l ≡ preceding_for (table_of f) reach
   unfolding preceding_for
-  preceding_ready reach = all_ready (preceding_at (table_of f) reach) (λ s l. preceding_room (table_of f) acc s l reach)
+  preceding_are reach = all_are (preceding_at (table_of f) reach) (λ s l. preceding_room (table_of f) acc s l reach)

@@ -2,13 +2,14 @@
 // The statement lines: their rule, and that of a routine's end. `first`, `handle` and `counts` are the lists of crate declarations.
 ghost use Rattle.std.specs.Prelude.{◌≡◌, ◌&&◌, ◌<◌, ◌^◌, ◌+◌, ◌-◌, leb, ltb, get_or};
 ghost use Rattle.table.specs.Until.{until};
+ghost use Rattle.table.specs.Found.{below};
 ghost use Rattle.table.specs.Fields.{field};
 ghost use Rattle.table.specs.Header.{routines};
 ghost use Rattle.table.specs.Lists.{StatementsBegin, HandlesBegin, ParametersCounted};
 ghost use Rattle.table.specs.Statements.{own_handle, own_of_kind, argument_ok, arguments_ok, naming_ok, point_ok, operation_ok, statement_ok, end_ok};
 
-use lists::number_at;
-use table::{field_of, first_line, is_unused};
+use lists::value_at;
+use table::{field_of, first_failing, first_line, is_unused};
 
 // Whether x is a handle of routine `r`.
 fn own_handle(numbers: &[i32], r: usize, x: usize) -> bool
@@ -35,7 +36,7 @@ fn own_statement(first: &[usize], r: usize, x: usize) -> bool
     requires { r < 32 }
     ensures { result ≡ (leb (get_or first.now r 0) x && ltb x (get_or first.now (r + 1) 0)) }
 {
-    (number_at(first, r) <= x) & (x < number_at(first, r + 1))
+    (value_at(first, r, 0) <= x) & (x < value_at(first, r + 1, 0))
 }
 
 // Whether argument `k` in `line`, which is routine `r`'s and names routine `q`, is one that `q` takes.
@@ -55,8 +56,8 @@ fn argument_ok(
     ensures { result ≡ argument_ok numbers.now r q k (field numbers.now line (3 + k)) }
 {
     let x = field_of(numbers, line, 3 + k);
-    if k < number_at(counts, q) {
-        let kind = field_of(numbers, 1 + (number_at(handle, q) + k), 2);
+    if k < value_at(counts, q, 0) {
+        let kind = field_of(numbers, 1 + (value_at(handle, q, 0) + k), 2);
         return own_of_kind(numbers, r, kind, x);
     }
     x == 0
@@ -177,7 +178,7 @@ fn statement_ok(
     )
 }
 
-// The lowest statement of routine `r`, from `from` on and below `end`, that breaks refusal 9's rule; `end` if there is none.
+// The lowest statement of routine `r`, from `from` on and below `end`, that breaks refusal 9's rule.
 pub fn bad_among(
     numbers: &[i32],
     first: &[usize],
@@ -186,22 +187,17 @@ pub fn bad_among(
     r: usize,
     from: usize,
     end: usize,
-) -> usize
+) -> Option<usize>
     requires statements_begin { StatementsBegin numbers.now first.now }
     requires handles_begin { HandlesBegin numbers.now handle.now }
     requires parameters_counted { ParametersCounted numbers.now counts.now }
     requires r_bound { r < routines numbers.now }
     requires end_bound { end < 2 ^ 32 }
-    ensures { result ≡ until (statement_ok numbers.now r) from (end - from) }
+    ensures { result ≡ below (until (statement_ok numbers.now r) from (end - from)) end }
 {
-    let mut s = from;
-    while s < end {
-        if !statement_ok(numbers, first, handle, counts, r, s) {
-            return s;
-        }
-        s += 1;
-    }
-    s
+    first_failing(from, end, |s| {
+        statement_ok(numbers, first, handle, counts, r, s)
+    })
 }
 
 // The last statement of routine `r`, by the list of the first ones; 0 if there is none.
@@ -209,8 +205,7 @@ pub fn last_of(first: &[usize], r: usize) -> usize
     requires { r < 32 }
     ensures { result ≡ get_or first.now (r + 1) 0 - 1 }
 {
-    let end = number_at(first, r + 1);
-    if 0 < end { end - 1 } else { 0 }
+    value_at(first, r + 1, 0).saturating_sub(1)
 }
 
 // Refusal 10's rule at routine `r`.

@@ -6,11 +6,10 @@
 -- definitions. The engine's steps are the machine's, as the first law below says.
 -- Demand 3: `loaded_machine_safe` and `loaded_engine_safe`; the first of them is also in `loader::may_load`'s contract.
 -- C-22: the last two laws; the first of them is also in `loader::may_load`'s contract.
-use Rattle.std.specs.Prelude.{◌≡◌, true, List, ℕ, ◌≤◌, length}
+use Rattle.std.specs.Prelude.{◌≡◌, true, List, ℕ, ◌≤◌, length, Ok}
 use Rattle.std.proofs.Common.{sym, subst}
 use Rattle.table.specs.Verdict.{verdict}
 use Rattle.table.proofs.AcceptedLaws.{accepted}
-use Rattle.table.specs.declared.Verdict.TheVariants.{Accepted}
 use Rattle.machine.specs.State.{thread, start}
 use Rattle.machine.proofs.FrameLaws.{frames_suffice}
 use Rattle.machine.specs.Step.{step, run}
@@ -28,7 +27,7 @@ pub engine_is_machine : (text ns : List ℕ)
 engine_is_machine text ns = engine_runs_as_machine (table_in text) (start (table_in text)) ns
 
 -- C-16, of every accepted text, whatever its report says: after every list of thread numbers, on the machine with no limit, no thread has more than 32 frames
-pub accepted_frames_suffice : (text : List ℕ) → verdict text ≡ Accepted → (ns : List ℕ) (n : ℕ)
+pub accepted_frames_suffice : (text : List ℕ) → verdict text ≡ Ok tt → (ns : List ℕ) (n : ℕ)
     → length (thread (run (table_in text) (start (table_in text)) ns) n).frames ≤ 32
 accepted_frames_suffice text e ns n = frames_suffice (accepted text e) ns n
 

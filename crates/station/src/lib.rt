@@ -5,14 +5,25 @@ ghost use Rattle.analysis.specs.Reported.{report_answer, reported_into, loadable
 ghost use Rattle.engine.specs.Run.{outcome_of, answers_left, cells_left};
 ghost use Rattle.station.specs.Packed.{packed_answer, packed_outcome};
 
+use table::Refusal;
+
+// An answer in one number: how many bytes are written, or the number and the line of the refusal.
+fn packed(answer: Result<usize, Refusal>) -> u64
+    ensures { result ≡ packed_answer answer }
+{
+    match answer {
+        Ok(bytes) => packing::pack(0, 0, bytes),
+        Err(refusal) => packing::pack(refusal.number(), refusal.line(), 0),
+    }
+}
+
 // The report of a table text into `out`: `analysis::report`.
 #[unsafe(no_mangle)]
 pub extern "C" fn station_report_packed(text: &[u8], out: &mut [u8]) -> u64
     ensures answer { result ≡ packed_answer (report_answer text.now (length out.old)) }
     ensures buffer { out.new ≡ reported_into text.now out.old }
 {
-    let answer = analysis::report(text, out);
-    packing::pack(answer.number, answer.line, answer.bytes)
+    packed(analysis::report(text, out))
 }
 
 // A run of a table text by a schedule: `engine::run`.
@@ -28,7 +39,7 @@ pub extern "C" fn station_run_packed(
     ensures left { cells.new ≡ cells_left text.now schedule.now answers.old cells.old }
 {
     let outcome = engine::run(text, schedule, answers, cells);
-    packing::pack(outcome.number, outcome.line, 0)
+    packed(outcome.and(Ok(0)))
 }
 
 // Whether a table text may be loaded: `loader::may_load`.

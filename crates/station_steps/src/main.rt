@@ -8,21 +8,17 @@ use std::rt::{Env, Files};
 // One step: its thread and its answer.
 fn print_step(rt: &impl Print, thread: u8, answer: u8) -> io::Result<()> {
     let mut out = [0u8; 49];
-    line_printer::print_line(
+    let _ = line_printer::print_line(
         &mut out[..],
         0,
-        [55, thread as i32, answer as i32, 0, 0, 0, 0, 0],
+        [55, i32::from(thread), i32::from(answer), 0, 0, 0, 0, 0],
     );
     rt.write_all(&out[..])
 }
 
 fn print_steps(rt: &impl Print, schedule: &[u8], answers: &[u8]) -> io::Result<()> {
-    let mut i = 0;
-    while i < schedule.len() {
-        if i < answers.len() {
-            print_step(rt, schedule[i], answers[i])?;
-        }
-        i += 1;
+    for (thread, answer) in schedule.iter().zip(answers) {
+        print_step(rt, *thread, *answer)?;
     }
     Ok(())
 }
@@ -36,18 +32,10 @@ fn print_cells(rt: &impl Print, cells: &[i32]) -> io::Result<()> {
 
 // The cells of an accepted text: as many as its header says.
 fn print_cells_of(rt: &impl Print, text: &[u8], cells: &[i32]) -> io::Result<()> {
-    let header = lines::read_line(text, 0);
-    let count = table::field_of(&header.numbers[..], 0, 1);
-    if count <= cells.len() {
-        print_cells(rt, &cells[..count])?;
-    }
-    Ok(())
-}
-
-fn print_refusal(rt: &impl Print, number: u32, line: usize) -> io::Result<()> {
-    let mut out = [0u8; 49];
-    if refusal::print_refusal(&mut out[..], number, line) == 49 {
-        rt.write_all(&out[..])?;
+    let header = lines::read_line(text, 0).unwrap_or([0; 8]);
+    let count = table::field_of(&header, 0, 1);
+    if let Some(own) = cells.get(..count) {
+        print_cells(rt, own)?;
     }
     Ok(())
 }
@@ -55,12 +43,16 @@ fn print_refusal(rt: &impl Print, number: u32, line: usize) -> io::Result<()> {
 fn step_through(rt: &impl Print, text: &[u8], schedule: &[u8]) -> io::Result<()> {
     let mut answers = [0u8; 65536];
     let mut cells = [0i32; 64];
-    let outcome = engine::run(text, schedule, &mut answers[..], &mut cells[..]);
-    if outcome.number == 0 {
-        print_steps(rt, schedule, &answers[..])?;
-        print_cells_of(rt, text, &cells[..])
-    } else {
-        print_refusal(rt, outcome.number, outcome.line)
+    match engine::run(text, schedule, &mut answers[..], &mut cells[..]) {
+        Ok(()) => {
+            print_steps(rt, schedule, &answers[..])?;
+            print_cells_of(rt, text, &cells[..])
+        }
+        Err(refusal) => run_printer::say_refusal(
+            &mut io::writer(rt),
+            refusal.number(),
+            refusal.line(),
+        ),
     }
 }
 

@@ -1,6 +1,6 @@
 -- Each operation on the arrays is the engine's step. Assumes nothing.
 use Prim.Native.Nat.{ℕ, suc, ◌+◌, ◌-◌, ◌*◌, ◌<◌, ◌≤◌}
-use Rattle.std.specs.Prelude.{◌≡◌, false, cond, eqb, ℤ, ◌+ℤ◌}
+use Rattle.std.specs.Prelude.{◌≡◌, false, cond, eqb, ℤ, ◌+ℤ◌, Ok, Err}
 use Rattle.std.proofs.Math.Path.{refl, ap, ap₂, subst}
 use Rattle.std.proofs.Common.{sym, ◌∙◌}
 use mathlib.Core.List.{List, [], ◌∷◌}
@@ -24,12 +24,11 @@ use Rattle.machine.specs.Step.{moved, refused, Turn, passes, stops, saturate, is
 use Rattle.machine.specs.Engine.{frame_slots, limit, engine_step}
 use Rattle.machine.proofs.LockLaws.{OnPass, Stops}
 use Rattle.machine.proofs.FrameLaws.{CallNext, Room, Rooms, call_has_room, engine_step_bounded}
-use Rattle.operations.specs.declared.Step.TheVariants.{Ran, Refused, Nothing}
-use Rattle.operations.specs.Step.{step_of}
+use Rattle.operations.specs.declared.Stop.TheVariants.{Full}
+use Rattle.operations.specs.declared.Refusal.TheVariants.{NotStarted, Ended, Stopped}
+use Rattle.operations.specs.Step.{stop_of, step_of}
 use Rattle.operations.specs.Operation.{Placed}
-use Rattle.locks.specs.declared.LockTurn.{LockTurn}
-use Rattle.locks.specs.declared.LockTurn.TheVariants.{Pass, Stop}
-use Rattle.locks.specs.Turns.{taking_word, reading_word, giving_word}
+use Rattle.locks.specs.Turns.{LockTurn, taking_word, reading_word, giving_word}
 use Rattle.locks.specs.TurnLaws.{turn_word, InWords, take_in_words, read_in_words, give_in_words}
 use Rattle.run_state.specs.Shown.{Arrays, arrays, value_place, Low, ShowsFrame, ShowsFrames, Lengths, ShowsLocks, Shows, ShowsBounded, Entered}
 use Rattle.run_state.specs.ShownLaws.{Kept, kept_both, kept_next, kept_value, kept_entered, frame_kept, frames_kept, one_thread, added, own_apart, opened_shown}
@@ -76,14 +75,14 @@ top t a state n slot s low some e = go (thread state n).frames refl
 
 -- ---- 14 and 15
 
-pub not_started : (t : Table) (a : Arrays) (state : State) (n : ℕ) → ShowsBounded t a state → a.started ≤ n → Stepped t a state n (Nothing 14)
+pub not_started : (t : Table) (a : Arrays) (state : State) (n : ℕ) → ShowsBounded t a state → a.started ≤ n → Stepped t a state n (Err NotStarted)
 unfolding step_of engine_step step
 not_started t a state n s l =
     let none : thread state n ≡ ended = get_or-eq_default state.threads ended {n = n} (omega (arith, s.shows.started_is)) in
     let past = le-ltb n (length state.threads) (omega (arith, s.shows.started_is)) in
     record { answered = rw (none, past); shows = rw (none, past) s }
 
-pub has_ended : (t : Table) (a : Arrays) (state : State) (n : ℕ) → ShowsBounded t a state → n < a.started → get_or a.counts n 0 ≡ 0 → Stepped t a state n (Nothing 15)
+pub has_ended : (t : Table) (a : Arrays) (state : State) (n : ℕ) → ShowsBounded t a state → n < a.started → get_or a.counts n 0 ≡ 0 → Stepped t a state n (Err Ended)
 unfolding step_of engine_step step stepped
 has_ended t a state n s l c =
     let none : (thread state n).frames ≡ [] = empty (thread state n).frames (sym (s.shows.thread_is n l).count_is ∙ c) in
@@ -102,9 +101,9 @@ pub record Accumulated (old new : List ℤ) (n : ℕ) (b : ℤ) : Type 0 where
 
 -- a turn of thread n at lock k, by what it does to the lock's word: the lock has the new one, and the thread goes on; or the step is refused
 abbrev pub AtLock : Table → Arrays → State → ℕ → ℕ → ℕ → ℕ → Statement → LockTurn → Type 0
-AtLock t a state n slot next k σ (Pass word) =
-    Stepped t (arrays a.started (set a.nexts slot (next + 1)) a.values a.counts a.accumulators (set a.locks k word) a.cells) state n (Ran σ)
-AtLock t a state n slot next k σ (Stop number) = Stepped t a state n (Refused number σ)
+AtLock t a state n slot next k σ (Ok word) =
+    Stepped t (arrays a.started (set a.nexts slot (next + 1)) a.values a.counts a.accumulators (set a.locks k word) a.cells) state n (Ok σ)
+AtLock t a state n slot next k σ (Err why) = Stepped t a state n (Err (Stopped σ why))
 
 module _ (t : Table) (accepted : Accepted t) (a : Arrays) (state : State) (n slot : ℕ) (whole : ShowsBounded t a state) (low : n < a.started) (p : Top t a state n slot) where
   abbrev s : Shows t a state
@@ -127,14 +126,14 @@ module _ (t : Table) (accepted : Accepted t) (a : Arrays) (state : State) (n slo
   by_operation σ e l = rw (p.is, e, l, lt-ltb n (length state.threads) (omega (arith, s.started_is)))
 
   ran : (new : Arrays) (σ : Statement) (new_state : State) → statement t p.f.next ≡ σ → limit (length state.threads) σ ≡ 0
-      → operate t state n (thread state n).accumulator p.f p.older σ ≡ moved new_state → Shows t new new_state → Stepped t new state n (Ran σ)
+      → operate t state n (thread state n).accumulator p.f p.older σ ≡ moved new_state → Shows t new new_state → Stepped t new state n (Ok σ)
   unfolding step_of
   ran new σ new_state e l m shows =
       let w : engine_step t state n ≡ moved new_state = by_operation σ e l ∙ m in
       record { answered = rw (w, p.is, e); shows = record { shows = rw w shows; bounded = engine_step_bounded accepted state whole.bounded n } }
 
   turned_down_lem : (σ : Statement) (number : ℕ) → statement t p.f.next ≡ σ → engine_step t state n ≡ refused number → eqb number 0 ≡ false
-      → Stepped t a state n (Refused number σ)
+      → Stepped t a state n (Err (Stopped σ (stop_of number)))
   unfolding step_of
   turned_down_lem σ number e w some = record { answered = rw (w, p.is, e, some); shows = rw w whole }
 
@@ -230,7 +229,7 @@ module _ (t : Table) (accepted : Accepted t) (a : Arrays) (state : State) (n slo
         → Stepped t
         (arrays a.started (set a.nexts slot (next + 1)) a.values a.counts
         (set a.accumulators n (get_or a.cells (get_or a.values (value_place slot h.number) 0) (pos 0))) a.locks a.cells)
-        state n (Ran (Read h))
+        state n (Ok (Read h))
     unfolding operate
     read_step h e =
         rw on
@@ -243,7 +242,7 @@ module _ (t : Table) (accepted : Accepted t) (a : Arrays) (state : State) (n slo
         → Stepped t
         (arrays a.started (set a.nexts slot (next + 1)) a.values a.counts a.accumulators a.locks
         (set a.cells (get_or a.values (value_place slot h.number) 0) (get_or a.accumulators n (pos 0))))
-        state n (Ran (Write h))
+        state n (Ok (Write h))
     unfolding operate
     write_step h e =
         rw on
@@ -254,7 +253,7 @@ module _ (t : Table) (accepted : Accepted t) (a : Arrays) (state : State) (n slo
         s.locks_are))
 
     pub set_step : (number : ℤ) → statement t p.f.next ≡ Set number
-        → Stepped t (arrays a.started (set a.nexts slot (next + 1)) a.values a.counts (set a.accumulators n number) a.locks a.cells) state n (Ran (Set number))
+        → Stepped t (arrays a.started (set a.nexts slot (next + 1)) a.values a.counts (set a.accumulators n number) a.locks a.cells) state n (Ok (Set number))
     unfolding operate
     set_step number e =
         rw on
@@ -265,7 +264,7 @@ module _ (t : Table) (accepted : Accepted t) (a : Arrays) (state : State) (n slo
         → Stepped t
         (arrays a.started (set a.nexts slot (next + 1)) a.values a.counts
         (set a.accumulators n (saturate (get_or a.accumulators n (pos 0) +ℤ number))) a.locks a.cells)
-        state n (Ran (Add number))
+        state n (Ok (Add number))
     unfolding operate
     add_step number e =
         rw on
@@ -274,7 +273,7 @@ module _ (t : Table) (accepted : Accepted t) (a : Arrays) (state : State) (n slo
         (accumulated_set _ _ (ap (λ (z : ℤ). saturate (z +ℤ number)) p.accumulator_is)) refl s.cells_are s.locks_are))
 
     pub jump_step : (target : Target) → statement t p.f.next ≡ Jump target
-        → Stepped t (arrays a.started (set a.nexts slot target.statement) a.values a.counts a.accumulators a.locks a.cells) state n (Ran (Jump target))
+        → Stepped t (arrays a.started (set a.nexts slot target.statement) a.values a.counts a.accumulators a.locks a.cells) state n (Ok (Jump target))
     unfolding operate
     jump_step target e =
         ran _ (Jump target) _ e refl refl
@@ -283,7 +282,7 @@ module _ (t : Table) (accepted : Accepted t) (a : Arrays) (state : State) (n slo
     pub jump_zero_step : (target : Target) → statement t p.f.next ≡ JumpZero target
         → Stepped t
         (arrays a.started (set a.nexts slot (cond (is_zero (get_or a.accumulators n (pos 0))) target.statement (next + 1))) a.values a.counts a.accumulators a.locks a.cells)
-        state n (Ran (JumpZero target))
+        state n (Ok (JumpZero target))
     unfolding operate
     jump_zero_step target e =
         rw there
@@ -297,7 +296,7 @@ module _ (t : Table) (accepted : Accepted t) (a : Arrays) (state : State) (n slo
 
     -- RETURN: the frame is no longer counted
     pub return_step : statement t p.f.next ≡ Return
-        → Stepped t (arrays a.started a.nexts a.values (set a.counts n (get_or a.counts n 0 - 1)) a.accumulators a.locks a.cells) state n (Ran Return)
+        → Stepped t (arrays a.started a.nexts a.values (set a.counts n (get_or a.counts n 0 - 1)) a.accumulators a.locks a.cells) state n (Ok Return)
     unfolding operate
     return_step e =
         ran _ Return _ e refl refl
@@ -366,7 +365,7 @@ module _ (t : Table) (accepted : Accepted t) (a : Arrays) (state : State) (n slo
 
     pub point_step : (h g : Handle) → statement t p.f.next ≡ Point h g
         → Stepped t
-        (arrays a.started (set a.nexts slot (next + 1)) (set a.values (value_place slot h.number) (get_or a.values (value_place slot g.number) 0)) a.counts a.accumulators a.locks a.cells) state n (Ran (Point h g))
+        (arrays a.started (set a.nexts slot (next + 1)) (set a.values (value_place slot h.number) (get_or a.values (value_place slot g.number) 0)) a.counts a.accumulators a.locks a.cells) state n (Ok (Point h g))
     unfolding operate
     point_step h g e =
         rw on
@@ -459,7 +458,7 @@ module _ (t : Table) (accepted : Accepted t) (a : Arrays) (state : State) (n slo
       pub call_step : (values : List ℕ) → statement t p.f.next ≡ Call q arguments → Entered t a.values values (slot + 1) slot from end arguments
           → Stepped t
           (arrays a.started (set (set a.nexts (slot + 1) first) slot (next + 1)) values (set a.counts n (get_or a.counts n 0 + 1)) a.accumulators a.locks a.cells)
-          state n (Ran (Call q arguments))
+          state n (Ok (Call q arguments))
       unfolding operate
       call_step values e entered =
           rw (moved_on values (slot + 1) entered (λ z. omega arith))
@@ -519,7 +518,7 @@ module _ (t : Table) (accepted : Accepted t) (a : Arrays) (state : State) (n slo
 
       -- ---- START
 
-      pub start_refused : statement t p.f.next ≡ Start q arguments → 16 ≤ a.started → Stepped t a state n (Refused 18 (Start q arguments))
+      pub start_refused : statement t p.f.next ≡ Start q arguments → 16 ≤ a.started → Stepped t a state n (Err (Stopped (Start q arguments) Full))
       start_refused e w =
           turned_down_lem (Start q arguments) 18 e (limited (Start q arguments) 18 e (rw (le-leb 16 (length state.threads) (omega (arith, w, s.started_is)))) refl) refl
 
@@ -527,7 +526,7 @@ module _ (t : Table) (accepted : Accepted t) (a : Arrays) (state : State) (n slo
           → Stepped t
           (arrays (a.started + 1) (set (set a.nexts (a.started * 32) first) slot (next + 1)) values (set a.counts a.started 1)
           (set a.accumulators a.started (pos 0)) a.locks a.cells)
-          state n (Ran (Start q arguments))
+          state n (Ok (Start q arguments))
       unfolding operate
       start_step values e w entered =
           rw (moved_on values (a.started * 32) entered (λ z. omega (arith, p.slot_is, p.few)))

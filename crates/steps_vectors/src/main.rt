@@ -1,4 +1,4 @@
-// Steps called from a program: two tables of data/ are stepped in turn, each by its schedule and in lists of its own; then each is run by itself. What
+// Steps called from a program: two tables of data/ are stepped in turn, each by its schedule and in a state of its own; then each is run by itself. What
 // both ways answer and leave is printed. Last a chain of 32 routines, with the frames that its threads have open behind each step: 32 at the deepest.
 #![tactic(auto)]
 
@@ -7,14 +7,12 @@ ghost use Rattle.lines.specs.Line.{line_count};
 ghost use Rattle.table.specs.Header.{statements, statement_line};
 ghost use Rattle.table.specs.Table.{table_of};
 ghost use Rattle.table.specs.Accepted.{Accepted};
-ghost use Rattle.run_state.specs.Lists.{cells_in};
 ghost use Rattle.run_state.specs.Shown.{Standing};
 
 use run_printer::load;
-use run_state::{Sizes, places};
+use run_state::{Program, State};
 use std::io;
 use std::rt::Files;
-use table::Verdict;
 
 fn say(rt: &impl Print, text: &[u8]) -> io::Result<()> {
     rt.write_all(text)
@@ -29,8 +27,8 @@ fn say_numbers(rt: &impl Print, numbers: &[u8]) -> io::Result<()> {
 
 // The first numbers, so many; none if there are fewer.
 fn say_some(rt: &impl Print, numbers: &[u8], count: usize) -> io::Result<()> {
-    if count <= numbers.len() {
-        say_numbers(rt, &numbers[..count])?;
+    if let Some(first) = numbers.get(..count) {
+        say_numbers(rt, first)?;
     }
     Ok(())
 }
@@ -50,89 +48,50 @@ fn say_left(rt: &impl Print, cells: &[i32]) -> io::Result<()> {
     say(rt, &out[start..])
 }
 
-// The cells of a run, by a list that just fits them.
-fn show_left(rt: &impl Print, registers: &[i32; 80], cells: &mut [i32]) -> io::Result<()>
-    requires { (length (cells_in (length cells.old) registers.now) ≡ length cells.old) × (length cells.old ≤ 64) }
+// The cells of a run.
+fn show_left(rt: &impl Print, program: &Program<'_>, state: &State) -> io::Result<()>
+    requires { program.now.sizes.cells ≤ 64 }
 {
-    run_state::leave(registers, cells);
-    say_left(rt, cells)
+    let mut cells = [0i32; 64];
+    let own = &mut cells[..program.sizes.cells];
+    state.leave(own);
+    say_left(rt, own)
 }
 
-// Step `i` of a schedule in the lists of a run, by the byte that answers it; 0 past the schedule's end.
-fn step_at(
-    numbers: &[i32],
-    first: &[usize; 33],
-    handle: &[usize; 33],
-    sizes: Sizes,
-    schedule: &[u8],
-    i: usize,
-    words: &mut [u32; 545],
-    values: &mut [u8; 4096],
-    registers: &mut [i32; 80],
-) -> u8
-    requires { Standing numbers.now first.now handle.now sizes words.old values.old registers.old }
-    ensures { Standing numbers.now first.now handle.now sizes words.new values.new registers.new }
+// Step `i` of a schedule, by the byte that answers it; 0 past the schedule's end.
+fn step_at(program: &Program<'_>, schedule: &[u8], i: usize, state: &mut State) -> u8
+    requires { Standing program.now state.old }
+    ensures { Standing program.now state.new }
 {
-    if schedule.len() <= i {
-        return 0;
+    match schedule.get(i) {
+        Some(n) => {
+            let answer = steps::step(program, lists::wide_byte(*n), state);
+            steps::answer_byte(answer)
+        }
+        None => 0,
     }
-    let n = lists::wide_byte(schedule[i]);
-    let answer = steps::step(numbers, first, handle, sizes, n, words, values, registers);
-    steps::answer_byte(answer)
 }
 
 // Two accepted tables in turn: a step of the one by its schedule, a step of the other by its own.
 fn take_turns(rt: &impl Print, a: &[i32], b: &[i32], one: &[u8], other: &[u8]) -> io::Result<()>
     requires { Accepted (table_of a.now) × (length a.now ≡ 8 * statement_line a.now (statements a.now)) × Accepted (table_of b.now) × (length b.now ≡ 8 * statement_line b.now (statements b.now)) }
 {
-    let first_a = declarations::first_statements(a);
-    let handle_a = declarations::first_handles(a);
-    let sizes_a = run_state::sizes_of(a);
-    let mut words_a = [0u32; 545];
-    let mut values_a = [0u8; 4096];
-    let mut registers_a = [0i32; 80];
-    run_state::begin(a, &handle_a, &mut words_a, &mut values_a, &mut registers_a);
-    let first_b = declarations::first_statements(b);
-    let handle_b = declarations::first_handles(b);
-    let sizes_b = run_state::sizes_of(b);
-    let mut words_b = [0u32; 545];
-    let mut values_b = [0u8; 4096];
-    let mut registers_b = [0i32; 80];
-    run_state::begin(b, &handle_b, &mut words_b, &mut values_b, &mut registers_b);
+    let program_a = engine::program_of(a);
+    let mut state_a = State::new();
+    run_state::begin(&program_a, &mut state_a);
+    let program_b = engine::program_of(b);
+    let mut state_b = State::new();
+    run_state::begin(&program_b, &mut state_b);
     let mut answers_a = [0u8; 300];
     let mut answers_b = [0u8; 300];
-    let mut i = 0;
-    while i < 300 {
-        answers_a[i] = step_at(
-            a,
-            &first_a,
-            &handle_a,
-            sizes_a,
-            one,
-            i,
-            &mut words_a,
-            &mut values_a,
-            &mut registers_a,
-        );
-        answers_b[i] = step_at(
-            b,
-            &first_b,
-            &handle_b,
-            sizes_b,
-            other,
-            i,
-            &mut words_b,
-            &mut values_b,
-            &mut registers_b,
-        );
-        i += 1;
+    for i in 0..300 {
+        answers_a[i] = step_at(&program_a, one, i, &mut state_a);
+        answers_b[i] = step_at(&program_b, other, i, &mut state_b);
     }
     say_first(rt, &answers_a, one.len())?;
-    let mut cells_a = [0i32; 64];
-    show_left(rt, &registers_a, &mut cells_a[..sizes_a.cells])?;
+    show_left(rt, &program_a, &state_a)?;
     say_first(rt, &answers_b, other.len())?;
-    let mut cells_b = [0i32; 64];
-    show_left(rt, &registers_b, &mut cells_b[..sizes_b.cells])
+    show_left(rt, &program_b, &state_b)
 }
 
 // Two texts in turn, with lists that have room for their numbers; nothing where one is refused.
@@ -147,12 +106,9 @@ fn in_turn(
 ) -> io::Result<()>
     requires { (length a.old ≡ 8 * line_count text.now) × (length b.old ≡ 8 * line_count second.now) }
 {
-    match reader::read_into(text, a) {
-        Verdict::Refused { number: _, line: _ } => Ok(()),
-        Verdict::Accepted => match reader::read_into(second, b) {
-            Verdict::Refused { number: _, line: _ } => Ok(()),
-            Verdict::Accepted => take_turns(rt, a, b, one, other),
-        },
+    match reader::read_into(text, a).and(reader::read_into(second, b)) {
+        Ok(()) => take_turns(rt, a, b, one, other),
+        Err(_) => Ok(()),
     }
 }
 
@@ -191,12 +147,12 @@ fn show_turns(
 fn show_alone(rt: &impl Print, text: &[u8], schedule: &[u8]) -> io::Result<()> {
     let mut answers = [0u8; 300];
     let mut cells = [0i32; 64];
-    engine::run(text, schedule, &mut answers, &mut cells);
+    let _ = engine::run(text, schedule, &mut answers, &mut cells);
     say_first(rt, &answers, schedule.len())?;
-    let header = lines::read_line(text, 0);
-    let count = table::field_of(&header.numbers[..], 0, 1);
-    if count <= 64 {
-        say_left(rt, &cells[..count])?;
+    let header = lines::read_line(text, 0).unwrap_or([0; 8]);
+    let count = table::field_of(&header, 0, 1);
+    if let Some(own) = cells.get(..count) {
+        say_left(rt, own)?;
     }
     Ok(())
 }
@@ -237,47 +193,30 @@ fn say_frames(
 }
 
 // How many frames thread `n` has open.
-fn frames_of(words: &[u32; 545], n: usize) -> u8
+fn frames_of(state: &State, n: usize) -> u8
     requires { n < 16 }
 {
-    (places::count_of(words, n) % 256) as u8
+    (state.counts[n] & 255) as u8
 }
 
 // An accepted table by a schedule: the frames that threads 0 and 1 have open behind each step, the answers, and the cells.
 fn count_frames(rt: &impl Print, numbers: &[i32], schedule: &[u8]) -> io::Result<()>
     requires { Accepted (table_of numbers.now) × (length numbers.now ≡ 8 * statement_line numbers.now (statements numbers.now)) }
 {
-    let first = declarations::first_statements(numbers);
-    let handle = declarations::first_handles(numbers);
-    let sizes = run_state::sizes_of(numbers);
-    let mut words = [0u32; 545];
-    let mut values = [0u8; 4096];
-    let mut registers = [0i32; 80];
-    run_state::begin(numbers, &handle, &mut words, &mut values, &mut registers);
+    let program = engine::program_of(numbers);
+    let mut state = State::new();
+    run_state::begin(&program, &mut state);
     let mut frames = [0u8; 300];
     let mut others = [0u8; 300];
     let mut answers = [0u8; 300];
-    let mut i = 0;
-    while i < 300 {
-        answers[i] = step_at(
-            numbers,
-            &first,
-            &handle,
-            sizes,
-            schedule,
-            i,
-            &mut words,
-            &mut values,
-            &mut registers,
-        );
-        frames[i] = frames_of(&words, 0);
-        others[i] = frames_of(&words, 1);
-        i += 1;
+    for i in 0..300 {
+        answers[i] = step_at(&program, schedule, i, &mut state);
+        frames[i] = frames_of(&state, 0);
+        others[i] = frames_of(&state, 1);
     }
     say_frames(rt, &frames, &others, schedule.len())?;
     say_first(rt, &answers, schedule.len())?;
-    let mut cells = [0i32; 64];
-    show_left(rt, &registers, &mut cells[..sizes.cells])
+    show_left(rt, &program, &state)
 }
 
 // A text, with a list that has room for its numbers; nothing where it is refused.
@@ -285,8 +224,8 @@ fn count_in(rt: &impl Print, text: &[u8], numbers: &mut [i32], schedule: &[u8]) 
     requires { length numbers.old ≡ 8 * line_count text.now }
 {
     match reader::read_into(text, numbers) {
-        Verdict::Refused { number: _, line: _ } => Ok(()),
-        Verdict::Accepted => count_frames(rt, numbers, schedule),
+        Ok(()) => count_frames(rt, numbers, schedule),
+        Err(_) => Ok(()),
     }
 }
 

@@ -1,5 +1,5 @@
 -- The table of an accepted text has all that `Accepted` says. Assumes nothing.
-use Rattle.std.specs.Prelude.{◌≡◌, List, ◌⊎◌, ℕ, ◌+◌, ◌≤◌, ◌<◌, length, ℤ}
+use Rattle.std.specs.Prelude.{◌≡◌, List, ◌⊎◌, ℕ, ◌+◌, ◌≤◌, ◌<◌, length, ℤ, Ok}
 use Rattle.std.proofs.Common.{sym, ◌∙◌, subst, inl, inr, arith, eq-eqb, ne_eqb}
 use Rattle.std.proofs.Math.Decide.{dec_lt, ℕ_discrete}
 use Rattle.lines.specs.Line.{numbers_of}
@@ -16,7 +16,6 @@ use Rattle.table.proofs.NamingLaws.{Naming, named_by_lem, rank_of, naming_falls,
 use Rattle.table.specs.Table.{table_of, declaration, routine, statement, InRoutine}
 use Rattle.table.specs.Accepted.{Accepted, HandleFacts, RoutineFacts, Operands, GoesOn, Names}
 use Rattle.table.specs.declared.Statement.{Statement}
-use Rattle.table.specs.declared.Verdict as Declared
 use Rattle.table.specs.Verdict.{verdict}
 
 -- how many things there are, by the kind
@@ -185,7 +184,7 @@ module _ (f : List ℤ) (p : Passed f) where
       }
 
 -- what "accepted" gives
-pub accepted : (text : List ℕ) → verdict text ≡ Declared.Verdict.Accepted → Accepted (table_of (numbers_of text))
+pub accepted : (text : List ℕ) → verdict text ≡ Ok tt → Accepted (table_of (numbers_of text))
 accepted text e = passed_accepted (numbers_of text) (text_passed text e)
 
 -- how many handles and routines the numbers of such a table have

@@ -1,5 +1,5 @@
 -- What the verdict "accepted" says of each check: it fails nowhere. Assumes nothing.
-use Rattle.std.specs.Prelude.{◌≡◌, refl, List, Bool, true, false, cond, ◌&&◌, ℕ, ◌+◌, ◌-◌, ◌*◌, ◌/◌, ◌%◌, ◌≤◌, ◌<◌, ltb, leb, eqb, length, ℤ}
+use Rattle.std.specs.Prelude.{◌≡◌, refl, List, Bool, true, false, cond, ◌&&◌, ℕ, ◌+◌, ◌-◌, ◌*◌, ◌/◌, ◌%◌, ◌≤◌, ◌<◌, ltb, leb, eqb, length, ℤ, Ok, Err}
 use Rattle.std.proofs.Common.{◌∙◌, zero-le, arith, ltb-false, leb-true, eqb-true}
 use Rattle.std.proofs.Math.Option.{Option, none, some}
 use Rattle.lines.specs.Line.{first_bad, numbers_of}
@@ -14,9 +14,8 @@ use Rattle.table.specs.Handles.{handle_ok}
 use Rattle.table.specs.Routines.{routine_ok, sum_ok, first_statement}
 use Rattle.table.specs.Statements.{bad_statement, end_ok}
 use Rattle.table.specs.Naming.{names_in, is_named, is_acyclic}
-use Rattle.table.specs.Verdict.{verdict, numbers_verdict, declaration_verdict, statement_verdict, naming_verdict, text_ok, unless_bad}
-use Rattle.table.specs.declared.Verdict.{Verdict}
-use Rattle.table.specs.declared.Verdict.TheVariants.{Accepted, Refused}
+use Rattle.table.specs.declared.Refusal.{Refusal}
+use Rattle.table.specs.Verdict.{Verdict, verdict, numbers_verdict, declaration_verdict, statement_verdict, naming_verdict, text_ok, unless_bad}
 
 -- ---- the places that `until` passes are good, and the one it stops at is not
 
@@ -42,13 +41,13 @@ until_all good from n end e i a b = let past = ltb-false (until good from n) end
 
 -- ---- a verdict by a test
 
-passes : (b : Bool) (v : Verdict) (x y : ℕ) → cond b v (Refused x y) ≡ Accepted → (b ≡ true) × (v ≡ Accepted)
-passes true v x y e = (refl, e)
-passes false v x y e = let z : ◌≡◌ {A = ℕ} 0 1 = cc in absurd (omega arith)
+passes : (b : Bool) (v : Verdict) (r : Refusal) → cond b v (Err r) ≡ Ok tt → (b ≡ true) × (v ≡ Ok tt)
+passes true v r e = (refl, e)
+passes false v r e = let z : ◌≡◌ {A = ℕ} 0 1 = cc in absurd (omega arith)
 
-spared : (b : Bool) (v : Verdict) (x y : ℕ) → cond b (Refused x y) v ≡ Accepted → (b ≡ false) × (v ≡ Accepted)
-spared true v x y e = let z : ◌≡◌ {A = ℕ} 0 1 = cc in absurd (omega arith)
-spared false v x y e = (refl, e)
+spared : (b : Bool) (v : Verdict) (r : Refusal) → cond b (Err r) v ≡ Ok tt → (b ≡ false) × (v ≡ Ok tt)
+spared true v r e = let z : ◌≡◌ {A = ℕ} 0 1 = cc in absurd (omega arith)
+spared false v r e = (refl, e)
 
 -- ---- the checks
 
@@ -67,11 +66,11 @@ record NamingPassed (f : List ℤ) (names : List ℕ) : Type 0 where
   named_ok : (r : ℕ) → 1 ≤ r → r < routines f → is_named names r ≡ true
   acyclic_ok : (r : ℕ) → r < routines f → is_acyclic names r ≡ true
 
-naming_passed : (f : List ℤ) (names : List ℕ) → naming_verdict f names ≡ Accepted → NamingPassed f names
+naming_passed : (f : List ℤ) (names : List ℕ) → naming_verdict f names ≡ Ok tt → NamingPassed f names
 unfolding naming_verdict
 naming_passed f names e =
-    let p = spared (ltb (until (is_named names) 1 (routines f - 1)) (routines f)) _ _ _ e in
-    let q = spared (ltb (until (is_acyclic names) 0 (routines f)) (routines f)) Accepted _ _ p.1 in
+    let p = spared (ltb (until (is_named names) 1 (routines f - 1)) (routines f)) _ _ e in
+    let q = spared (ltb (until (is_acyclic names) 0 (routines f)) (routines f)) (Ok tt) _ p.1 in
     record {
       named_ok = until_all (is_named names) 1 (routines f - 1) (routines f) p.0;
       acyclic_ok = λ r h. until_all (is_acyclic names) 0 (routines f) (routines f) q.0 r zero-le h;
@@ -83,11 +82,11 @@ record StatementsPassed (f : List ℤ) : Type 0 where
   end_ok_lem : (r : ℕ) → r < routines f → end_ok f r ≡ true
   naming : NamingPassed f (names_in f)
 
-statements_passed : (f : List ℤ) → statement_verdict f ≡ Accepted → StatementsPassed f
+statements_passed : (f : List ℤ) → statement_verdict f ≡ Ok tt → StatementsPassed f
 unfolding statement_verdict
 statements_passed f e =
-    let p = spared (ltb (bad_statement f 0 (routines f)) (statements f)) _ _ _ e in
-    let q = spared (ltb (until (end_ok f) 0 (routines f)) (routines f)) _ _ _ p.1 in
+    let p = spared (ltb (bad_statement f 0 (routines f)) (statements f)) _ _ e in
+    let q = spared (ltb (until (end_ok f) 0 (routines f)) (routines f)) _ _ p.1 in
     record {
       no_bad = ltb-false (bad_statement f 0 (routines f)) (statements f) p.0;
       end_ok_lem = λ r h. until_all (end_ok f) 0 (routines f) (routines f) q.0 r zero-le h;
@@ -95,12 +94,12 @@ statements_passed f e =
     }
 
 -- 6 to 12, with a header that passes
-declarations_passed : (f : List ℤ) → Sized f → declaration_verdict f ≡ Accepted → Passed f
+declarations_passed : (f : List ℤ) → Sized f → declaration_verdict f ≡ Ok tt → Passed f
 unfolding declaration_verdict sum_ok
 declarations_passed f z e =
-    let p = spared (ltb (until (handle_ok f) 0 (handles f)) (handles f)) _ _ _ e in
-    let q = spared (ltb (until (routine_ok f) 0 (routines f)) (routines f)) _ _ _ p.1 in
-    let r = passes (sum_ok f) (statement_verdict f) _ _ q.1 in
+    let p = spared (ltb (until (handle_ok f) 0 (handles f)) (handles f)) _ _ e in
+    let q = spared (ltb (until (routine_ok f) 0 (routines f)) (routines f)) _ _ p.1 in
+    let r = passes (sum_ok f) (statement_verdict f) _ q.1 in
     let s = statements_passed f r.1 in
     record {
       sized = z;
@@ -114,37 +113,37 @@ declarations_passed f z e =
     }
 
 -- numbers that are accepted, with any count of lines, pass the checks 3 and 6 to 12
-pub numbers_passed : (f : List ℤ) (lines : ℕ) → numbers_verdict f lines ≡ Accepted → Passed f
+pub numbers_passed : (f : List ℤ) (lines : ℕ) → numbers_verdict f lines ≡ Ok tt → Passed f
 unfolding numbers_verdict
 numbers_passed f lines e =
-    let p = passes (header_ok f) _ _ _ e in
-    let q = passes (length_ok f lines) _ _ _ p.1 in
-    let r = spared (ltb (until (leading_ok f) 1 (lines - 1)) lines) (declaration_verdict f) _ _ q.1 in
+    let p = passes (header_ok f) _ _ e in
+    let q = passes (length_ok f lines) _ _ p.1 in
+    let r = spared (ltb (until (leading_ok f) 1 (lines - 1)) lines) (declaration_verdict f) _ q.1 in
     declarations_passed f (header_sized f p.0) r.1
 
 -- an accepted text's numbers pass them
-pub text_passed : (text : List ℕ) → verdict text ≡ Accepted → Passed (numbers_of text)
+pub text_passed : (text : List ℕ) → verdict text ≡ Ok tt → Passed (numbers_of text)
 unfolding verdict
-text_passed text e = go (first_bad text) (passes (text_ok (length text)) _ _ _ e).1
+text_passed text e = go (first_bad text) (passes (text_ok (length text)) _ _ e).1
   where
-    go : (b : Option ℕ) → unless_bad b (numbers_verdict (numbers_of text) (length text / 49)) ≡ Accepted → Passed (numbers_of text)
+    go : (b : Option ℕ) → unless_bad b (numbers_verdict (numbers_of text) (length text / 49)) ≡ Ok tt → Passed (numbers_of text)
     go none h = numbers_passed (numbers_of text) (length text / 49) h
     go (some i) h = let z : ◌≡◌ {A = ℕ} 0 1 = cc in absurd (omega arith)
 
 -- an accepted text has as many lines as its header says
-lines_are : (f : List ℤ) (lines : ℕ) → numbers_verdict f lines ≡ Accepted → lines ≡ statement_line f (statements f)
+lines_are : (f : List ℤ) (lines : ℕ) → numbers_verdict f lines ≡ Ok tt → lines ≡ statement_line f (statements f)
 unfolding numbers_verdict length_ok
-lines_are f lines e = eqb-true _ _ (passes (length_ok f lines) _ _ _ (passes (header_ok f) _ _ _ e).1).0
+lines_are f lines e = eqb-true _ _ (passes (length_ok f lines) _ _ (passes (header_ok f) _ _ e).1).0
 
 text_short : (n : ℕ) → text_ok n ≡ true → n ≤ 32977
 unfolding text_ok
 text_short n e = leb-true n 32977 (both (ltb 0 n && eqb (n % 49) 0) (leb n 32977) e).1
 
-pub text_long : (text : List ℕ) → verdict text ≡ Accepted → length (numbers_of text) ≡ 8 * statement_line (numbers_of text) (statements (numbers_of text))
+pub text_long : (text : List ℕ) → verdict text ≡ Ok tt → length (numbers_of text) ≡ 8 * statement_line (numbers_of text) (statements (numbers_of text))
 unfolding verdict
-text_long text e = let p = passes (text_ok (length text)) _ _ _ e in go (first_bad text) (text_short (length text) p.0) p.1
+text_long text e = let p = passes (text_ok (length text)) _ _ e in go (first_bad text) (text_short (length text) p.0) p.1
   where
-    go : (b : Option ℕ) → length text ≤ 32977 → unless_bad b (numbers_verdict (numbers_of text) (length text / 49)) ≡ Accepted
+    go : (b : Option ℕ) → length text ≤ 32977 → unless_bad b (numbers_verdict (numbers_of text) (length text / 49)) ≡ Ok tt
         → length (numbers_of text) ≡ 8 * statement_line (numbers_of text) (statements (numbers_of text))
     go none l h = numbers_sized text ∙ omega (arith, lines_are (numbers_of text) (length text / 49) h)
     go (some i) l h = let z : ◌≡◌ {A = ℕ} 0 1 = cc in absurd (omega arith)

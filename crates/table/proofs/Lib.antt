@@ -3,6 +3,7 @@ pub mod TabulateLaws
 pub mod CutLaws
 pub mod FrontLaws
 pub mod UntilLaws
+pub mod FoundLaws
 pub mod HeaderLaws
 pub mod ExtentLaws
 pub mod VerdictLaws

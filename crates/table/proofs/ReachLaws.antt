@@ -1,6 +1,6 @@
 -- What the walk down the named routines reaches: a set that is closed under naming, and the least such. So where no routine reaches itself, the number of
 -- routines reached falls along naming, and is below the number of routines. Assumes nothing.
-use Rattle.std.specs.Prelude.{◌≡◌, List, Bool, true, false, not, ◌||◌, eqb, ltb, get_or}
+use Rattle.std.specs.Prelude.{Option, Some, None, ◌≡◌, List, Bool, true, false, not, ◌||◌, eqb, ltb, get_or}
 use Rattle.std.proofs.Math.Path.{refl}
 use Rattle.std.proofs.Common.{sym, ◌∙◌, subst}
 use Prim.Native.Nat.{ℕ, zero, suc, ◌+◌, ◌^◌, ◌≤◌, ◌<◌}
@@ -8,8 +8,6 @@ use native.Mathlib.Omega.{arith}
 use borrow.Author.Tests.{ltb-true, ltb-false, lt-ltb, le-ltb, eqb-true, not-true}
 use Rattle.sets.specs.Set.{has, firsts, union, minus, with, lowest, count}
 use Rattle.sets.proofs.SetLaws.{has_union_left, has_union_right, union_cases, has_minus, has_with, has_empty, has_beyond, has_firsts, below_of_has, union_below, minus_below, count_with, count_below, count_inside_less, lowest_is, lowest_nothing}
-use Rattle.sets.specs.declared.Which.{Which}
-use Rattle.sets.specs.declared.Which.TheVariants.{Element, Nothing}
 use Rattle.table.specs.Naming.{walk, reached, is_acyclic, on_which}
 use Rattle.table.proofs.HeaderLaws.{both}
 
@@ -132,9 +130,9 @@ module _ (names : List ℕ) (small : (i : ℕ) → get_or names i 0 < 2 ^ 32) wh
       next : ℕ → ℕ
       next i = walk names (after worklist seen i) (with seen i) left
 
-      go : (o : Which) → lowest worklist ≡ o → ((a b : ℕ) → Walking a b → 32 ≤ count b + left → Covers a b (walk names a b left)) → Covers worklist seen (on_which o seen next)
-      go Nothing e ih = done worklist seen w (λ i h. in_empty i (subst (λ (x : ℕ). In x i) (lowest_nothing worklist e) h))
-      go (Element i) e ih =
+      go : (o : Option ℕ) → lowest worklist ≡ o → ((a b : ℕ) → Walking a b → 32 ≤ count b + left → Covers a b (walk names a b left)) → Covers worklist seen (on_which o seen next)
+      go None e ih = done worklist seen w (λ i h. in_empty i (subst (λ (x : ℕ). In x i) (lowest_nothing worklist e) h))
+      go (Some i) e ih =
           let small_worklist : worklist < 2 ^ 32 = w.worklist_small in
           let h : In worklist i = (lowest_is worklist i (omega arith) e).0 in
           let l : i < 32 = in_below worklist i small_worklist h in
@@ -153,10 +151,10 @@ module _ (names : List ℕ) (small : (i : ℕ) → get_or names i 0 < 2 ^ 32) wh
       next : ℕ → ℕ
       next i = walk names (after worklist seen i) (with seen i) left
 
-      go : (o : Which) → lowest worklist ≡ o → ((a b : ℕ) → a < 2 ^ 32 → Inside a all → Inside b all → Inside (walk names a b left) all)
+      go : (o : Option ℕ) → lowest worklist ≡ o → ((a b : ℕ) → a < 2 ^ 32 → Inside a all → Inside b all → Inside (walk names a b left) all)
           → Inside (on_which o seen next) all
-      go Nothing e ih = s
-      go (Element i) e ih =
+      go None e ih = s
+      go (Some i) e ih =
           let h : In worklist i = (lowest_is worklist i (omega arith) e).0 in
           let l : i < 32 = in_below worklist i b h in
           ih (after worklist seen i) (with seen i) (minus_below 32 (with seen i) (union_below 32 b (small i)))

@@ -1,5 +1,5 @@
 -- A statement that keeps its rule, by its operation: its operands, what it names, and where it goes on. Assumes nothing.
-use Rattle.std.specs.Prelude.{◌≡◌, List, Bool, true, false, cond, not, ◌&&◌, ◌||◌, ◌⊎◌, leb, ltb, get_or, ℤ}
+use Rattle.std.specs.Prelude.{◌≡◌, List, Bool, true, false, cond, not, ◌&&◌, ◌||◌, ◌⊎◌, leb, ltb, get_or, ℤ, Option, Some}
 use Rattle.std.proofs.Math.Path.{refl}
 use Rattle.std.proofs.Common.{sym, ap, ◌∙◌, subst, inl, inr, ⊎_elim, arith, ltb-true, lt-ltb, leb-true, eqb-true, eq-eqb, ne_eqb}
 use Prim.Native.Nat.{ℕ, zero, suc, ◌+◌, ◌≤◌, ◌<◌}
@@ -22,8 +22,6 @@ use Rattle.table.specs.View.{no_arguments, view}
 use Rattle.table.specs.ViewLaws.{first_if}
 use Rattle.table.proofs.ViewLaws.{to_if, set_has, set_from, keeps_frame, view_in, view_in_lem}
 use Rattle.table.specs.Accepted.{OwnOfKind, Passes, Operands, GoesOn, Names}
-use Rattle.table.specs.declared.Reference.{Reference}
-use Rattle.table.specs.declared.Reference.TheVariants.{To}
 use Rattle.table.specs.declared.View.{View}
 
 -- ---- by the operation
@@ -72,8 +70,8 @@ unfolding statement_of
 said f s = view_in_lem f (statement_line f s) (operation f s)
 
 -- an attribute that refers to something refers to the first operand, and the operation is one that has it
-refers : (f : List ℤ) (s : ℕ) (attribute : View → Reference) (b : Bool) → attribute (view_in f (statement_line f s) (operation f s)) ≡ first_if f (statement_line f s) b
-    → {n : ℕ} → attribute (view (statement_of f s)) ≡ To n → (b ≡ true) × (operand f s 0 ≡ n)
+refers : (f : List ℤ) (s : ℕ) (attribute : View → Option ℕ) (b : Bool) → attribute (view_in f (statement_line f s) (operation f s)) ≡ first_if f (statement_line f s) b
+    → {n : ℕ} → attribute (view (statement_of f s)) ≡ Some n → (b ≡ true) × (operand f s 0 ≡ n)
 refers f s attribute b is e = to_if b (operand f s 0) (sym is ∙ sym (ap attribute (said f s)) ∙ e)
 
 either_of : (a b : Bool) → (a || b) ≡ true → (a ≡ true) ⊎ (b ≡ true)

@@ -1,5 +1,5 @@
 -- Laws of the connectives over a reference, and each attribute of a statement by the number of its operation. Assumes nothing.
-use Rattle.std.specs.Prelude.{◌≡◌, refl, Bool, true, false, cond, not, ◌&&◌, ◌||◌, ◌⊎◌, ℕ, zero, suc, ◌^◌, ◌<◌, eqb, ltb, ℤ}
+use Rattle.std.specs.Prelude.{◌≡◌, refl, Bool, true, false, cond, not, ◌&&◌, ◌||◌, ◌⊎◌, ℕ, zero, suc, ◌^◌, ◌<◌, eqb, ltb, ℤ, Option, Some, None}
 use Rattle.std.proofs.Common.{sym, ◌∙◌, ap, inl, inr, arith, ne_eqb, lt-ltb, le-ltb, eqb-true}
 use mathlib.Core.List.{List, map, Memᴰ}
 use Rattle.sets.specs.Set.{has}
@@ -8,8 +8,6 @@ use Rattle.table.specs.Fields.{field}
 use Rattle.table.specs.Table.{statement_in}
 use Rattle.table.specs.View.{view, On, on_or, set_on, list_on, test_on, when, calls, starts, takes_in, takes_to_read, taking, in_mode, idle, through, pointing, naming, going}
 use Rattle.table.specs.declared.Arguments.{Arguments}
-use Rattle.table.specs.declared.Reference.{Reference}
-use Rattle.table.specs.declared.Reference.TheVariants.{To, Nothing}
 use Rattle.table.specs.declared.View.{View}
 use Rattle.table.specs.declared.Statement.{Statement}
 use Rattle.table.specs.declared.Statement.TheVariants.{Read, Write, Set, Add, Take, Give, Point, Call, Start, Jump, JumpZero, Return, TakeRead}
@@ -17,98 +15,98 @@ use Rattle.table.specs.ViewLaws.{arguments_if, first_if, second_if}
 
 -- ---- references
 
-pub nothing_to {ℓ} : {C : Type ℓ} {n : ℕ} → Nothing ≡ To n → C
+pub nothing_to {ℓ} : {C : Type ℓ} {n : ℕ} → None ≡ Some n → C
 nothing_to e = let z : ◌≡◌ {A = ℕ} 0 1 = cc in absurd (omega arith)
 
 never {ℓ} : {C : Type ℓ} → false ≡ true → C
 never e = let z : ◌≡◌ {A = ℕ} 0 1 = cc in absurd (omega arith)
 
-to_same : {m n : ℕ} → To m ≡ To n → m ≡ n
+to_same : {m n : ℕ} → Some m ≡ Some n → m ≡ n
 to_same e = cc
 
 -- a reference refers to one thing
-pub one_reference : (r : Reference) {m n : ℕ} → r ≡ To m → r ≡ To n → m ≡ n
+pub one_reference : (r : Option ℕ) {m n : ℕ} → r ≡ Some m → r ≡ Some n → m ≡ n
 one_reference r p q = to_same (sym p ∙ q)
 
 -- a reference by a test
-pub to_if : (b : Bool) (x : ℕ) {n : ℕ} → cond b (To x) Nothing ≡ To n → (b ≡ true) × (x ≡ n)
+pub to_if : (b : Bool) (x : ℕ) {n : ℕ} → cond b (Some x) None ≡ Some n → (b ≡ true) × (x ≡ n)
 to_if true x e = (refl, to_same e)
 to_if false x e = nothing_to e
 
 -- what is CALLed or STARTed is named
 module _ (v : View) {q : ℕ} where
-  pub calls_names : calls v ≡ To q → v.names ≡ To q
+  pub calls_names : calls v ≡ Some q → v.names ≡ Some q
   calls_names = go v.starting
     where
-      go : (b : Bool) → cond b Nothing v.names ≡ To q → v.names ≡ To q
+      go : (b : Bool) → cond b None v.names ≡ Some q → v.names ≡ Some q
       go true e = nothing_to e
       go false e = e
 
-  pub starts_names : starts v ≡ To q → v.names ≡ To q
+  pub starts_names : starts v ≡ Some q → v.names ≡ Some q
   starts_names = go v.starting
     where
-      go : (b : Bool) → cond b v.names Nothing ≡ To q → v.names ≡ To q
+      go : (b : Bool) → cond b v.names None ≡ Some q → v.names ≡ Some q
       go true e = e
       go false e = nothing_to e
 
 -- what is taken in one way is taken
-pub taken_takes : (mode : Bool) (v : View) {h : ℕ} → takes_in mode v ≡ To h → v.takes ≡ To h
+pub taken_takes : (mode : Bool) (v : View) {h : ℕ} → takes_in mode v ≡ Some h → v.takes ≡ Some h
 taken_takes true v = go v.writing
   where
-    go : (b : Bool) {h : ℕ} → cond b v.takes Nothing ≡ To h → v.takes ≡ To h
+    go : (b : Bool) {h : ℕ} → cond b v.takes None ≡ Some h → v.takes ≡ Some h
     go true e = e
     go false e = nothing_to e
 taken_takes false v = λ e. e
 
 -- what holds of all that f says, and of d, holds of what is said of a reference
-pub on_or_lem : {A : Type 0} (P : A → Type 0) (r : Reference) (f : ℕ → A) (d : A) → ((n : ℕ) → r ≡ To n → P (f n)) → P d → P (on_or r f d)
-on_or_lem P (To n) f d h e = h n refl
-on_or_lem P Nothing f d h e = e
+pub on_or_lem : {A : Type 0} (P : A → Type 0) (r : Option ℕ) (f : ℕ → A) (d : A) → ((n : ℕ) → r ≡ Some n → P (f n)) → P d → P (on_or r f d)
+on_or_lem P (Some n) f d h e = h n refl
+on_or_lem P None f d h e = e
 
 -- what is said of the number that is referred to
-pub on_number : {A : Type 0} (r : Reference) (g : ℕ → A) (d : A) → on_or r (λ q. g (set_on r (λ n. n))) d ≡ on_or r g d
-on_number (To n) g d = refl
-on_number Nothing g d = refl
+pub on_number : {A : Type 0} (r : Option ℕ) (g : ℕ → A) (d : A) → on_or r (λ q. g (set_on r (λ n. n))) d ≡ on_or r g d
+on_number (Some n) g d = refl
+on_number None g d = refl
 
 -- so of a routine that is CALLed, whose number is the one that is named
 pub on_called : {A : Type 0} (v : View) (g : ℕ → A) (d : A) → on_or (calls v) (λ q. g (set_on v.names (λ n. n))) d ≡ on_or (calls v) g d
 on_called v g d = go v.starting
   where
-    go : (b : Bool) → on_or (cond b Nothing v.names) (λ q. g (set_on v.names (λ n. n))) d ≡ on_or (cond b Nothing v.names) g d
+    go : (b : Bool) → on_or (cond b None v.names) (λ q. g (set_on v.names (λ n. n))) d ≡ on_or (cond b None v.names) g d
     go true = refl
     go false = on_number v.names g d
 
 -- ---- the set, list and test of a reference
 
-module _ (r : Reference) (f : ℕ → ℕ) where
-  pub set_is : {n : ℕ} → r ≡ To n → set_on r f ≡ f n
+module _ (r : Option ℕ) (f : ℕ → ℕ) where
+  pub set_is : {n : ℕ} → r ≡ Some n → set_on r f ≡ f n
   set_is e = rw e
 
-  pub set_has : {n : ℕ} (x : ℕ) → r ≡ To n → has (f n) x ≡ true → has (set_on r f) x ≡ true
+  pub set_has : {n : ℕ} (x : ℕ) → r ≡ Some n → has (f n) x ≡ true → has (set_on r f) x ≡ true
   set_has x e h = rw e h
 
-pub set_from : (r : Reference) (f : ℕ → ℕ) (x : ℕ) → has (set_on r f) x ≡ true → On r (λ n. has (f n) x ≡ true)
-set_from (To n) f x h = (n, refl, h)
-set_from Nothing f x h = never (sym (has_empty x) ∙ h)
+pub set_from : (r : Option ℕ) (f : ℕ → ℕ) (x : ℕ) → has (set_on r f) x ≡ true → On r (λ n. has (f n) x ≡ true)
+set_from (Some n) f x h = (n, refl, h)
+set_from None f x h = never (sym (has_empty x) ∙ h)
 
-pub set_below : (r : Reference) (f : ℕ → ℕ) → ((n : ℕ) → f n < 2 ^ 64) → set_on r f < 2 ^ 64
+pub set_below : (r : Option ℕ) (f : ℕ → ℕ) → ((n : ℕ) → f n < 2 ^ 64) → set_on r f < 2 ^ 64
 set_below r f b = on_or_lem (λ (s : ℕ). s < 2 ^ 64) r f 0 (λ n e. b n) (omega arith)
 
 module _ {A : Type 0} where
-  pub list_has : (r : Reference) (f : ℕ → List A) {n : ℕ} (x : A) → r ≡ To n → Memᴰ x (f n) → Memᴰ x (list_on r f)
+  pub list_has : (r : Option ℕ) (f : ℕ → List A) {n : ℕ} (x : A) → r ≡ Some n → Memᴰ x (f n) → Memᴰ x (list_on r f)
   list_has r f x e m = rw e m
 
-  pub list_from : (r : Reference) (f : ℕ → List A) (x : A) → Memᴰ x (list_on r f) → On r (λ n. Memᴰ x (f n))
-  list_from (To n) f x m = (n, refl, m)
-  list_from Nothing f x m = elim m [ ]
+  pub list_from : (r : Option ℕ) (f : ℕ → List A) (x : A) → Memᴰ x (list_on r f) → On r (λ n. Memᴰ x (f n))
+  list_from (Some n) f x m = (n, refl, m)
+  list_from None f x m = elim m [ ]
 
-  pub list_same : (r : Reference) (f g : ℕ → List A) → ((n : ℕ) → f n ≡ g n) → list_on r f ≡ list_on r g
-  list_same (To n) f g e = e n
-  list_same Nothing f g e = refl
+  pub list_same : (r : Option ℕ) (f g : ℕ → List A) → ((n : ℕ) → f n ≡ g n) → list_on r f ≡ list_on r g
+  list_same (Some n) f g e = e n
+  list_same None f g e = refl
 
-  pub list_map : {B : Type 0} (h : A → B) (r : Reference) (f : ℕ → List A) → map h (list_on r f) ≡ list_on r (λ n. map h (f n))
-  list_map h (To n) f = refl
-  list_map h Nothing f = refl
+  pub list_map : {B : Type 0} (h : A → B) (r : Option ℕ) (f : ℕ → List A) → map h (list_on r f) ≡ list_on r (λ n. map h (f n))
+  list_map h (Some n) f = refl
+  list_map h None f = refl
 
   pub when_map : {B : Type 0} (h : A → B) (b : Bool) (l : List A) → map h (when b l) ≡ when b (map h l)
   when_map h true l = refl
@@ -121,7 +119,7 @@ module _ {A : Type 0} where
   when_from true l x m = (refl, m)
   when_from false l x m = elim m [ ]
 
-pub test_is : (r : Reference) (f : ℕ → Bool) {n : ℕ} → r ≡ To n → test_on r f ≡ f n
+pub test_is : (r : Option ℕ) (f : ℕ → Bool) {n : ℕ} → r ≡ Some n → test_on r f ≡ f n
 test_is r f e = rw e
 
 -- ---- a statement does one thing: the one law that attributes do not give
@@ -129,16 +127,16 @@ test_is r f e = rw e
 -- the view has one of these forms
 pub data Form (v : View) : Type 0 where
   on : v ≡ idle → Form v
-  read : (h : ℕ) → v ≡ through (To h) Nothing Nothing false Nothing → Form v
-  written : (h : ℕ) → v ≡ through Nothing (To h) Nothing false Nothing → Form v
-  taken : (h : ℕ) (w : Bool) → v ≡ through Nothing Nothing (To h) w Nothing → Form v
-  given : (h : ℕ) → v ≡ through Nothing Nothing Nothing false (To h) → Form v
-  pointed : (h g : ℕ) → v ≡ pointing (To h) g → Form v
-  called : (q : ℕ) (a : Arguments) → v ≡ naming (To q) false a → Form v
-  started : (q : ℕ) (a : Arguments) → v ≡ naming (To q) true a → Form v
-  to : (z : ℕ) → v ≡ going false false (To z) → Form v
-  either : (z : ℕ) → v ≡ going true false (To z) → Form v
-  back : v ≡ going false true Nothing → Form v
+  read : (h : ℕ) → v ≡ through (Some h) None None false None → Form v
+  written : (h : ℕ) → v ≡ through None (Some h) None false None → Form v
+  taken : (h : ℕ) (w : Bool) → v ≡ through None None (Some h) w None → Form v
+  given : (h : ℕ) → v ≡ through None None None false (Some h) → Form v
+  pointed : (h g : ℕ) → v ≡ pointing (Some h) g → Form v
+  called : (q : ℕ) (a : Arguments) → v ≡ naming (Some q) false a → Form v
+  started : (q : ℕ) (a : Arguments) → v ≡ naming (Some q) true a → Form v
+  to : (z : ℕ) → v ≡ going false false (Some z) → Form v
+  either : (z : ℕ) → v ≡ going true false (Some z) → Form v
+  back : v ≡ going false true None → Form v
 
 pub forms : (σ : Statement) → Form (view σ)
 forms (Read h) = read h.number refl
@@ -156,13 +154,13 @@ forms Return = back refl
 forms (TakeRead h) = taken h.number false refl
 
 -- a WRITE reads nothing and gives no lock up
-pub write_alone : (σ : Statement) {x : ℕ} → (view σ).writes ≡ To x → ((view σ).reads ≡ Nothing) × ((view σ).gives ≡ Nothing)
+pub write_alone : (σ : Statement) {x : ℕ} → (view σ).writes ≡ Some x → ((view σ).reads ≡ None) × ((view σ).gives ≡ None)
 write_alone σ {x} = go (forms σ)
   where
-    none : {v : View} → view σ ≡ v → v.writes ≡ Nothing → (view σ).writes ≡ To x → ((view σ).reads ≡ Nothing) × ((view σ).gives ≡ Nothing)
+    none : {v : View} → view σ ≡ v → v.writes ≡ None → (view σ).writes ≡ Some x → ((view σ).reads ≡ None) × ((view σ).gives ≡ None)
     none p n e = nothing_to (sym (ap (λ (v : View). v.writes) p ∙ n) ∙ e)
 
-    go : Form (view σ) → (view σ).writes ≡ To x → ((view σ).reads ≡ Nothing) × ((view σ).gives ≡ Nothing)
+    go : Form (view σ) → (view σ).writes ≡ Some x → ((view σ).reads ≡ None) × ((view σ).gives ≡ None)
     go (on p) = none p refl
     go (read h p) = none p refl
     go (written h p) = λ e. (ap (λ (v : View). v.reads) p, ap (λ (v : View). v.gives) p)
@@ -175,10 +173,10 @@ write_alone σ {x} = go (forms σ)
     go (either z p) = none p refl
     go (back p) = none p refl
 
-pub points_or_names : (σ : Statement) → ((view σ).points ≡ Nothing) ⊎ ((view σ).names ≡ Nothing)
+pub points_or_names : (σ : Statement) → ((view σ).points ≡ None) ⊎ ((view σ).names ≡ None)
 points_or_names σ = go (forms σ)
   where
-    go : Form (view σ) → ((view σ).points ≡ Nothing) ⊎ ((view σ).names ≡ Nothing)
+    go : Form (view σ) → ((view σ).points ≡ None) ⊎ ((view σ).names ≡ None)
     go (on p) = inl (ap (λ (v : View). v.points) p)
     go (read h p) = inl (ap (λ (v : View). v.points) p)
     go (written h p) = inl (ap (λ (v : View). v.points) p)
@@ -255,7 +253,7 @@ pub view_in_mode : (f : List ℤ) (line op : ℕ) (mode : Bool)
     → in_mode mode (view (statement_in f line op)) ≡ taking (view_in f line op) (first_if f line (eqb op 5 || (eqb op 13 && not mode)))
 view_in_mode f line op mode = ap (in_mode mode) (view_in_lem f line op) ∙ ap (taking (view_in f line op)) (by mode (eqb op 5) (eqb op 13))
   where
-    by : (m a b : Bool) → cond m (cond a (first_if f line (a || b)) Nothing) (first_if f line (a || b)) ≡ first_if f line (a || (b && not m))
+    by : (m a b : Bool) → cond m (cond a (first_if f line (a || b)) None) (first_if f line (a || b)) ≡ first_if f line (a || (b && not m))
     by true true b = refl
     by true false true = refl
     by true false false = refl
@@ -279,7 +277,7 @@ takes_to_read_in f line op = ap takes_to_read (view_in_lem f line op) ∙ go (eq
 pub calls_in : (f : List ℤ) (line op : ℕ) → calls (view (statement_in f line op)) ≡ first_if f line (eqb op 8)
 calls_in f line op = ap calls (view_in_lem f line op) ∙ go (eqb op 9) refl
   where
-    go : (b : Bool) → eqb op 9 ≡ b → cond b Nothing (first_if f line (eqb op 8 || b)) ≡ first_if f line (eqb op 8)
+    go : (b : Bool) → eqb op 9 ≡ b → cond b None (first_if f line (eqb op 8 || b)) ≡ first_if f line (eqb op 8)
     go true e = let u : op ≡ 9 = eqb-true op 9 e in rw u
     go false e = at (eqb op 8)
       where
@@ -290,16 +288,16 @@ calls_in f line op = ap calls (view_in_lem f line op) ∙ go (eqb op 9) refl
 pub starts_in : (f : List ℤ) (line op : ℕ) → starts (view (statement_in f line op)) ≡ first_if f line (eqb op 9)
 starts_in f line op = ap starts (view_in_lem f line op) ∙ go (eqb op 9) refl
   where
-    go : (b : Bool) → eqb op 9 ≡ b → cond b (first_if f line (eqb op 8 || b)) Nothing ≡ first_if f line b
+    go : (b : Bool) → eqb op 9 ≡ b → cond b (first_if f line (eqb op 8 || b)) None ≡ first_if f line b
     go true e = at (eqb op 8)
       where
-        at : (c : Bool) → first_if f line (c || true) ≡ To (field f line 2)
+        at : (c : Bool) → first_if f line (c || true) ≡ Some (field f line 2)
         at true = refl
         at false = refl
     go false e = refl
 
 -- the view with what flow asks of it in other words
-abbrev pub flowing : View → Reference → ℕ → Reference → Arguments → View
+abbrev pub flowing : View → Option ℕ → ℕ → Option ℕ → Arguments → View
 flowing v points source names arguments =
     record {
       onward = v.onward;
@@ -317,5 +315,5 @@ flowing v points source names arguments =
       arguments = arguments;
     }
 
-pub flowing_is : (v : View) {p n : Reference} {s : ℕ} {a : Arguments} → p ≡ v.points → s ≡ v.source → n ≡ v.names → a ≡ v.arguments → flowing v p s n a ≡ v
+pub flowing_is : (v : View) {p n : Option ℕ} {s : ℕ} {a : Arguments} → p ≡ v.points → s ≡ v.source → n ≡ v.names → a ≡ v.arguments → flowing v p s n a ≡ v
 flowing_is v e f g h = rw (e, f, g, h)

@@ -1,9 +1,8 @@
 -- What "accepted" gives of a table, as named facts of one record: all that the crates above use of document 01's rules for a text. Assumes nothing.
-use Rattle.std.specs.Prelude.{ℕ, ◌+◌, ◌≤◌, ◌<◌, ◌≡◌, true, ◌⊎◌, get_or, length}
+use Rattle.std.specs.Prelude.{ℕ, ◌+◌, ◌≤◌, ◌<◌, ◌≡◌, true, ◌⊎◌, get_or, length, Some}
 use Rattle.table.specs.Table.{Table, declaration, routine, statement, passed, InRoutine, OwnHandle}
 use Rattle.table.specs.declared.Arguments.{Arguments}
 use Rattle.table.specs.declared.Statement.{Statement}
-use Rattle.table.specs.declared.Reference.TheVariants.{To}
 use Rattle.table.specs.View.{view, Each}
 
 -- a handle of routine r and of a kind
@@ -33,7 +32,7 @@ GoesOn t r s σ = (view σ).onward ≡ true → InRoutine t r (s + 1)
 
 -- the statement names routine q by CALL or START
 abbrev pub Names : Statement → ℕ → Type 0
-Names σ q = (view σ).names ≡ To q
+Names σ q = (view σ).names ≡ Some q
 
 -- the facts of one handle: its routine, kind and start in range, and its place among its routine's handles, parameters first
 pub record HandleFacts (t : Table) (h : ℕ) : Type 0 where

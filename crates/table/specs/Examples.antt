@@ -1,19 +1,19 @@
 -- Small examples, by computation, at which a near miss of a definition would say something else. Assumes nothing.
-use Rattle.std.specs.Prelude.{◌≡◌, refl, List, [], ◌∷◌, true, false, ℕ}
+use Rattle.std.specs.Prelude.{◌≡◌, refl, List, [], ◌∷◌, true, false, ℕ, Err}
 use Rattle.std.specs.Int.Count.{count_trailing_zeros}
 use Rattle.sets.specs.Set.{has, one, union, minus, with, is_empty, lowest}
 use Rattle.table.specs.Fields.{plain}
 use Rattle.table.specs.Header.{header_ok, length_ok}
 use Rattle.table.specs.Naming.{walk, reached, is_acyclic}
 use Rattle.table.specs.Verdict.{numbers_verdict}
-use Rattle.table.specs.declared.Verdict.TheVariants.{Refused}
+use Rattle.table.specs.declared.Refusal.TheVariants.{Header}
 
 -- "each check runs over the whole text before the next": a bad header is refused by 3, though the lines are as many as it says, or not
-header_first : numbers_verdict [] 1 ≡ Refused 3 0
+header_first : numbers_verdict [] 1 ≡ Err Header
 unfolding numbers_verdict header_ok length_ok plain
 header_first = refl
 
-header_first_still : numbers_verdict [] 2 ≡ Refused 3 0
+header_first_still : numbers_verdict [] 2 ≡ Err Header
 unfolding numbers_verdict header_ok length_ok plain
 header_first_still = refl
 

@@ -1,6 +1,7 @@
 pub mod Tabulate
 pub mod TabulateLaws
 pub mod Until
+pub mod Found
 pub mod Fields
 pub mod Header
 pub mod HeaderLaws
@@ -10,6 +11,7 @@ pub mod Extents
 pub mod View
 pub mod Statements
 pub mod Naming
+pub mod Refusals
 pub mod Verdict
 pub mod Examples
 pub mod Table

@@ -1,8 +1,6 @@
 -- Which routines name which, by CALL or START, and which reach themselves so. A set of routines is a number (crate `sets`). Assumes nothing.
-use Rattle.std.specs.Prelude.{ℕ, zero, suc, ◌+◌, ◌-◌, List, Bool, cond, not, ltb, ℤ, get_or}
+use Rattle.std.specs.Prelude.{Option, Some, None, ℕ, zero, suc, ◌+◌, ◌-◌, List, Bool, cond, not, ltb, ℤ, get_or}
 use Rattle.sets.specs.Set.{has, one, union, minus, with, lowest}
-use Rattle.sets.specs.declared.Which.{Which}
-use Rattle.sets.specs.declared.Which.TheVariants.{Element, Nothing}
 use Rattle.table.specs.Tabulate.{tabulate}
 use Rattle.table.specs.Header.{routines}
 use Rattle.table.specs.Routines.{first_statement}
@@ -31,9 +29,9 @@ unfoldable pub is_named : List ℕ → ℕ → Bool
 is_named names r = has (gather (λ (k : ℕ). get_or names k 0) 0 0 32) r
 
 -- by the lowest element of a set: `none` if there is none, else what `some` says of it
-abbrev pub on_which : Which → ℕ → (ℕ → ℕ) → ℕ
-on_which Nothing none some = none
-on_which (Element i) none some = some i
+abbrev pub on_which : Option ℕ → ℕ → (ℕ → ℕ) → ℕ
+on_which None none some = none
+on_which (Some i) none some = some i
 
 -- the routines reached from the set `worklist`, beside those of `seen`: take one of `worklist`, then what it names and has not been seen.
 -- Each call sees one routine more, so `left`, the number of routines left, falls.

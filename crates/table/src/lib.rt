@@ -1,22 +1,75 @@
 #![tactic(auto)]
 // The table: its types, and what stands where in the numbers of its lines. Definitions and laws are in specs/.
-ghost use Rattle.std.specs.Prelude.{◌≡◌, ◌+◌, ◌*◌, ◌<◌, ◌≤◌, ◌^◌, length};
+ghost use Rattle.std.specs.Prelude.{◌≡◌, ℕ, ◌+◌, ◌*◌, ◌<◌, ◌≤◌, ◌^◌, length};
 ghost use Rattle.table.specs.Fields.{field, number, unused, plain};
 ghost use Rattle.table.specs.Header.{statement_line};
+ghost use Rattle.table.specs.Refusals.{number_of, line_of};
+ghost use Rattle.table.specs.Found.{FirstFailing};
 ghost use Rattle.table.specs.Table.{counts_of, arguments_in, statement_in};
 
-// What is said of a text: a table, or the number of the first refusal that applies and the line that goes with it.
-#[derive(Clone, Copy)]
-pub enum Verdict {
-    Accepted,
-    Refused { number: u32, line: usize },
+// Why a text or a call is refused, in the documents' order, with the line of the text that goes with it where there is one.
+#[derive(Clone, Copy, Debug, PartialEq, Eq)]
+pub enum Refusal {
+    // No text has this length.
+    Length,
+    // A line is not eight good fields and a line feed.
+    Fields(usize),
+    Header,
+    LineCount,
+    FirstField(usize),
+    HandleLine(usize),
+    RoutineLine(usize),
+    // The routines' counts do not add up to the statements.
+    Sum,
+    StatementLine(usize),
+    RoutineEnd(usize),
+    // A routine is named by no CALL or START.
+    Unnamed(usize),
+    // A routine reaches itself.
+    Recursive(usize),
+    // A lent buffer is too short.
+    Room,
 }
 
-// A text that was read: the verdict, and the numbers of its lines, eight a line; zeros behind its last line, and everywhere if it is refused.
-#[derive(Clone, Copy)]
-pub struct Reading {
-    pub verdict: Verdict,
-    pub numbers: [i32; 5384],
+impl Refusal {
+    // Its number in the documents, 1 to 13.
+    pub fn number(self) -> u32
+        ensures { result ≡ number_of self }
+    {
+        match self {
+            Refusal::Length => 1,
+            Refusal::Fields(_) => 2,
+            Refusal::Header => 3,
+            Refusal::LineCount => 4,
+            Refusal::FirstField(_) => 5,
+            Refusal::HandleLine(_) => 6,
+            Refusal::RoutineLine(_) => 7,
+            Refusal::Sum => 8,
+            Refusal::StatementLine(_) => 9,
+            Refusal::RoutineEnd(_) => 10,
+            Refusal::Unnamed(_) => 11,
+            Refusal::Recursive(_) => 12,
+            Refusal::Room => 13,
+        }
+    }
+
+    // The line that goes with it, 0 where it has none.
+    pub fn line(self) -> usize
+        ensures { result ≡ line_of self }
+    {
+        match self {
+            Refusal::Fields(line)
+            | Refusal::FirstField(line)
+            | Refusal::HandleLine(line)
+            | Refusal::RoutineLine(line)
+            | Refusal::StatementLine(line)
+            | Refusal::RoutineEnd(line)
+            | Refusal::Unnamed(line)
+            | Refusal::Recursive(line) => line,
+            Refusal::Length | Refusal::Header | Refusal::LineCount | Refusal::Sum | Refusal::Room =>
+                0,
+        }
+    }
 }
 
 // What the header says: how many there are of each.
@@ -77,37 +130,31 @@ pub enum Statement {
     TakeRead(Handle),
 }
 
-// A handle, statement or routine that a statement names in one way, by its number, or none.
-#[derive(Clone, Copy)]
-pub enum Reference {
-    To(usize),
-    Nothing,
-}
-
 // What a statement is to the rules, by attributes.
 #[derive(Clone, Copy)]
 pub struct View {
     // It may go on to the next statement; it closes its frame; the statement that it may jump to.
     pub onward: bool,
     pub ends: bool,
-    pub target: Reference,
+    pub target: Option<usize>,
     // The handle whose cell it reads, and writes.
-    pub reads: Reference,
-    pub writes: Reference,
+    pub reads: Option<usize>,
+    pub writes: Option<usize>,
     // The handle whose lock it takes, whether for writing (false where for reading or none), and the handle whose lock it gives up.
-    pub takes: Reference,
+    pub takes: Option<usize>,
     pub writing: bool,
-    pub gives: Reference,
+    pub gives: Option<usize>,
     // The handle that it makes refer elsewhere, and the handle whose reference that becomes; 0 where it points none.
-    pub points: Reference,
+    pub points: Option<usize>,
     pub source: usize,
     // The routine that it names, whether by START (false where by CALL or none), and what it passes; zeros where it names none.
-    pub names: Reference,
+    pub names: Option<usize>,
     pub starting: bool,
     pub arguments: Arguments,
 }
 
-// What a handle line says: its routine, its kind (1 cell, 2 lock), its origin (0 parameter, 1 local), and where a local starts.
+// What a handle line says: its routine, its kind (1 cell, 2 lock), its origin (0 parameter, 1 local), and where a local starts. Kind and origin are numbers
+// here, as in the line: the rules read them before they are known to be any.
 #[derive(Clone, Copy)]
 pub struct Declaration {
     pub routine: usize,
@@ -169,14 +216,25 @@ pub fn field_in(numbers: &[i32], line: usize, j: usize) -> usize
 pub fn is_unused(numbers: &[i32], line: usize, from: usize) -> bool
     ensures { result ≡ unused numbers.now line from }
 {
-    let mut j = from;
-    while j < 8 {
+    for j in from..8 {
         if field_of(numbers, line, j) != 0 {
             return false;
         }
-        j += 1;
     }
     true
+}
+
+// The lowest number from `from` on, below `end`, of which a test says no.
+pub fn first_failing<F: Fn(usize) -> bool>(from: usize, end: usize, holds: F) -> Option<usize>
+    requires { (i : ℕ) → from ≤ i → i < end → F.pre holds i }
+    ensures { FirstFailing (F.post holds) from end result }
+{
+    for i in from..end {
+        if !holds(i) {
+            return Some(i);
+        }
+    }
+    None
 }
 
 // The line of statement 0.

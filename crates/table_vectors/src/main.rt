@@ -4,23 +4,15 @@
 use std::env::FillError;
 use std::io;
 use std::rt::{Env, Files};
-use table::Verdict;
-
-// Prints line 50: the number and the line of a refusal.
-fn print_refusal(rt: &impl Print, number: u32, line: usize) -> io::Result<()> {
-    let mut out = [0u8; 49];
-    if refusal::print_refusal(&mut out[..], number, line) == 49 {
-        rt.write_all(&out[..])?;
-    }
-    Ok(())
-}
 
 fn print_verdict(rt: &impl Print, text: &[u8]) -> io::Result<()> {
-    let reading = reader::read(text);
-    let verdict = reading.verdict;
-    match verdict {
-        Verdict::Accepted => println!(rt; "accepted"),
-        Verdict::Refused { number, line } => print_refusal(rt, number, line),
+    match reader::read(text) {
+        Ok(_) => println!(rt; "accepted"),
+        Err(refusal) => run_printer::say_refusal(
+            &mut io::writer(rt),
+            refusal.number(),
+            refusal.line(),
+        ),
     }
 }
 

@@ -6,4 +6,4 @@ use Rattle.analysis.proofs.is_clean.Goals as goal
 
 pub returns : goal.returns
 unfolding examined_in
-returns c = ap (λ (e : Examined). e.clean) c.report_sized-examined.ensures.answer
+returns c = ap (λ (e : Examined). e.clean) c.report_sized.ensures.answer

@@ -1,28 +1,17 @@
 -- `answer::print_answer` meets its contract. Assumes nothing.
-use native.Mathlib.Omega.{arith}
+use mathlib.Core.Path.{sym, ◌∙◌}
 use Rattle.answer.specs.SaidLaws.{report_said, refusal_left}
 use Rattle.answer.proofs.print_answer.Goals as goal
 
-pub returns-then-answer-eq0-clause-bytes : goal.returns-then-answer-eq0-clause-bytes
-returns-then-answer-eq0-clause-bytes c =
-    (report_said c.args.text.now c.args.out.now _ c.report-answer.result c.report-answer.ensures.answer c.report-answer.ensures.buffer (omega arith)).0
+pub returns-in-Ok : goal.returns-in-Ok
+returns-in-Ok c =
+    let s = report_said c.args.text.now c.args.out.now _ c.report.ensures.buffer _ (sym c.in-Ok.is ∙ c.report.ensures.answer) in
+    record { bytes = s.0; room = s.1.0; buffer = s.1.1 }
 
-pub returns-then-answer-eq0-clause-room : goal.returns-then-answer-eq0-clause-room
-returns-then-answer-eq0-clause-room c =
-    (report_said c.args.text.now c.args.out.now _ c.report-answer.result c.report-answer.ensures.answer c.report-answer.ensures.buffer (omega arith)).1.0
-
-pub returns-then-answer-eq0-clause-buffer : goal.returns-then-answer-eq0-clause-buffer
-returns-then-answer-eq0-clause-buffer c =
-    (report_said c.args.text.now c.args.out.now _ c.report-answer.result c.report-answer.ensures.answer c.report-answer.ensures.buffer (omega arith)).1.1
-
-pub returns-clause-bytes : goal.returns-clause-bytes
-returns-clause-bytes c =
-    (refusal_left c.args.text.now c.args.out.now c.report-answer.new.out c.report-answer.result c.report-answer.ensures.answer c.report-answer.ensures.buffer (λ z. omega arith) _ _ c.print_refusal.ensures.bytes c.print_refusal.ensures.buffer).0
-
-pub returns-clause-room : goal.returns-clause-room
-returns-clause-room c =
-    (refusal_left c.args.text.now c.args.out.now c.report-answer.new.out c.report-answer.result c.report-answer.ensures.answer c.report-answer.ensures.buffer (λ z. omega arith) _ _ c.print_refusal.ensures.bytes c.print_refusal.ensures.buffer).1.0
-
-pub returns-clause-buffer : goal.returns-clause-buffer
-returns-clause-buffer c =
-    (refusal_left c.args.text.now c.args.out.now c.report-answer.new.out c.report-answer.result c.report-answer.ensures.answer c.report-answer.ensures.buffer (λ z. omega arith) _ _ c.print_refusal.ensures.bytes c.print_refusal.ensures.buffer).1.1
+pub returns-in-Err : goal.returns-in-Err
+returns-in-Err c =
+    let p = c.print_refusal.ensures in
+    let s =
+    refusal_left c.args.text.now c.args.out.now _ c.report.ensures.buffer c.in-Err.refusal (sym c.in-Err.is ∙ c.report.ensures.answer) _ _
+    (rw (c.number.ensures, c.line.ensures) at p.bytes) (rw (c.number.ensures, c.line.ensures) at p.buffer) in
+    record { bytes = s.0; room = s.1.0; buffer = s.1.1 }

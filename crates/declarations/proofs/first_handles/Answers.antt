@@ -5,9 +5,6 @@ use Rattle.declarations.specs.ListLaws.{skipping_start, skipping_next}
 use Rattle.table.proofs.TabulateLaws.{begun_below}
 use Rattle.declarations.proofs.first_handles.Goals as goal
 
-pub field_of-handles-requires : goal.field_of-handles-requires
-field_of-handles-requires c = tt
-
 pub loop-r-init : goal.loop-r-init
 loop-r-init c = (zero-le, skipping_start _)
 

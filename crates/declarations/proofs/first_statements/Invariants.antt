@@ -1,10 +1,7 @@
 -- `declarations::first_statements` meets its contract. Assumes nothing.
-use Prim.Native.Nat.{◌-◌, ◌≤◌}
+use Prim.Native.Nat.{◌≤◌}
 use Rattle.declarations.specs.ListLaws.{Summing}
 use Rattle.declarations.proofs.first_statements.Given as goal
 
 abbrev pub invariant-loop-r : goal.invariant-loop-r
 invariant-loop-r l = (l.r ≤ l.count) × Summing l.numbers l.first l.sum l.r
-
-abbrev pub decreases-loop-r : goal.decreases-loop-r
-decreases-loop-r l = l.count - l.r

@@ -12,14 +12,8 @@ use Rattle.declarations.proofs.parameter_counts.Goals as goal
 pub loop-r-init : goal.loop-r-init
 loop-r-init c = (zero-le, begun_none _ 32)
 
-pub number_at-from-requires : goal.number_at-from-requires
-number_at-from-requires c = tt
-
-pub number_at-requires : goal.number_at-requires
-number_at-requires c = tt
-
 pub overflow_sub-counts : goal.overflow_sub-counts
-overflow_sub-counts c = subst⁻¹ (λ (n : ℕ). c.number_at-from.result ≤ n) c.skip-end.ensures (until_range _ _ _).0
+overflow_sub-counts c = subst⁻¹ (λ (n : ℕ). c.value_at-from.result ≤ n) c.skip-end.ensures (until_range _ _ _).0
 
 pub offset_bounds-counts-r : goal.offset_bounds-counts-r
 offset_bounds-counts-r c = record { fits = omega (arith, c.routine_count-count.ensures, c.loop-r-test.true) }
@@ -33,8 +27,8 @@ loop-r-preserved c =
     let r = c.loop-r.r in
     let few : r < 32 = omega (arith, c.routine_count-count.ensures, c.loop-r-test.true) in
     let inside : r < routines f = omega (arith, c.routine_count-count.ensures, c.loop-r-test.true) in
-    let from = c.number_at-from.ensures ∙ entry_below 33 (routines f + 1) (handles_from f) _ r c.requires (omega arith) (omega arith) in
-    let end = c.number_at.ensures ∙ entry_below 33 (routines f + 1) (handles_from f) _ (r + 1) c.requires (omega arith) (omega arith) in
+    let from = c.value_at-from.ensures ∙ entry_below 33 (routines f + 1) (handles_from f) _ r c.requires (omega arith) (omega arith) in
+    let end = c.value_at.ensures ∙ entry_below 33 (routines f + 1) (handles_from f) _ (r + 1) c.requires (omega arith) (omega arith) in
     (omega arith, begun_next _ _ _ _ _ c.loop-r.invariant.1 few (parameters_is f r _ _ _ from end c.skip-end.ensures))
 
 pub returns : goal.returns

@@ -1,11 +1,8 @@
 -- `declarations::parameter_counts` meets its contract. Assumes nothing.
-use Prim.Native.Nat.{◌-◌, ◌≤◌}
+use Prim.Native.Nat.{◌≤◌}
 use Rattle.table.specs.Handles.{parameters}
 use Rattle.table.specs.TabulateLaws.{Begun}
 use Rattle.declarations.proofs.parameter_counts.Given as goal
 
 abbrev pub invariant-loop-r : goal.invariant-loop-r
 invariant-loop-r l = (l.r ≤ l.count) × Begun (parameters l.numbers) l.counts 32 l.r
-
-abbrev pub decreases-loop-r : goal.decreases-loop-r
-decreases-loop-r l = l.count - l.r

@@ -9,20 +9,11 @@ use Rattle.table.specs.Routines.{sum_ok}
 use Rattle.table.proofs.ExtentLaws.{first_at}
 use Rattle.declarations.proofs.sum_ok.Goals as goal
 
-pub field_of-requires : goal.field_of-requires
-field_of-requires c = tt
-
-pub number_at-requires : goal.number_at-requires
-number_at-requires c = tt
-
-pub field_of-requires-2 : goal.field_of-requires-2
-field_of-requires-2 c = tt
-
 pub returns : goal.returns
 unfolding sum_ok
 returns c =
     let f = c.args.numbers.now in
     ap₂ eqb
-    (c.number_at.ensures ∙ ap (λ (k : ℕ). get_or c.args.first.now k 0) c.field_of.ensures.is
+    (c.value_at.ensures ∙ ap (λ (k : ℕ). get_or c.args.first.now k 0) c.field_of.ensures.is
     ∙ first_at f c.requires.numbers_bound _ (routines f) c.requires.first_value (omega arith))
     c.field_of-2.ensures.is

@@ -1,8 +1,12 @@
 -- `edges::append_nexts` meets its contract. Assumes nothing.
-use mathlib.Core.Path.{refl}
-use Rattle.sets.proofs.AppendLaws.{appended_same, appended_both}
+use Rattle.std.proofs.Common.{refl, arith}
+use Rattle.declarations.specs.Laid.{few_statements}
+use Rattle.edges.specs.Grown.{grown_same, grown_both}
 use Rattle.edges.specs.LineLaws.{viewed, next_at}
 use Rattle.edges.proofs.append_nexts.Goals as goal
 
+pub overflow_add-s : goal.overflow_add-s
+overflow_add-s c = omega (arith, c.requires, few_statements c.program.view_is c.program.invariant)
+
 pub returns : goal.returns
-returns c = appended_same _ _ (next_at _ _ (viewed _ _ c.requires.0 _ c.requires.1 refl) c.target_at.ensures c.onward_at.ensures) (appended_both c.append_from-m.ensures c.append_if.ensures)
+returns c = grown_same (next_at _ _ (viewed c.program.view_is c.line_of-line.ensures c.requires refl) c.target_at.ensures c.onward_at.ensures) (grown_both c.push_from.ensures c.push_if.ensures)

@@ -1,18 +1,8 @@
 -- `edges::fill_nexts` meets its contract. Assumes nothing.
-use native.Mathlib.Omega.{arith}
+use Rattle.std.proofs.Common.{rules, of_calls}
 use Rattle.edges.specs.Equations.{Nexts}
-use Rattle.edges.specs.EdgeLaws.{growing_start, growing_next}
-use Rattle.edges.specs.LineLaws.{lined, every_edge}
+use Rattle.edges.specs.Grown.{every_edge}
 use Rattle.edges.proofs.fill_nexts.Goals as goal
 
-pub loop-s-init : goal.loop-s-init
-loop-s-init c = growing_start _ _
-
-pub append_nexts-n-requires : goal.append_nexts-n-requires
-append_nexts-n-requires c = (lined _ c.requires c.first_line-base.ensures.is, omega (arith, c.field_of-end.ensures.is, c.loop-s-test.true))
-
-pub loop-s-preserved : goal.loop-s-preserved
-loop-s-preserved c = growing_next c.loop-s.invariant c.loop-s-test.true c.append_nexts-n.ensures
-
 pub returns : goal.returns
-returns c = every_edge Nexts _ c.field_of-end.ensures.is c.loop-s.invariant c.loop-s-test.false
+returns c = record { accepted = c.append_each.ensures.accepted; grown = every_edge Nexts _ (c.append_each.ensures.grown _ (λ x y s k l e h. search (rules, of_calls))) }

@@ -1,63 +1,46 @@
 -- `fields::field_of` meets its contract: each return is one case of `field_of`. Assumes nothing.
-use borrow.Author.Rules.{rules}
-use native.Mathlib.Omega.{arith}
-use mathlib.Core.Path.{◌≡◌, ap, sym, ◌∙◌}
-use Rattle.fields.specs.Field.{field_of, decimal_of, positive, negative, field_answer}
-use Rattle.fields.specs.FieldLoops.{field_blank, field_minus, field_plus, decimal_six, told_value, told_bad, word_plus, word_minus, minus_fits, negative_some, negative_zero}
-use Rattle.fields.specs.declared.Field.TheVariants.{Number}
-use mathlib.Core.Option.{none, some}
-use Prim.Native.Nat.{◌+◌, ◌<◌}
-use lib.ListN.{drop}
-use mir.Facts.{to_z-of_z}
+use Rattle.std.proofs.Common.{arith, sym, ap, ◌∙◌, ◌<◌, to_z-of_z}
+use Rattle.fields.specs.Field.{answer, negative, positive}
+use Rattle.fields.specs.FieldLoops.{field_blank, field_minus, field_plus, decimal_rest, told_some, told_none, negative_zero, negative_some, word_plus, word_minus, minus_fits}
+use Rattle.std.specs.Prelude.{Some}
 use Rattle.fields.proofs.field_of.Goals as goal
 
-pub returns-then-first-ge6 : goal.returns-then-first-ge6
-returns-then-first-ge6 c = ap field_answer (sym (field_blank (search rules) c.past_spaces-first.ensures c.if-first-ge6.true))
+pub returns-in_err-first : goal.returns-in_err-first
+returns-in_err-first c =
+    c.from_residual.ensures ∙ ap answer (sym (field_blank _ c.in_err-first.ensures c.requires))
+
+-- behind a minus sign
+pub returns-in_err-m : goal.returns-in_err-m
+returns-in_err-m c =
+    c.from_residual-in_err-m.ensures
+    ∙ ap answer (sym (field_minus _ c.in_ok-first.ensures c.requires c.if-cs-first-eq45.true ∙ ap negative (told_none c.in_err-m.ensures)))
 
 pub returns-then-m-eq0 : goal.returns-then-m-eq0
-returns-then-m-eq0 c = let minus_here : field_of c.args.cs.now ≡ negative (decimal_of (drop (c.past_spaces-first.result + 1) c.args.cs.now)) = field_minus
-    c.requires
-    c.past_spaces-first.ensures
-    c.if-first-ge6.false
-    c.if-cs-first-eq45.true in let minus_known_here : decimal_of (drop (c.past_spaces-first.result + 1) c.args.cs.now) ≡ some c.in-Value.m = told_value (sym c.in-Value.is ∙ c.unsigned.ensures) in ap field_answer (sym (minus_here ∙ ap negative minus_known_here ∙ negative_zero _ c.if-m-eq0.true))
+returns-then-m-eq0 c =
+    ap answer (sym (field_minus _ c.in_ok-first.ensures c.requires c.if-cs-first-eq45.true ∙ ap negative (told_some c.in_ok-m.ensures) ∙ negative_zero _ c.if-m-eq0.true))
 
 pub overflow_cast-result : goal.overflow_cast-result
-overflow_cast-result c = let minus_known_here : decimal_of (drop (c.past_spaces-first.result + 1) c.args.cs.now) ≡ some c.in-Value.m = told_value (sym c.in-Value.is ∙ c.unsigned.ensures) in let minus_small_here : c.in-Value.m < 1000000 = decimal_six c.args.cs.now (c.past_spaces-first.result + 1) c.requires (minus_known_here) in record { sfits = omega (arith, minus_small_here) }
+overflow_cast-result c = record { sfits = omega (arith, decimal_rest _ _ c.requires (told_some c.in_ok-m.ensures)) }
 
 pub overflow_sub-result : goal.overflow_sub-result
-overflow_sub-result c = let minus_known_here : decimal_of (drop (c.past_spaces-first.result + 1) c.args.cs.now) ≡ some c.in-Value.m = told_value (sym c.in-Value.is ∙ c.unsigned.ensures) in let minus_small_here : c.in-Value.m < 1000000 = decimal_six c.args.cs.now (c.past_spaces-first.result + 1) c.requires (minus_known_here) in minus_fits _ minus_small_here c.if-m-eq0.false
+overflow_sub-result c = minus_fits _ (decimal_rest _ _ c.requires (told_some c.in_ok-m.ensures)) c.if-m-eq0.false
 
-pub returns-else-m-eq0 : goal.returns-else-m-eq0
-returns-else-m-eq0 c = let minus_here : field_of c.args.cs.now ≡ negative (decimal_of (drop (c.past_spaces-first.result + 1) c.args.cs.now)) = field_minus
-    c.requires
-    c.past_spaces-first.ensures
-    c.if-first-ge6.false
-    c.if-cs-first-eq45.true in let minus_known_here : decimal_of (drop (c.past_spaces-first.result + 1) c.args.cs.now) ≡ some c.in-Value.m = told_value (sym c.in-Value.is ∙ c.unsigned.ensures) in let minus_small_here : c.in-Value.m < 1000000 = decimal_six c.args.cs.now (c.past_spaces-first.result + 1) c.requires (minus_known_here) in
-    ap Number (to_z-of_z (minus_fits _ minus_small_here c.if-m-eq0.false) ∙ word_minus _ minus_small_here c.if-m-eq0.false)
-    ∙ ap field_answer (sym (minus_here ∙ ap negative minus_known_here ∙ negative_some _ c.if-m-eq0.false))
+pub returns-then-cs-first-eq45 : goal.returns-then-cs-first-eq45
+returns-then-cs-first-eq45 c =
+    let small : c.in_ok-m.m < 1000000 = decimal_rest _ _ c.requires (told_some c.in_ok-m.ensures) in
+    ap Some (to_z-of_z (minus_fits _ small c.if-m-eq0.false) ∙ word_minus _ small c.if-m-eq0.false)
+    ∙ ap answer (sym (field_minus _ c.in_ok-first.ensures c.requires c.if-cs-first-eq45.true ∙ ap negative (told_some c.in_ok-m.ensures) ∙ negative_some _ c.if-m-eq0.false))
 
-pub returns-in-Bad : goal.returns-in-Bad
-returns-in-Bad c = let minus_here : field_of c.args.cs.now ≡ negative (decimal_of (drop (c.past_spaces-first.result + 1) c.args.cs.now)) = field_minus
-    c.requires
-    c.past_spaces-first.ensures
-    c.if-first-ge6.false
-    c.if-cs-first-eq45.true in let minus_bad_here : decimal_of (drop (c.past_spaces-first.result + 1) c.args.cs.now) ≡ none = told_bad (sym c.in-Bad.is ∙ c.unsigned.ensures) in ap field_answer (sym (minus_here ∙ ap negative minus_bad_here))
+-- with no sign
+pub returns-in_err-m-2 : goal.returns-in_err-m-2
+returns-in_err-m-2 c =
+    c.from_residual-in_err-m-2.ensures
+    ∙ ap answer (sym (field_plus _ c.in_ok-first.ensures c.requires c.if-cs-first-eq45.false ∙ ap positive (told_none c.in_err-m-2.ensures)))
 
-pub overflow_cast-result-in-Value-unsigned : goal.overflow_cast-result-in-Value-unsigned
-overflow_cast-result-in-Value-unsigned c = let plus_known_here : decimal_of (drop c.past_spaces-first.result c.args.cs.now) ≡ some c.in-Value-unsigned.m = told_value (sym c.in-Value-unsigned.is ∙ c.unsigned-2.ensures) in let plus_small_here : c.in-Value-unsigned.m < 1000000 = decimal_six c.args.cs.now c.past_spaces-first.result c.requires (plus_known_here) in record { sfits = omega (arith, plus_small_here) }
+pub overflow_cast-result-2 : goal.overflow_cast-result-2
+overflow_cast-result-2 c = record { sfits = omega (arith, decimal_rest _ _ c.requires (told_some c.in_ok-m-2.ensures)) }
 
-pub returns-in-Value-unsigned : goal.returns-in-Value-unsigned
-returns-in-Value-unsigned c = let plus_here : field_of c.args.cs.now ≡ positive (decimal_of (drop c.past_spaces-first.result c.args.cs.now)) = field_plus
-    c.requires
-    c.past_spaces-first.ensures
-    c.if-first-ge6.false
-    c.if-cs-first-eq45.false in let plus_known_here : decimal_of (drop c.past_spaces-first.result c.args.cs.now) ≡ some c.in-Value-unsigned.m = told_value (sym c.in-Value-unsigned.is ∙ c.unsigned-2.ensures) in let plus_small_here : c.in-Value-unsigned.m < 1000000 = decimal_six c.args.cs.now c.past_spaces-first.result c.requires (plus_known_here) in
-    ap Number (word_plus _ plus_small_here)
-    ∙ ap field_answer (sym (plus_here ∙ ap positive plus_known_here))
-
-pub returns-in-Bad-unsigned : goal.returns-in-Bad-unsigned
-returns-in-Bad-unsigned c = let plus_here : field_of c.args.cs.now ≡ positive (decimal_of (drop c.past_spaces-first.result c.args.cs.now)) = field_plus
-    c.requires
-    c.past_spaces-first.ensures
-    c.if-first-ge6.false
-    c.if-cs-first-eq45.false in let plus_bad_here : decimal_of (drop c.past_spaces-first.result c.args.cs.now) ≡ none = told_bad (sym c.in-Bad-unsigned.is ∙ c.unsigned-2.ensures) in ap field_answer (sym (plus_here ∙ ap positive plus_bad_here))
+pub returns : goal.returns
+returns c =
+    ap Some (word_plus _ (decimal_rest _ _ c.requires (told_some c.in_ok-m-2.ensures)))
+    ∙ ap answer (sym (field_plus _ c.in_ok-first.ensures c.requires c.if-cs-first-eq45.false ∙ ap positive (told_some c.in_ok-m-2.ensures)))

@@ -1,19 +1,24 @@
 -- `fields::unsigned` meets its contract: each return is one case of `decimal_of`. Assumes nothing.
-use borrow.Author.Rules.{rules}
-use native.Mathlib.Omega.{arith}
-use mathlib.Core.Path.{ap, sym, ◌∙◌}
-use Rattle.fields.specs.Field.{decimal_answer}
-use Rattle.fields.specs.FieldLoops.{decimal_stops, decimal_last, decimal_more, decimal_other}
+use Rattle.std.proofs.Common.{sym, ap, ◌∙◌, length, eqb-true}
+use Rattle.std.proofs.lemmas.Bool.{eqb-false}
+use Rattle.fields.specs.Field.{answer}
+use Rattle.fields.specs.FieldLoops.{decimal_nil, decimal_lone, decimal_led, decimal_digits}
 use Rattle.fields.proofs.unsigned.Goals as goal
 
-pub returns-then-from-eq6 : goal.returns-then-from-eq6
-returns-then-from-eq6 c = ap decimal_answer (sym (decimal_stops c.args.cs.now c.args.from c.requires.0 c.if-from-eq6.true))
+pub returns-in_err-first : goal.returns-in_err-first
+returns-in_err-first c = c.from_residual.ensures ∙ ap answer (sym (decimal_nil _ c.in_err-first.ensures.cases))
 
-pub returns-then-from-eq5 : goal.returns-then-from-eq5
-returns-then-from-eq5 c = ap decimal_answer (sym (decimal_last c.args.cs.now c.args.from (search rules) c.if-from-eq5.true c.if-cs-from-eq48.true))
+pub returns-then-is_empty : goal.returns-then-is_empty
+returns-then-is_empty c =
+    let none_behind = eqb-true (length c.in_ok-first.rest.now) 0 (sym c.if-is_empty.ensures) in
+    rw c.in_ok-first.ensures.cases.0 (ap answer (sym (decimal_lone _ _ c.if-first-eq48.true none_behind)))
 
-pub returns-then-cs-from-eq48 : goal.returns-then-cs-from-eq48
-returns-then-cs-from-eq48 c = ap decimal_answer (sym (decimal_more c.args.cs.now c.args.from (search rules) (omega arith) c.if-cs-from-eq48.true))
+pub returns-then-first-eq48 : goal.returns-then-first-eq48
+returns-then-first-eq48 c =
+    let some_behind = eqb-false (length c.in_ok-first.rest.now) 0 (sym c.if-is_empty.ensures) in
+    rw c.in_ok-first.ensures.cases.0 (ap answer (sym (decimal_led _ _ c.if-first-eq48.true some_behind)))
 
 pub returns : goal.returns
-returns c = c.digits.ensures ∙ ap decimal_answer (sym (decimal_other c.args.cs.now c.args.from (search rules) (omega arith) c.if-cs-from-eq48.false))
+returns c =
+    let whole = c.in_ok-first.ensures.cases.0 in
+    c.digits.ensures ∙ rw whole (ap answer (sym (decimal_digits _ _ c.if-first-eq48.false)))

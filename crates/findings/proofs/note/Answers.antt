@@ -1,41 +1,42 @@
 -- `findings::note` meets its contract. Assumes nothing.
-use Rattle.findings.specs.NoteLaws.{marking_start, marking_next, marking_less, marking_done, marking_few}
-use Prim.Native.Nat.{◌+◌, ◌<◌, ◌≤◌, ◌^◌}
-use lib.ListN.{get_or, set}
-use native.Mathlib.Omega.{arith}
+use Rattle.std.specs.Prelude.{◌<◌, ◌^◌}
+use Rattle.std.proofs.Common.{arith, sym, ◌∙◌}
+use Rattle.findings.specs.NoteLaws.{marking_start, marking_next, marking_less, marking_done, marking_few, few}
 use Rattle.findings.proofs.note.Goals as goal
 
-pub loop-rest-init : goal.loop-rest-init
-loop-rest-init c = let h : c.args.cells < 2 ^ 64 = omega arith in
-    (marking_start _ _ _ _ h c.requires.noted_len.0, c.requires.noted_len.1, c.requires.noted_len.2)
+pub loop-x-init : goal.loop-x-init
+loop-x-init c = let h : c.args.cells < 2 ^ 64 = omega arith in marking_start _ _ _ _ h c.told-common c.told-counts
 
-pub lowest_cell-x-requires : goal.lowest_cell-x-requires
-lowest_cell-x-requires c = λ e. c.loop-rest-test.true e
+pub offset_bounds-common-x : goal.offset_bounds-common-x
+offset_bounds-common-x c = omega (arith, few c.loop-x.invariant _ (sym c.lowest.ensures ∙ c.in-Some.is))
 
-pub intersection-requires : goal.intersection-requires
-intersection-requires c = tt
+pub bounds-common-x : goal.bounds-common-x
+bounds-common-x c = few c.loop-x.invariant _ (sym c.lowest.ensures ∙ c.in-Some.is)
 
-pub overflow_add-noted : goal.overflow_add-noted
-overflow_add-noted c = let inv = c.loop-rest.invariant in
-    let at = c.lowest_cell-x in
-    let few : get_or (set c.loop-rest.noted at.result c.intersection.result) (c.args.from + at.result) 0 ≤ 2 ^ 32 = rw c.intersection.ensures (marking_few inv.1 inv.2 inv.0 at.result at.ensures.0 at.ensures.1 (2 ^ 32) (c.requires.by_index _ at.ensures.1)) in
-    record { fits = omega arith }
+pub offset_bounds-common-x-in-Some : goal.offset_bounds-common-x-in-Some
+offset_bounds-common-x-in-Some c = omega (arith, few c.loop-x.invariant _ (sym c.lowest.ensures ∙ c.in-Some.is))
 
-pub one-requires : goal.one-requires
-one-requires c = tt
+pub bounds-common-x-in-Some : goal.bounds-common-x-in-Some
+bounds-common-x-in-Some c = few c.loop-x.invariant _ (sym c.lowest.ensures ∙ c.in-Some.is)
 
-pub difference-rest-requires : goal.difference-rest-requires
-difference-rest-requires c = tt
+pub offset_bounds-counts-x : goal.offset_bounds-counts-x
+offset_bounds-counts-x c = omega (arith, few c.loop-x.invariant _ (sym c.lowest.ensures ∙ c.in-Some.is))
 
-pub loop-rest-preserved : goal.loop-rest-preserved
-loop-rest-preserved c = let inv = c.loop-rest.invariant in
-    let at = c.lowest_cell-x in
-    (rw (c.difference-rest.ensures, c.one.ensures, c.intersection.ensures) (marking_next inv.1 inv.2 inv.0 at.result at.ensures.0 at.ensures.1), inv.1, inv.2)
+pub bounds-counts-x : goal.bounds-counts-x
+bounds-counts-x c = few c.loop-x.invariant _ (sym c.lowest.ensures ∙ c.in-Some.is)
 
-pub loop-rest-smaller : goal.loop-rest-smaller
-loop-rest-smaller c = let inv = c.loop-rest.invariant in
-    let at = c.lowest_cell-x in
-    rw (c.difference-rest.ensures, c.one.ensures) (marking_less inv.1 inv.2 inv.0 at.result at.ensures.0 at.ensures.1)
+pub bounds-counts-x-in-Some : goal.bounds-counts-x-in-Some
+bounds-counts-x-in-Some c = few c.loop-x.invariant _ (sym c.lowest.ensures ∙ c.in-Some.is)
+
+pub overflow_add-counts : goal.overflow_add-counts
+overflow_add-counts c = let is = sym c.lowest.ensures ∙ c.in-Some.is in
+    record { fits = omega (arith, marking_few c.loop-x.invariant _ is (2 ^ 32) (c.requires _ (few c.loop-x.invariant _ is))) }
+
+pub loop-x-preserved : goal.loop-x-preserved
+loop-x-preserved c = rw (c.difference-rest.ensures, c.one.ensures, c.intersection.ensures) (marking_next c.loop-x.invariant _ (sym c.lowest.ensures ∙ c.in-Some.is))
+
+pub loop-x-smaller : goal.loop-x-smaller
+loop-x-smaller c = rw (c.difference-rest.ensures, c.one.ensures) (marking_less c.loop-x.invariant _ (sym c.lowest.ensures ∙ c.in-Some.is))
 
 pub returns : goal.returns
-returns c = marking_done c.loop-rest.invariant.1 c.loop-rest.invariant.2 c.loop-rest.invariant.0 c.loop-rest-test.false
+returns c = marking_done c.loop-x.invariant (sym c.lowest.ensures ∙ c.in_default.is)

@@ -1,11 +1,10 @@
 -- `findings::note` meets its contract. Assumes nothing.
 use Rattle.findings.specs.NoteLaws.{Marking}
 use Rattle.sets.specs.Set.{count}
-use Prim.Native.Nat.{◌≤◌}
 use Rattle.findings.proofs.note.Given as goal
 
-abbrev pub invariant-loop-rest : goal.invariant-loop-rest
-invariant-loop-rest l = Marking l.cells l.held l.from l.initial.noted l.noted l.rest × (64 ≤ l.from) × (l.from ≤ 128)
+abbrev pub invariant-loop-x : goal.invariant-loop-x
+invariant-loop-x l = Marking l.cells l.held l.initial.common l.common l.initial.counts l.counts l.rest
 
-abbrev pub decreases-loop-rest : goal.decreases-loop-rest
-decreases-loop-rest l = count l.rest
+abbrev pub decreases-loop-x : goal.decreases-loop-x
+decreases-loop-x l = count l.rest

@@ -1,10 +1,10 @@
 -- `findings::started_at` meets its contract. Assumes nothing.
-use mathlib.Core.Path.{refl, sym, ◌∙◌}
-use Rattle.findings.specs.LineLaws.{started_is}
+use Rattle.std.proofs.Common.{refl, sym, ◌∙◌}
+use Rattle.findings.specs.LineLaws.{seen, started_is}
 use Rattle.findings.proofs.started_at.Goals as goal
 
-pub returns-in-To : goal.returns-in-To
-returns-in-To c = c.one.ensures ∙ started_is _ _ _ c.requires refl (sym c.in-To.is ∙ c.starts_at.ensures)
+pub returns-in-Some : goal.returns-in-Some
+returns-in-Some c = c.one.ensures ∙ started_is _ _ (seen c.program.view_is _ c.line_of.ensures refl) (sym c.in-Some.is ∙ c.starts_at.ensures)
 
-pub returns-in-Nothing : goal.returns-in-Nothing
-returns-in-Nothing c = started_is _ _ _ c.requires refl (sym c.in-Nothing.is ∙ c.starts_at.ensures)
+pub returns-in-None : goal.returns-in-None
+returns-in-None c = started_is _ _ (seen c.program.view_is _ c.line_of.ensures refl) (sym c.in-None.is ∙ c.starts_at.ensures)

@@ -1,28 +1,55 @@
 -- `held_edges::append_routine` meets its contract. Its loop has appended the edges of the statements below s. Assumes nothing.
-use mathlib.Core.Path.{refl, sym}
-use native.Mathlib.Omega.{arith}
+use Rattle.std.proofs.Common.{refl, sym, ap, arith, ◌∙◌}
 use Rattle.sets.proofs.AppendLaws.{appended_same}
+use Rattle.declarations.specs.Laid.{laid_for, few_routines, few_statements}
+use Rattle.held_edges.specs.TableEdges.{writing_alone, bases_of}
 use Rattle.held_edges.specs.GoingLaws.{going_start, going_next, going_as}
-use Rattle.held_edges.specs.RoutineEdgeLaws.{few_routines, first_grows_at, small_here, fits_here, part_here}
+use Rattle.held_edges.specs.RoutineEdgeLaws.{begins, first_grows, in_range, statement_there, fits_here, part_here, viewed, low_bases}
 use Rattle.held_edges.proofs.append_routine.Goals as goal
 
-pub overflow_add-c : goal.overflow_add-c
-overflow_add-c c = omega (arith, c.requires.c_bound, few_routines c.args.numbers.now c.args.first.now c.requires.accepted c.requires.first_value)
-
 pub loop-s-init : goal.loop-s-init
-loop-s-init c = (omega (arith, c.number_at-s.ensures), omega (arith, c.number_at-end.ensures, c.number_at-s.ensures, first_grows_at c.args.numbers.now c.args.first.now c.requires.accepted c.requires.first_value c.args.c c.requires.c_bound), going_start (sym c.number_at-s.ensures))
+loop-s-init c =
+    let laid = laid_for c.program.view_is c.program.invariant in
+    going_start (sym (begins _ _ laid.accepted laid.firsts (omega (arith, c.requires)) c.value_at-s.ensures))
 
-pub overflow_add-base : goal.overflow_add-base
-overflow_add-base c = omega (arith, c.first_line-base.ensures.small, small_here c.args.numbers.now c.args.first.now c.requires.accepted c.requires.first_value c.args.c c.loop-s.s c.first_line-base.result c.requires.c_bound c.loop-s.invariant.0 (omega (arith, c.loop-s-test.true, c.number_at-end.ensures)) c.first_line-base.ensures.is)
+pub line_of-requires : goal.line_of-requires
+line_of-requires c =
+    let laid = laid_for c.program.view_is c.program.invariant in
+    let inside = in_range _ _ laid.accepted laid.firsts c.requires c.value_at-s.ensures c.value_at-s-end.ensures c.loop-s.auto.s c.loop-s-test.true in
+    statement_there _ _ laid.accepted laid.firsts c.args.c c.loop-s.s c.requires inside
 
-pub append_statement-m-requires : goal.append_statement-m-requires
-append_statement-m-requires c = fits_here c.args.numbers.now c.args.first.now c.requires.accepted c.requires.first_value c.args.c c.loop-s.s c.first_line-base.result c.requires.c_bound c.loop-s.invariant.0 (omega (arith, c.loop-s-test.true, c.number_at-end.ensures)) c.first_line-base.ensures.is c.args.writing c.bases_of-bases.ensures c.view_at-view.ensures
+pub invariant_of-here-clause-small : goal.invariant_of-here-clause-small
+invariant_of-here-clause-small c =
+    let laid = laid_for c.program.view_is c.program.invariant in
+    let inside = in_range _ _ laid.accepted laid.firsts c.requires c.value_at-s.ensures c.value_at-s-end.ensures c.loop-s.auto.s c.loop-s-test.true in
+    let there = statement_there _ _ laid.accepted laid.firsts c.args.c c.loop-s.s c.requires inside in
+    (omega (arith, there, few_statements c.program.view_is c.program.invariant), omega (arith, c.requires, few_routines c.program.view_is c.program.invariant))
 
-pub overflow_add-s : goal.overflow_add-s
-overflow_add-s c = omega (arith, c.loop-s-test.true, small_here c.args.numbers.now c.args.first.now c.requires.accepted c.requires.first_value c.args.c c.loop-s.s c.first_line-base.result c.requires.c_bound c.loop-s.invariant.0 (omega (arith, c.loop-s-test.true, c.number_at-end.ensures)) c.first_line-base.ensures.is)
+pub invariant_of-here-clause-low : goal.invariant_of-here-clause-low
+invariant_of-here-clause-low c =
+    let laid = laid_for c.program.view_is c.program.invariant in
+    rw (c.bases_of-bases.ensures.is ∙ ap bases_of c.program.view_is) (low_bases _ _ laid.accepted laid.firsts)
+
+pub invariant_of-here-clause-fit : goal.invariant_of-here-clause-fit
+invariant_of-here-clause-fit c =
+    let laid = laid_for c.program.view_is c.program.invariant in
+    let inside = in_range _ _ laid.accepted laid.firsts c.requires c.value_at-s.ensures c.value_at-s-end.ensures c.loop-s.auto.s c.loop-s-test.true in
+    let there = statement_there _ _ laid.accepted laid.firsts c.args.c c.loop-s.s c.requires inside in
+    let view_is = viewed c.program.view_is c.line_of.ensures there (writing_alone c.args.mode) (rw (← c.writing_alone-writing.ensures) c.view_at-view.ensures) in
+    fits_here _ _ laid.accepted laid.firsts c.args.c c.loop-s.s c.requires inside _ view_is
 
 pub loop-s-preserved : goal.loop-s-preserved
-loop-s-preserved c = (omega (arith, c.loop-s.invariant.0), omega (arith, c.loop-s-test.true), going_next c.loop-s.invariant.2 (appended_same _ _ (part_here c.args.numbers.now c.args.first.now c.requires.accepted c.requires.first_value c.args.c c.loop-s.s c.first_line-base.result c.requires.c_bound c.loop-s.invariant.0 (omega (arith, c.loop-s-test.true, c.number_at-end.ensures)) c.first_line-base.ensures.is c.args.writing c.bases_of-bases.ensures c.view_at-view.ensures) c.append_statement-m.ensures))
+loop-s-preserved c =
+    let laid = laid_for c.program.view_is c.program.invariant in
+    let inside = in_range _ _ laid.accepted laid.firsts c.requires c.value_at-s.ensures c.value_at-s-end.ensures c.loop-s.auto.s c.loop-s-test.true in
+    let there = statement_there _ _ laid.accepted laid.firsts c.args.c c.loop-s.s c.requires inside in
+    let view_is = viewed c.program.view_is c.line_of.ensures there (writing_alone c.args.mode) (rw (← c.writing_alone-writing.ensures) c.view_at-view.ensures) in
+    going_next c.loop-s.invariant (appended_same _ _ (part_here _ _ laid.accepted laid.firsts c.args.c c.loop-s.s c.requires inside _ view_is (c.bases_of-bases.ensures.is ∙ ap bases_of c.program.view_is)) c.append_statement.ensures)
 
 pub returns : goal.returns
-returns c = going_as refl (omega (arith, c.loop-s-test.false, c.loop-s.invariant.1, c.number_at-end.ensures)) c.loop-s.invariant.2
+returns c =
+    let laid = laid_for c.program.view_is c.program.invariant in
+    let from = begins _ _ laid.accepted laid.firsts (omega (arith, c.requires)) c.value_at-s.ensures in
+    let end = begins _ _ laid.accepted laid.firsts (omega (arith, c.requires)) c.value_at-s-end.ensures in
+    let last = c.loop-s.auto.s-end (omega (arith, from, end, first_grows _ _ laid.accepted laid.firsts c.args.c c.requires)) in
+    going_as refl (omega (arith, c.loop-s-test.false, last, end)) c.loop-s.invariant

@@ -1,104 +1,40 @@
 -- `lines::read_numbers` meets its contract: before line i every line is good and its numbers stand in their places. Assumes nothing.
-use Rattle.lines.proofs.LineLoops.{Left, page_start, next_inside, page_in, page_few, line_inside, line_room, page_field, page_feed, page_bad_field, page_bad_feed, page_done, answer_bad, answer_good}
-use Rattle.fields.specs.FieldLoops.{told_number, told_no_field}
-use mir.Facts.{to_z-of_z}
-use mir.Syntax.{w32}
-use lib.ListN.{length}
-use Prim.Native.Nat.{◌+◌, ◌*◌, ◌≤◌, ◌<◌}
-use mathlib.Core.Path.{sym, ◌∙◌}
-use native.Mathlib.Omega.{arith}
-use borrow.Author.Rules.{rules}
+use Rattle.std.proofs.Common.{◌≡◌, ℕ, ◌*◌, sym, ap, ◌∙◌, arith, rules, w32, to_z-of_z}
+use Rattle.std.proofs.Math.Path.{refl}
+use Rattle.fields.specs.Field.{field_of, answer}
+use Rattle.lines.proofs.LineLoops.{told_some, told_none, page_start, page_next, page_stop, page_done, reading_bad, line_next, line_end, line_field, line_last, line_no_feed, next_inside}
 use Rattle.lines.proofs.read_numbers.Goals as goal
-use Rattle.lines.proofs.read_numbers.Goals.{else-lines-test, then-lines-test+then-loop-j-test+in_default, then-lines-test+else-loop-j-test+then-text-i-ne10}
 
 pub lines-init : goal.lines-init
-lines-init c = page_start _ _ _ c.line_count-lines.ensures c.requires
-
--- before line i is looked at
-pub overflow_mul-i : goal.overflow_mul-i
-overflow_mul-i c = omega (arith, (next_inside c.lines.invariant c.lines-test.true).2)
-
-pub overflow_mul-i-in-lines : goal.overflow_mul-i-in-lines
-overflow_mul-i-in-lines c = omega (arith, (next_inside c.lines.invariant c.lines-test.true).2)
-
-pub quick_fields-j-requires : goal.quick_fields-j-requires
-quick_fields-j-requires c = let n = next_inside c.lines.invariant c.lines-test.true in record { at_in_bounds = n.0; base_in_bounds = n.1 }
+lines-init c = (page_start _ _ _ c.line_count-lines.ensures c.requires, refl)
 
 pub loop-j-init : goal.loop-j-init
-loop-j-init c = page_in c.lines.invariant c.lines-test.true c.quick_fields-j.ensures
-
-pub overflow_mul-i-in-loop-j : goal.overflow_mul-i-in-loop-j
-overflow_mul-i-in-loop-j c = let inside_here : (49 * c.lines.i + 49 ≤ length c.args.text.now) × (c.lines.i < 673) = (line_inside c.loop-j.invariant, omega (arith, c.loop-j.invariant.more, (page_few c.args.text.now c.line_count-lines.result c.loop-j.invariant.counted).0)) in omega (arith, inside_here)
-
-pub overflow_mul-j : goal.overflow_mul-j
-overflow_mul-j c = omega (arith, c.loop-j-test.true)
-
-pub overflow_add-i : goal.overflow_add-i
-overflow_add-i c = let inside_here : (49 * c.lines.i + 49 ≤ length c.args.text.now) × (c.lines.i < 673) = (line_inside c.loop-j.invariant, omega (arith, c.loop-j.invariant.more, (page_few c.args.text.now c.line_count-lines.result c.loop-j.invariant.counted).0)) in omega (arith, inside_here, c.loop-j-test.true)
-
-pub overflow_mul-z : goal.overflow_mul-z
-overflow_mul-z c = let inside_here : (49 * c.lines.i + 49 ≤ length c.args.text.now) × (c.lines.i < 673) = (line_inside c.loop-j.invariant, omega (arith, c.loop-j.invariant.more, (page_few c.args.text.now c.line_count-lines.result c.loop-j.invariant.counted).0)) in omega (arith, inside_here)
-
-pub overflow_add-z : goal.overflow_add-z
-overflow_add-z c = let inside_here : (49 * c.lines.i + 49 ≤ length c.args.text.now) × (c.lines.i < 673) = (line_inside c.loop-j.invariant, omega (arith, c.loop-j.invariant.more, (page_few c.args.text.now c.line_count-lines.result c.loop-j.invariant.counted).0)) in omega (arith, inside_here, c.loop-j-test.true)
-
-pub offset_bounds-numbers-i : goal.offset_bounds-numbers-i
-offset_bounds-numbers-i c = let inside_here : (49 * c.lines.i + 49 ≤ length c.args.text.now) × (c.lines.i < 673) = (line_inside c.loop-j.invariant, omega (arith, c.loop-j.invariant.more, (page_few c.args.text.now c.line_count-lines.result c.loop-j.invariant.counted).0)) in omega (arith, inside_here, c.loop-j-test.true)
-
-pub bounds-numbers-i : goal.bounds-numbers-i
-bounds-numbers-i c = omega (arith, line_room c.loop-j.invariant, c.loop-j-test.true)
-
-pub overflow_add-j : goal.overflow_add-j
-overflow_add-j c = omega (arith, c.loop-j-test.true)
-
-pub loop-j-smaller : goal.loop-j-smaller
-loop-j-smaller c = omega (arith, c.loop-j-test.true)
-
-pub overflow_mul-i-in-lines-2 : goal.overflow_mul-i-in-lines-2
-overflow_mul-i-in-lines-2 c = let inside_here : (49 * c.lines.i + 49 ≤ length c.args.text.now) × (c.lines.i < 673) = (line_inside c.loop-j.invariant, omega (arith, c.loop-j.invariant.more, (page_few c.args.text.now c.line_count-lines.result c.loop-j.invariant.counted).0)) in omega (arith, inside_here)
-
-pub overflow_add-i-in-lines : goal.overflow_add-i-in-lines
-overflow_add-i-in-lines c = let inside_here : (49 * c.lines.i + 49 ≤ length c.args.text.now) × (c.lines.i < 673) = (line_inside c.loop-j.invariant, omega (arith, c.loop-j.invariant.more, (page_few c.args.text.now c.line_count-lines.result c.loop-j.invariant.counted).0)) in omega (arith, inside_here)
-
-pub bounds-text-i : goal.bounds-text-i
-bounds-text-i c = let inside_here : (49 * c.lines.i + 49 ≤ length c.args.text.now) × (c.lines.i < 673) = (line_inside c.loop-j.invariant, omega (arith, c.loop-j.invariant.more, (page_few c.args.text.now c.line_count-lines.result c.loop-j.invariant.counted).0)) in omega (arith, inside_here)
-
-pub overflow_add-i-in-lines-2 : goal.overflow_add-i-in-lines-2
-overflow_add-i-in-lines-2 c = let inside_here : (49 * c.lines.i + 49 ≤ length c.args.text.now) × (c.lines.i < 673) = (line_inside c.loop-j.invariant, omega (arith, c.loop-j.invariant.more, (page_few c.args.text.now c.line_count-lines.result c.loop-j.invariant.counted).0)) in omega (arith, inside_here)
-
-pub lines-smaller : goal.lines-smaller
-lines-smaller c = omega (arith, c.lines-test.true)
-
-pub lines-preserved : goal.lines-preserved
-lines-preserved c = page_feed c.loop-j.invariant c.loop-j-test.false c.if-text-i-ne10.false
+loop-j-init c = (c.put_quick-j.ensures, c.lines.invariant.1)
 
 pub loop-j-preserved : goal.loop-j-preserved
 loop-j-preserved c =
-    rw (to_z-of_z {w = w32} {z = c.in-Number.z} (search rules))
-    (page_field c.loop-j.invariant c.in-Number.z c.loop-j-test.true (told_number (sym c.in-Number.is ∙ c.field_in.ensures)))
+    rw (to_z-of_z {w = w32} {z = c.in-Some.z} (search rules))
+    (line_next _ _ c.loop-j.invariant.0 c.in-Some.z c.loop-j-test.true (told_some c.in-Some.ensures), c.loop-j.invariant.1)
 
-pub returns-then-i-lines : goal.returns-then-i-lines
-returns-then-i-lines c =
-    let l : Left c.args.text.now c.line_count-lines.result c.lines.i c.lines-test.numbers =
-    elim c.lines-test.branch [
-      | else-lines-test w ↦ rw w.numbers-is (page_done c.lines.invariant w.lines-test.false)
-      | then-lines-test+then-loop-j-test+in_default w ↦
-          rw w.numbers-is (page_bad_field w.loop-j.invariant w.loop-j-test.true (told_no_field (sym w.in_default.is ∙ w.field_in.ensures)))
-      | then-lines-test+else-loop-j-test+then-text-i-ne10 w ↦
-          rw w.numbers-is (page_bad_feed w.loop-j.invariant w.loop-j-test.false w.if-text-i-ne10.true)
-    ] in
-    let told = answer_bad _ _ c.lines-test.numbers (l.bad c.if-i-lines.true) in
-    record { found = told.0; numbers = told.1 }
+pub lines-preserved : goal.lines-preserved
+lines-preserved c =
+    let p = c.lines.invariant.0 in
+    let h = c.lines-test.true in
+    (page_next p h (line_end _ _ (next_inside p h).0 c.if-text-at-ne10.false c.loop-j.invariant.0 c.loop-j-test.false) (omega arith), c.loop-j.invariant.1)
 
-pub returns : goal.returns
-returns c =
-    let l : Left c.args.text.now c.line_count-lines.result c.lines.i c.lines-test.numbers =
-    elim c.lines-test.branch [
-      | else-lines-test w ↦ rw w.numbers-is (page_done c.lines.invariant w.lines-test.false)
-      | then-lines-test+then-loop-j-test+in_default w ↦
-          rw w.numbers-is (page_bad_field w.loop-j.invariant w.loop-j-test.true (told_no_field (sym w.in_default.is ∙ w.field_in.ensures)))
-      | then-lines-test+else-loop-j-test+then-text-i-ne10 w ↦
-          rw w.numbers-is (page_bad_feed w.loop-j.invariant w.loop-j-test.false w.if-text-i-ne10.true)
-    ] in
-    let told = answer_good _ c.lines-test.numbers (l.good c.if-i-lines.false) in
-    record { found = told.0; numbers = told.1 }
+pub returns-after-lines : goal.returns-after-lines
+returns-after-lines c =
+    let all = page_done c.lines.invariant.0 c.lines-test.false in
+    record { found = c.lines.invariant.1 ∙ ap answer (sym all.0); numbers = λ g. all.1 }
+
+pub returns-in_default : goal.returns-in_default
+returns-in_default c =
+    let no_field = ap field_of (line_field c.args.text.now (49 * c.lines.i) c.loop-j.j c.loop-j-test.true) ∙ told_none (sym c.in_default.is ∙ c.field_in.ensures) in
+    let bad = page_stop c.lines.invariant.0 c.lines-test.true (reading_bad c.loop-j.invariant.0 c.loop-j-test.true no_field) in
+    record { found = ap answer (sym bad); numbers = λ none_bad. let z : ◌≡◌ {A = ℕ} 0 1 = cc in absurd (omega arith) }
+
+pub returns-then-text-at-ne10 : goal.returns-then-text-at-ne10
+returns-then-text-at-ne10 c =
+    let no_feed = line_no_feed _ (λ e. c.if-text-at-ne10.true (sym (line_last c.args.text.now (49 * c.lines.i)) ∙ e)) in
+    let bad = page_stop c.lines.invariant.0 c.lines-test.true no_feed in
+    record { found = ap answer (sym bad); numbers = λ none_bad. let z : ◌≡◌ {A = ℕ} 0 1 = cc in absurd (omega arith) }

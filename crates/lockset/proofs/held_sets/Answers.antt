@@ -1,21 +1,23 @@
 -- `lockset::held_sets` meets its contract. Assumes nothing.
-use mathlib.Core.Path.{sym, ap, ◌∙◌}
-use lib.Seq.{length-take-le}
-use native.Mathlib.Omega.{arith}
-use Prim.Native.Nat.{◌+◌}
+use Rattle.std.specs.Prelude.{List}
+use Rattle.std.proofs.Common.{ap, ap₂, ◌∙◌, arith, rules, of_calls}
+use Rattle.sets.specs.Least.{Edge, edges_of}
 use Rattle.sets.specs.Set.{firsts}
+use Rattle.table.specs.Header.{locks}
 use Rattle.held_edges.specs.TableEdges.{bases_of}
-use Rattle.lockset.specs.SettleLaws.{locks_are, zeros_own, out_is, out_long, held_front}
+use Rattle.declarations.specs.Laid.{laid_for, few_statements}
+use Rattle.lockset.specs.SettleLaws.{locks_are, out_is, held_front}
 use Rattle.lockset.proofs.held_sets.Goals as goal
 
-pub fill_start-requires : goal.fill_start-requires
-fill_start-requires c = zeros_own ((bases_of c.args.numbers.now).every + 1) c.requires.out_value
-
-pub slice_bounds-turn_round-end : goal.slice_bounds-turn_round-end
-slice_bounds-turn_round-end c = out_long c.args.numbers.now c.requires.accepted c.args.writing c.args.flow.now (λ i. omega (arith, c.shared_slice_known-2-1.given i)) c.args.given.now (λ i. omega (arith, c.shared_slice_known-3-1.given i)) (out_is c.args.numbers.now c.requires.accepted c.args.writing c.args.flow.now (λ i. omega (arith, c.shared_slice_known-2-1.given i)) c.args.given.now (λ i. omega (arith, c.shared_slice_known-3-1.given i)) c.requires.out_value c.bases_of-bases.ensures (c.firsts-all.ensures ∙ ap firsts c.field_of.ensures.is ∙ locks_are c.args.numbers.now) c.fill_start.ensures c.fill-n.ensures c.settle.ensures) (ap (λ b. b.back) c.bases_of-bases.ensures)
-
-pub slice_bounds-turn_round-end-2 : goal.slice_bounds-turn_round-end-2
-slice_bounds-turn_round-end-2 c = sym (length-take-le _ _ (out_long c.args.numbers.now c.requires.accepted c.args.writing c.args.flow.now (λ i. omega (arith, c.shared_slice_known-2-1.given i)) c.args.given.now (λ i. omega (arith, c.shared_slice_known-3-1.given i)) (out_is c.args.numbers.now c.requires.accepted c.args.writing c.args.flow.now (λ i. omega (arith, c.shared_slice_known-2-1.given i)) c.args.given.now (λ i. omega (arith, c.shared_slice_known-3-1.given i)) c.requires.out_value c.bases_of-bases.ensures (c.firsts-all.ensures ∙ ap firsts c.field_of.ensures.is ∙ locks_are c.args.numbers.now) c.fill_start.ensures c.fill-n.ensures c.settle.ensures) (ap (λ b. b.back) c.bases_of-bases.ensures)))
+pub fill-requires : goal.fill-requires
+fill-requires c = (c.requires.edges_room, omega (arith, few_statements c.program.view_is c.program.invariant))
 
 pub returns : goal.returns
-returns c = held_front c.args.numbers.now c.requires.accepted c.args.writing c.args.flow.now (λ i. omega (arith, c.shared_slice_known-2-1.given i)) c.args.given.now (λ i. omega (arith, c.shared_slice_known-3-1.given i)) _ (out_is c.args.numbers.now c.requires.accepted c.args.writing c.args.flow.now (λ i. omega (arith, c.shared_slice_known-2-1.given i)) c.args.given.now (λ i. omega (arith, c.shared_slice_known-3-1.given i)) c.requires.out_value c.bases_of-bases.ensures (c.firsts-all.ensures ∙ ap firsts c.field_of.ensures.is ∙ locks_are c.args.numbers.now) c.fill_start.ensures c.fill-n.ensures c.settle.ensures) (c.firsts-all.ensures ∙ ap firsts c.field_of.ensures.is ∙ locks_are c.args.numbers.now) (ap (λ b. b.back) c.bases_of-bases.ensures) c.turn_round.ensures
+returns c =
+    let acc = (laid_for c.program.view_is c.program.invariant).accepted in
+    let all = c.firsts-all.ensures ∙ ap firsts (c.field_of.ensures.is ∙ ap locks c.program.view_is) ∙ locks_are c.args.program.now in
+    let bases = c.bases_of-bases.ensures.is ∙ ap bases_of c.program.view_is in
+    let edges = ap₂ {C = List Edge} edges_of c.edges.ensures c.also.ensures ∙ c.fill.ensures.is in
+    let start = c.fill_each.ensures _ (λ p r l h. search (rules, of_calls)) in
+    let out = out_is _ acc _ _ (λ i. omega (arith, c.type_inv.flow i)) _ (λ i. omega (arith, c.type_inv.given i)) c.requires.out_len bases all start edges c.solve.ensures in
+    held_front _ acc _ _ (λ i. omega (arith, c.type_inv.flow i)) _ (λ i. omega (arith, c.type_inv.given i)) _ out all (ap (λ b. b.back) bases) c.turn_round.ensures

@@ -1,17 +1,14 @@
--- `lockset::turn_round` meets its contract. Its loop has turned round the sets below p. Assumes nothing.
+-- `lockset::turn_round` meets its contract. Its loop has turned round the sets before it. Assumes nothing.
 use native.Mathlib.Omega.{arith}
 use Rattle.table.proofs.TabulateLaws.{rewritten_none}
 use Rattle.lockset.specs.SettleLaws.{turned_next, turned_done}
 use Rattle.lockset.proofs.turn_round.Goals as goal
 
-pub loop-p-init : goal.loop-p-init
-loop-p-init c = rewritten_none _ _
+pub loop-set-init : goal.loop-set-init
+loop-set-init c = rewritten_none _ _
 
-pub loop-p-smaller : goal.loop-p-smaller
-loop-p-smaller c = omega (arith, c.loop-p.invariant.filled.long)
-
-pub loop-p-preserved : goal.loop-p-preserved
-loop-p-preserved c = turned_next _ _ c.loop-p.invariant c.loop-p-test.true c.difference.ensures
+pub loop-set-preserved : goal.loop-set-preserved
+loop-set-preserved c = turned_next _ _ c.loop-set.invariant (omega (arith, c.loop-set-test.true, c.loop-set.invariant.filled.long)) c.difference.ensures
 
 pub returns : goal.returns
-returns c = turned_done _ _ c.loop-p.invariant c.loop-p-test.false
+returns c = turned_done _ _ c.loop-set.invariant (omega (arith, c.loop-set-test.false, c.loop-set.invariant.filled.long))

@@ -1,11 +1,7 @@
 -- `modes::put_writing` meets its contract. Its loop has put the sets below s. Assumes nothing.
-use Prim.Native.Nat.{◌-◌}
 use Rattle.table.proofs.TabulateLaws.{Rewritten}
 use Rattle.modes.specs.ModeLoops.{way}
 use Rattle.modes.proofs.put_writing.Given as goal
 
 abbrev pub invariant-loop-s : goal.invariant-loop-s
 invariant-loop-s l = Rewritten (way l.numbers l.initial.work) l.initial.work l.work l.s
-
-abbrev pub decreases-loop-s : goal.decreases-loop-s
-decreases-loop-s l = l.count - l.s

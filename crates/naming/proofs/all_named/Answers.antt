@@ -7,14 +7,8 @@ use Rattle.naming.proofs.all_named.Goals as goal
 pub loop-r-init : goal.loop-r-init
 loop-r-init c = (zero-le, gathering_start _ _ _)
 
-pub set_at-requires : goal.set_at-requires
-set_at-requires c = tt
-
-pub union-all-requires : goal.union-all-requires
-union-all-requires c = tt
-
 pub loop-r-preserved : goal.loop-r-preserved
-loop-r-preserved c = (omega arith, rw (c.union-all.ensures, c.set_at.ensures) (gathering_next _ _ _ _ _ c.loop-r.invariant.1 (omega (arith, c.loop-r-test.true, c.requires.few))))
+loop-r-preserved c = (omega arith, rw (c.union-all.ensures, c.value_at.ensures) (gathering_next _ _ _ _ _ c.loop-r.invariant.1 (omega (arith, c.loop-r-test.true, c.requires.few))))
 
 pub returns : goal.returns
 returns c = gathering_rest _ _ _ _ _ c.loop-r.invariant.1 (λ k h. c.requires.behind k (omega (arith, c.loop-r-test.false, h)))

@@ -9,9 +9,6 @@ loop-s-init c = gathering_start _ _ _
 pub named_by-requires : goal.named_by-requires
 named_by-requires c = omega arith
 
-pub union-named-requires : goal.union-named-requires
-union-named-requires c = tt
-
 pub loop-s-preserved : goal.loop-s-preserved
 loop-s-preserved c = rw (c.union-named.ensures, c.named_by.ensures) (gathering_next _ _ _ _ _ c.loop-s.invariant c.loop-s-test.true)
 

@@ -6,9 +6,6 @@ use Rattle.table.specs.Naming.{names_in}
 use Rattle.table.proofs.TabulateLaws.{begun_none, begun_next, begun_rest}
 use Rattle.naming.proofs.names_in.Goals as goal
 
-pub field_of-count-requires : goal.field_of-count-requires
-field_of-count-requires c = tt
-
 pub loop-r-init : goal.loop-r-init
 loop-r-init c = (zero-le, begun_none _ 32)
 

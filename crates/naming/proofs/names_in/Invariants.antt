@@ -1,11 +1,8 @@
 -- `naming::names_in` meets its contract. Assumes nothing.
-use Prim.Native.Nat.{◌-◌, ◌≤◌}
+use Prim.Native.Nat.{◌≤◌}
 use Rattle.table.specs.Naming.{names_of}
 use Rattle.table.specs.TabulateLaws.{Begun}
 use Rattle.naming.proofs.names_in.Given as goal
 
 abbrev pub invariant-loop-r : goal.invariant-loop-r
 invariant-loop-r l = (l.r ≤ l.count) × Begun (names_of l.numbers) l.names 32 l.r
-
-abbrev pub decreases-loop-r : goal.decreases-loop-r
-decreases-loop-r l = l.count - l.r

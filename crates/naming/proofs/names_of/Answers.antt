@@ -7,14 +7,8 @@ use Rattle.table.specs.Naming.{names_of, named_by, gather}
 use Rattle.table.proofs.Lists.{statements_begin, begin_early}
 use Rattle.naming.proofs.names_of.Goals as goal
 
-pub number_at-requires : goal.number_at-requires
-number_at-requires c = tt
-
-pub number_at-requires-2 : goal.number_at-requires-2
-number_at-requires-2 c = tt
-
 pub named_among-requires : goal.named_among-requires
-named_among-requires c = omega (arith, c.number_at-2.ensures, begin_early c.requires.statements_begin (c.args.r + 1))
+named_among-requires c = omega (arith, c.value_at-2.ensures, begin_early c.requires.statements_begin (c.args.r + 1))
 
 pub returns : goal.returns
 unfolding names_of
@@ -23,5 +17,5 @@ returns c =
     let r = c.args.r in
     rw (lt-ltb _ _ c.requires.r_bound)
     (c.named_among.ensures
-    ∙ ap₂ (λ (p q : ℕ). gather (named_by f) 0 p (q - p)) (c.number_at.ensures ∙ statements_begin c.requires.statements_begin r (omega (arith, c.requires.r_bound)))
-    (c.number_at-2.ensures ∙ statements_begin c.requires.statements_begin (r + 1) (omega (arith, c.requires.r_bound))))
+    ∙ ap₂ (λ (p q : ℕ). gather (named_by f) 0 p (q - p)) (c.value_at.ensures ∙ statements_begin c.requires.statements_begin r (omega (arith, c.requires.r_bound)))
+    (c.value_at-2.ensures ∙ statements_begin c.requires.statements_begin (r + 1) (omega (arith, c.requires.r_bound))))

@@ -1,11 +1,16 @@
 -- `own_holds::add_writing` meets its contract. Assumes nothing.
-use mathlib.Core.Path.{◌∙◌}
-use native.Mathlib.Omega.{arith}
-use Rattle.own_holds.specs.OwnLaws.{places_long, put_held}
+use Rattle.std.proofs.Common.{ap, arith, ◌∙◌}
+use Rattle.own_holds.specs.OwnLaws.{places_long, put_held, needed}
+use Rattle.held_edges.specs.TableEdges.{writing_alone}
 use Rattle.own_holds.proofs.add_writing.Goals as goal
 
-pub writing_holds-requires : goal.writing_holds-requires
-writing_holds-requires c = record { accepted = c.requires.accepted; first_value = c.requires.first_value; numbers_in_bounds = c.requires.numbers_in_bounds; out_len = places_long c.args.numbers.now c.args.work.now c.field_of-count.result c.places_of.result c.field_of-count.ensures.is (omega (arith, c.places_of.ensures)) (omega (arith, c.places_of.ensures, c.requires.numbers_in_bounds_2)) ∙ c.places_of.ensures }
+pub held_sets-requires : goal.held_sets-requires
+held_sets-requires c = let places = c.places_of.ensures ∙ ap needed c.program.view_is in record {
+  edges_room = c.requires.edges_room;
+  out_len = places_long c.args.program.now c.args.work.now c.statements-count.result c.places_of.result c.statements-count.ensures.is (omega (arith, places)) (omega (arith, places, c.requires.work_room)) ∙ places;
+}
 
 pub returns : goal.returns
-returns c = put_held c.args.numbers.now c.args.work.now c.field_of-count.result c.places_of.result c.field_of-count.ensures.is (omega (arith, c.places_of.ensures)) (omega (arith, c.places_of.ensures, c.requires.numbers_in_bounds_2)) c.writing_holds.new.out c.writing_holds.auto.out _ _ c.writing_holds.ensures c.put_writing.ensures
+unfolding writing_alone
+returns c = let places = c.places_of.ensures ∙ ap needed c.program.view_is in
+    put_held c.args.program.now c.args.work.now c.statements-count.result c.places_of.result c.statements-count.ensures.is (omega (arith, places)) (omega (arith, places, c.requires.work_room)) c.held_sets.new.out c.held_sets.auto.out _ _ c.held_sets.ensures (rw c.program.view_is at c.put_writing.ensures)

@@ -1,20 +1,26 @@
--- `passes::pass_down` meets its contract. Its loop has gone along the edges from k on. Assumes nothing.
-use Prim.Native.Nat.{◌+◌}
-use Rattle.passes.specs.PassLaws.{passed_start, passed_as, passed_down, passed_down_two}
-use mathlib.Core.Path.{◌≡◌, refl}
+-- `passes::pass_down` meets its contract. Its loop has gone along all edges but the first i pairs. Assumes nothing.
+use Prim.Native.Nat.{◌+◌, ◌-◌}
+use lib.ListN.{length}
+use mathlib.Core.Path.{refl}
 use native.Mathlib.Omega.{arith}
+use Rattle.passes.specs.PassLaws.{passed_start, passed_as, passed_down, passed_down_two}
+use Rattle.passes.proofs.pass_down.Goals.{then-n-eq1, else-n-eq1}
 use Rattle.passes.proofs.pass_down.Goals as goal
 
-pub loop-k-init : goal.loop-k-init
-loop-k-init c = (omega arith, passed_start _ _ _ _ _ (omega arith))
+pub loop-i-init : goal.loop-i-init
+loop-i-init c =
+    elim c.if-n-eq1.branch [
+      | then-n-eq1 w ↦
+          rw (w.sets-is, w.changed-is)
+          (passed_as _ _ (omega arith) refl
+          (passed_down _ _ (c.len-n.result - 1) (omega arith) (passed_start _ _ _ (c.len-n.result - 1 + 1) (length c.args.edges.ends.now) (omega arith)) w.put_edge-changed.ensures))
+      | else-n-eq1 w ↦ rw (w.sets-is, w.changed-is) (passed_start _ _ _ _ _ (omega arith))
+    ]
 
-pub loop-k-preserved : goal.loop-k-preserved
-loop-k-preserved c = (omega arith, passed_down_two _ _ _ c.loop-k-test.true c.loop-k.invariant.0 c.loop-k.invariant.1 c.put_edge-changed.ensures c.put_edge-changed-in-loop-k.ensures)
-
-pub returns-then-k-gt0 : goal.returns-then-k-gt0
-returns-then-k-gt0 c =
-    let e : c.loop-k.k ≡ 0 + 1 = omega arith in
-    passed_down _ _ 0 (omega arith) (passed_as _ _ e refl c.loop-k.invariant.1) c.put_edge.ensures
+pub loop-i-preserved : goal.loop-i-preserved
+loop-i-preserved c =
+    passed_down_two _ _ (c.loop-i.i - 1) (omega arith) (passed_as _ _ (omega arith) refl c.loop-i.invariant) c.put_edge-changed-in-loop-i.ensures
+    c.put_edge-changed-in-loop-i-2.ensures
 
 pub returns : goal.returns
-returns c = passed_as _ _ (omega arith) refl c.loop-k.invariant.1
+returns c = passed_as _ _ (omega arith) refl c.loop-i.invariant

@@ -1,11 +1,8 @@
--- `passes::pass_down` meets its contract. Its loop has gone along the edges from k on. Assumes nothing.
-use Prim.Native.Nat.{◌≤◌}
-use Rattle.passes.specs.Pass.{Passed}
+-- `passes::pass_down` meets its contract. Its loop has gone along all edges but the first i pairs. Assumes nothing.
+use Prim.Native.Nat.{◌*◌}
 use lib.ListN.{length}
+use Rattle.passes.specs.Pass.{Passed}
 use Rattle.passes.proofs.pass_down.Given as goal
 
-abbrev pub invariant-loop-k : goal.invariant-loop-k
-invariant-loop-k l = (l.k ≤ length l.edges) × Passed l.edges l.also l.initial.sets l.sets l.changed l.k (length l.edges)
-
-abbrev pub decreases-loop-k : goal.decreases-loop-k
-decreases-loop-k l = l.k
+abbrev pub invariant-loop-i : goal.invariant-loop-i
+invariant-loop-i l = Passed l.edges.ends.now l.edges.also.now l.fn.sets l.sets l.changed (2 * l.i) (length l.edges.ends.now)

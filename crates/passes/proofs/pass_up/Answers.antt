@@ -1,17 +1,20 @@
--- `passes::pass_up` meets its contract. Its loop has gone along the edges before k. Assumes nothing.
-use Rattle.passes.specs.PassLaws.{passed_start, passed_as, passed_up, passed_up_two}
+-- `passes::pass_up` meets its contract. Its loop has gone along the first i pairs of edges. Assumes nothing.
+use Prim.Native.Nat.{◌-◌}
 use mathlib.Core.Path.{refl}
 use native.Mathlib.Omega.{arith}
+use Rattle.passes.specs.PassLaws.{passed_start, passed_as, passed_up, passed_up_two}
 use Rattle.passes.proofs.pass_up.Goals as goal
 
-pub loop-k-init : goal.loop-k-init
-loop-k-init c = (omega arith, omega arith, passed_start _ _ _ 0 0 (omega arith))
+pub loop-i-init : goal.loop-i-init
+loop-i-init c = passed_start _ _ _ 0 0 (omega arith)
 
-pub loop-k-preserved : goal.loop-k-preserved
-loop-k-preserved c = (omega arith, omega arith, passed_up_two _ _ _ (omega arith) c.loop-k.invariant.2 c.put_edge-changed.ensures c.put_edge-changed-in-loop-k.ensures)
+pub loop-i-preserved : goal.loop-i-preserved
+loop-i-preserved c = passed_up_two _ _ c.loop-i.i (omega arith) c.loop-i.invariant c.put_edge-changed.ensures c.put_edge-changed-in-loop-i.ensures
 
-pub returns-then-k-n : goal.returns-then-k-n
-returns-then-k-n c = passed_as _ _ refl (omega arith) (passed_up _ _ _ c.if-k-n.true c.loop-k.invariant.2 c.put_edge.ensures)
+pub returns-then-n-eq1 : goal.returns-then-n-eq1
+returns-then-n-eq1 c =
+    passed_as _ _ refl (omega arith)
+    (passed_up _ _ (c.len-n.result - 1) (omega arith) (passed_as _ _ refl (omega arith) c.loop-i.invariant) c.put_edge.ensures)
 
 pub returns : goal.returns
-returns c = passed_as _ _ refl (omega arith) c.loop-k.invariant.2
+returns c = passed_as _ _ refl (omega arith) c.loop-i.invariant

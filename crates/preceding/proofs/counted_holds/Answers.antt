@@ -3,15 +3,15 @@ use Rattle.preceding.specs.LeaveLaws.{places_long, put_long, put_counted}
 use Rattle.preceding.proofs.counted_holds.Goals as goal
 
 pub find_preceded-requires : goal.find_preceded-requires
-find_preceded-requires c = record { accepted = c.requires.accepted; first_value = c.requires.first_value; numbers_in_bounds = c.requires.numbers_in_bounds; out_len = places_long c.args.numbers.now c.args.work.now _ _ c.field_of-count.ensures.is c.field_of.ensures.is c.requires.numbers_in_bounds_2 }
+find_preceded-requires c = record { edges_room = c.requires.edges_room; out_len = places_long c.args.program.now c.args.work.now _ _ c.statements-count.ensures.is c.routines.ensures.is c.requires.work_room }
 
 pub leave_out-requires : goal.leave_out-requires
-leave_out-requires c = record { accepted = c.requires.accepted; first_value = c.requires.first_value; numbers_in_bounds = put_long c.args.numbers.now c.args.work.now _ _ c.field_of-count.ensures.is c.field_of.ensures.is c.requires.numbers_in_bounds_2 c.find_preceded.new.out c.find_preceded.auto.out }
+leave_out-requires c = put_long c.args.program.now c.args.work.now _ _ c.statements-count.ensures.is c.routines.ensures.is c.requires.work_room c.find_preceded.new.out c.find_preceded.auto.out
 
 pub returns-clause-before : goal.returns-clause-before
 returns-clause-before c =
-    (put_counted c.args.numbers.now c.args.work.now _ _ c.field_of-count.ensures.is c.field_of.ensures.is c.requires.numbers_in_bounds_2 c.find_preceded.new.out c.find_preceded.auto.out _ _ c.find_preceded.ensures c.leave_out.ensures.before c.leave_out.ensures.behind).0
+    (put_counted c.args.program.now c.args.work.now _ _ c.statements-count.ensures.is c.routines.ensures.is c.requires.work_room c.find_preceded.new.out c.find_preceded.auto.out _ _ c.find_preceded.ensures c.leave_out.ensures.before c.leave_out.ensures.behind).0
 
 pub returns-clause-behind : goal.returns-clause-behind
 returns-clause-behind c =
-    (put_counted c.args.numbers.now c.args.work.now _ _ c.field_of-count.ensures.is c.field_of.ensures.is c.requires.numbers_in_bounds_2 c.find_preceded.new.out c.find_preceded.auto.out _ _ c.find_preceded.ensures c.leave_out.ensures.before c.leave_out.ensures.behind).1
+    (put_counted c.args.program.now c.args.work.now _ _ c.statements-count.ensures.is c.routines.ensures.is c.requires.work_room c.find_preceded.new.out c.find_preceded.auto.out _ _ c.find_preceded.ensures c.leave_out.ensures.before c.leave_out.ensures.behind).1

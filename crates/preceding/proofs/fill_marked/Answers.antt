@@ -1,13 +1,8 @@
--- `preceding::fill_marked` meets its contract. Its loop has made the sets below p empty. Assumes nothing.
-use native.Mathlib.Omega.{arith}
-use Rattle.preceding.specs.MarkedLaws.{emptying_start, emptying_next, emptying_done}
+-- `preceding::fill_marked` meets its contract. Assumes nothing.
+use Rattle.std.specs.Prelude.{◌≡◌, length, replicate}
+use Rattle.std.proofs.Common.{rules}
+use Rattle.preceding.specs.MarkedLaws.{marked_is}
 use Rattle.preceding.proofs.fill_marked.Goals as goal
 
-pub loop-p-init : goal.loop-p-init
-loop-p-init c = emptying_start _ (omega (arith, c.requires))
-
-pub loop-p-preserved : goal.loop-p-preserved
-loop-p-preserved c = emptying_next c.loop-p.invariant c.loop-p-test.true
-
 pub returns : goal.returns
-returns c = emptying_done c.loop-p.invariant c.loop-p-test.false
+returns c = let empty : c.fill.new.self ≡ replicate (length c.args.out.now) 0 = search rules in marked_is _ c.requires empty

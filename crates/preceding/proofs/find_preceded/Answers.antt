@@ -5,39 +5,38 @@ use native.Mathlib.Omega.{arith}
 use mathlib.Core.List.{List}
 use Rattle.table.specs.Table.{table_of}
 use Rattle.table.proofs.CutLaws.{cut_long}
-use Rattle.table.proofs.LookupLaws.{routines_length}
 use Rattle.report.specs.Layout.{one_each}
 use Rattle.report.specs.Preceded.{preceded_sets}
 use Rattle.table.proofs.FrontLaws.{front_fits, front_is, front_long}
 use Rattle.preceding.proofs.find_preceded.Goals as goal
 
 pub slice_bounds-reach-end : goal.slice_bounds-reach-end
-slice_bounds-reach-end c = let r : c.field_of-many.result + 1 ≤ 33 = omega (arith, c.field_of-many.ensures.is, c.requires.accepted.routines_most, routines_length c.args.numbers.now) in
+slice_bounds-reach-end c = let r : c.routines-many.result + 1 ≤ 33 = omega (arith, c.routines-many.ensures.few) in
     r
 
 pub slice_bounds-reach_sets-end : goal.slice_bounds-reach_sets-end
-slice_bounds-reach_sets-end c = let r : c.field_of-many.result + 1 ≤ 33 = omega (arith, c.field_of-many.ensures.is, c.requires.accepted.routines_most, routines_length c.args.numbers.now) in
+slice_bounds-reach_sets-end c = let r : c.routines-many.result + 1 ≤ 33 = omega (arith, c.routines-many.ensures.few) in
     cut_long {A = ℕ} _ 33 0 r
 
 pub reach_sets-requires : goal.reach_sets-requires
-reach_sets-requires c = let r : c.field_of-many.result + 1 ≤ 33 = omega (arith, c.field_of-many.ensures.is, c.requires.accepted.routines_most, routines_length c.args.numbers.now) in
-    record { accepted = c.requires.accepted; first_value = c.requires.first_value; numbers_in_bounds = c.requires.numbers_in_bounds; reach_len = sym (cut_long {A = ℕ} _ 33 0 r) ∙ ap (λ (n : ℕ). n + 1) c.field_of-many.ensures.is }
+reach_sets-requires c = let r : c.routines-many.result + 1 ≤ 33 = omega (arith, c.routines-many.ensures.few) in
+    record { edges_room = c.requires.edges_room; reach_len = sym (cut_long {A = ℕ} _ 33 0 r) ∙ ap (λ (n : ℕ). n + 1) c.routines-many.ensures.is }
 
 pub slice_bounds-reach-end-2 : goal.slice_bounds-reach-end-2
-slice_bounds-reach-end-2 c = let r : c.field_of-many.result + 1 ≤ 33 = omega (arith, c.field_of-many.ensures.is, c.requires.accepted.routines_most, routines_length c.args.numbers.now) in
+slice_bounds-reach-end-2 c = let r : c.routines-many.result + 1 ≤ 33 = omega (arith, c.routines-many.ensures.few) in
     let long = c.reach_sets.auto.reach ∙ sym (cut_long {A = ℕ} _ 33 0 r) in
     front_fits 33 c.reach_sets.new.reach long
 
 pub slice_bounds-preceded_sets-end : goal.slice_bounds-preceded_sets-end
-slice_bounds-preceded_sets-end c = let r : c.field_of-many.result + 1 ≤ 33 = omega (arith, c.field_of-many.ensures.is, c.requires.accepted.routines_most, routines_length c.args.numbers.now) in
+slice_bounds-preceded_sets-end c = let r : c.routines-many.result + 1 ≤ 33 = omega (arith, c.routines-many.ensures.few) in
     let long = c.reach_sets.auto.reach ∙ sym (cut_long {A = ℕ} _ 33 0 r) in
     front_long 33 c.reach_sets.new.reach long
 
 pub preceded_sets-requires : goal.preceded_sets-requires
-preceded_sets-requires c = record { accepted = c.requires.accepted; first_value = c.requires.first_value; numbers_in_bounds = omega (arith, c.requires.numbers_in_bounds, c.reach_sets.auto.edges); out_len = c.requires.out_len }
+preceded_sets-requires c = record { edges_room = omega (arith, c.requires.edges_room, c.reach_sets.auto.edges); out_len = c.requires.out_len }
 
 pub returns : goal.returns
-returns c = let t = table_of c.args.numbers.now in
-    let r : c.field_of-many.result + 1 ≤ 33 = omega (arith, c.field_of-many.ensures.is, c.requires.accepted.routines_most, routines_length c.args.numbers.now) in
+returns c = let t = table_of c.args.program.now in
+    let r : c.routines-many.result + 1 ≤ 33 = omega (arith, c.routines-many.ensures.few) in
     let long = c.reach_sets.auto.reach ∙ sym (cut_long {A = ℕ} _ 33 0 r) in
     c.preceded_sets.ensures ∙ ap {B = List ℕ} (preceded_sets t (one_each t)) (front_is 33 c.reach_sets.new.reach long ∙ c.reach_sets.ensures)

@@ -1,11 +1,9 @@
 -- `preceding::preceded_sets` meets its contract. Assumes nothing.
-use mathlib.Core.Path.{sym}
-use lib.Seq.{length-take-le}
+use Rattle.std.proofs.Common.{refl}
+use Rattle.start_edges.proofs.StartRoom.{preceding_are}
 use Rattle.preceding.specs.AnswerLaws.{preceded_answer}
 use Rattle.preceding.proofs.preceded_sets.Goals as goal
 
-pub slice_bounds-solve_plain-end-2 : goal.slice_bounds-solve_plain-end-2
-slice_bounds-solve_plain-end-2 c = sym (length-take-le _ _ c.fill_preceding-n.ensures.there)
-
 pub returns : goal.returns
-returns c = preceded_answer _ _ c.fill_preceding-n.ensures c.requires.out_len c.fill_marked.ensures c.solve_plain.ensures
+returns c =
+    preceded_answer _ _ _ (preceding_are _ c.fill_preceding.ensures.accepted c.requires.edges_room refl _ c.fill_preceding.ensures.grown c.edges.ensures) c.requires.out_len c.fill_marked.ensures c.solve_plain.ensures

@@ -1,11 +1,9 @@
 -- `preceding::reach_sets` meets its contract. Assumes nothing.
-use mathlib.Core.Path.{sym}
-use lib.Seq.{length-take-le}
+use Rattle.std.proofs.Common.{refl}
+use Rattle.start_edges.proofs.StartRoom.{reach_are}
 use Rattle.preceding.specs.AnswerLaws.{reach_answer}
 use Rattle.preceding.proofs.reach_sets.Goals as goal
 
-pub slice_bounds-solve_plain-end-2 : goal.slice_bounds-solve_plain-end-2
-slice_bounds-solve_plain-end-2 c = sym (length-take-le _ _ c.fill_reach-n.ensures.there)
-
 pub returns : goal.returns
-returns c = reach_answer _ c.fill_reach-n.ensures c.requires.reach_len c.fill_marked.ensures c.solve_plain.ensures
+returns c =
+    reach_answer _ _ (reach_are _ c.fill_reach.ensures.accepted c.requires.edges_room refl c.fill_reach.ensures.grown c.edges.ensures) c.requires.reach_len c.fill_marked.ensures c.solve_plain.ensures

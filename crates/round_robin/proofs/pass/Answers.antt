@@ -14,7 +14,7 @@ pub loop-k-preserved : goal.loop-k-preserved
 loop-k-preserved c = (omega (arith, c.loop-k.invariant.0), onward_both _ c.loop-k.invariant.1 c.put_four-changed.ensures)
 
 pub put_first-requires : goal.put_first-requires
-put_first-requires c = record { among = rw c.loop-k.invariant.1.places c.requires; n_in_bounds = c.loop-k.invariant.0 }
+put_first-requires c = record { among = rw c.loop-k.invariant.1.places c.requires; n_in_bounds = omega (arith, c.loop-k.invariant.0) }
 
 pub returns-clause-sets : goal.returns-clause-sets
 returns-clause-sets c = (onward_done _ (onward_both _ c.loop-k.invariant.1 c.put_first.ensures)).0

@@ -1,5 +1,6 @@
 -- `round_robin::put` meets its contract. Assumes nothing.
 use native.Mathlib.Omega.{arith}
+use borrow.Author.Rules.{rules}
 use Rattle.sets.specs.Least.{edge_of}
 use Rattle.passes.specs.PassLaws.{put_as}
 use Rattle.round_robin.proofs.SolveLaws.{plain_nothing, plain_more}
@@ -7,7 +8,7 @@ use Rattle.round_robin.proofs.put.Goals as goal
 
 pub returns-then-new-old : goal.returns-then-new-old
 unfolding edge_of
-returns-then-new-old c = put_as c.from_of-f.ensures c.from_of-f.ensures c.to_of-t.ensures (plain_more _ _ _ _ (omega arith) (λ i. omega (arith, c.slice_known-3-1.given i)) c.if-new-old.true)
+returns-then-new-old c = put_as c.from_of-f.ensures c.from_of-f.ensures c.to_of-t.ensures (plain_more _ _ _ _ (omega arith) (λ i. search rules) c.if-new-old.true)
 
 pub returns : goal.returns
 unfolding edge_of

@@ -5,6 +5,3 @@ use Rattle.round_robin.proofs.put_first.Given as goal
 
 abbrev pub invariant-loop-k : goal.invariant-loop-k
 invariant-loop-k l = (l.k ≤ l.n) × Onward l.edges l.n l.k l.initial.sets l.sets l.changed l.after
-
-abbrev pub decreases-loop-k : goal.decreases-loop-k
-decreases-loop-k l = l.k

@@ -1,29 +1,41 @@
 -- `round_robin::solve` meets its contract. While it goes on, what is left to do gives the whole. Assumes nothing.
-use mathlib.Core.Path.{◌≡◌, sym, subst}
+use mathlib.Core.Path.{◌≡◌, ◌∙◌, subst}
 use mathlib.Core.Bool.{Bool, true}
 use mathlib.Core.List.{List}
-use Prim.Native.Nat.{ℕ, ◌<◌}
+use Prim.Native.Nat.{ℕ, ◌+◌, ◌-◌, ◌<◌}
 use native.Mathlib.Omega.{arith}
 use Rattle.round_robin.proofs.SolveLaws.{Made, made_start, made_below, made_next, made_less, left}
 use borrow.Author.Rules.{rules}
 use Rattle.round_robin.proofs.solve.Goals as goal
 
-going : {edges s₀ s : List ℕ} {k : ℕ} {b : Bool} → b ≡ true → Made edges s₀ s k b → Made edges s₀ s k true
-going {edges} {s₀} {s} {k} e h = subst (Made edges s₀ s k) e h
+made_as : {edges s₀ s : List ℕ} {k j : ℕ} {b d : Bool} → k ≡ j → b ≡ d → Made edges s₀ s k b → Made edges s₀ s j d
+made_as {edges} {s₀} {s} {k} {j} {b} {d} e q h = rw (e, q) at h
 
-pub loop-going-init : goal.loop-going-init
-loop-going-init c = made_start _ _ (λ i. omega (arith, c.slice_known-1.given i))
+pub passes-init : goal.passes-init
+passes-init c = (omega arith, made_start _ _ (λ i. search rules))
 
-pub pass-going-requires : goal.pass-going-requires
-pass-going-requires c = rw c.loop-going.invariant.sets.places c.requires
+pub pass-requires : goal.pass-requires
+pass-requires c = rw c.passes.invariant.1.sets.places c.requires
 
 pub overflow_add-made : goal.overflow_add-made
-overflow_add-made c = let b = made_below _ _ (going c.loop-going-test.true c.loop-going.invariant) in search rules
+overflow_add-made c =
+    let e : c.passes.made - 1 + 1 ≡ c.passes.made = omega arith in
+    let b = made_below _ _ (made_as e c.passes-test.true (made_next _ _ c.passes.invariant.1 c.pass.ensures.sets c.pass.ensures.changed)) in
+    search rules
 
-pub loop-going-preserved : goal.loop-going-preserved
-loop-going-preserved c = made_next _ _ (going c.loop-going-test.true c.loop-going.invariant) c.pass-going.ensures.sets c.pass-going.ensures.changed
+pub passes-preserved : goal.passes-preserved
+passes-preserved c =
+    (omega arith, made_as (omega arith) c.passes-test.true (made_next _ _ c.passes.invariant.1 c.pass.ensures.sets c.pass.ensures.changed))
 
-pub loop-going-smaller : goal.loop-going-smaller
-loop-going-smaller c =
-    subst (λ (b : Bool). left c.pass-going.new.sets c.pass-going.result < left c.loop-going.sets b) (sym c.loop-going-test.true)
-    (made_less _ _ (going c.loop-going-test.true c.loop-going.invariant) c.pass-going.ensures.sets c.pass-going.ensures.changed)
+pub passes-smaller : goal.passes-smaller
+passes-smaller c =
+    subst (λ (b : Bool). left c.pass.new.sets b < left c.passes.sets true) c.passes-test.true
+    (made_less _ _ c.passes.invariant.1 c.pass.ensures.sets c.pass.ensures.changed)
+
+pub returns-clause-sets : goal.returns-clause-sets
+returns-clause-sets c = ((made_next _ _ c.passes.invariant.1 c.pass.ensures.sets c.pass.ensures.changed).done c.passes-test.false).0
+
+pub returns-clause-made : goal.returns-clause-made
+returns-clause-made c =
+    let e : c.passes.made ≡ c.passes.made - 1 + 1 = omega arith in
+    e ∙ ((made_next _ _ c.passes.invariant.1 c.pass.ensures.sets c.pass.ensures.changed).done c.passes-test.false).1

@@ -6,6 +6,3 @@ use Rattle.run_printer.proofs.put_answers.Given as goal
 
 abbrev pub invariant-loop-i : goal.invariant-loop-i
 invariant-loop-i l = Backing (λ i a. word_text (pos a)) l.answers (ending l.initial.out l.start) l.i (ending l.out l.at)
-
-abbrev pub decreases-loop-i : goal.decreases-loop-i
-decreases-loop-i l = l.i

@@ -5,6 +5,3 @@ use Rattle.run_printer.proofs.put_cells.Given as goal
 
 abbrev pub invariant-loop-i : goal.invariant-loop-i
 invariant-loop-i l = Backing cell_text l.cells (ending l.initial.out l.start) l.i (ending l.out l.at)
-
-abbrev pub decreases-loop-i : goal.decreases-loop-i
-decreases-loop-i l = l.i

@@ -11,7 +11,7 @@ use Rattle.run_printer.proofs.put_number.Goals as goal
 
 pub returns-then-x-lt0 : goal.returns-then-x-lt0
 returns-then-x-lt0 c = let digits_here : ending c.put_digits-at.new.out c.put_digits-at.result ≡ puts (decimal_text 20 (nat_abs c.args.x)) (ending c.args.out.now c.args.start) = let z = c.args.x in
-    rw (c.magnitude.ensures, to_z-of_z {w = w32} {z = z} c.ranges.x) at c.put_digits-at.ensures in
+    rw (c.unsigned_abs.ensures.value, to_z-of_z {w = w32} {z = z} c.ranges.x) at c.put_digits-at.ensures in
     let z = c.args.x in
     c.put_text.ensures.is
     ∙ ap (puts (32 ∷ 45 ∷ [])) digits_here
@@ -19,7 +19,7 @@ returns-then-x-lt0 c = let digits_here : ending c.put_digits-at.new.out c.put_di
 
 pub returns : goal.returns
 returns c = let digits_here : ending c.put_digits-at.new.out c.put_digits-at.result ≡ puts (decimal_text 20 (nat_abs c.args.x)) (ending c.args.out.now c.args.start) = let z = c.args.x in
-    rw (c.magnitude.ensures, to_z-of_z {w = w32} {z = z} c.ranges.x) at c.put_digits-at.ensures in
+    rw (c.unsigned_abs.ensures.value, to_z-of_z {w = w32} {z = z} c.ranges.x) at c.put_digits-at.ensures in
     let z = c.args.x in
     c.put_byte.ensures
     ∙ ap (put 32) digits_here

@@ -11,6 +11,3 @@ alone i b = b ∷ []
 
 abbrev pub invariant-loop-i : goal.invariant-loop-i
 invariant-loop-i l = Backing alone l.text (ending l.initial.out l.start) l.i (ending l.out l.at)
-
-abbrev pub decreases-loop-i : goal.decreases-loop-i
-decreases-loop-i l = l.i

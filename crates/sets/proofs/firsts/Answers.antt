@@ -18,6 +18,6 @@ returns-then-n-lt64 c =
     let m : c.args.n ≡ min c.args.n 64 = omega arith in
     ap (λ (x : ℕ). x - 1) (shifted c.args.n (omega arith) ∙ ap (λ (x : ℕ). 2 ^ x) m)
 
-pub returns : goal.returns
+pub returns-else-n-lt64 : goal.returns-else-n-lt64
 unfolding firsts
-returns c = let m : 64 ≡ min c.args.n 64 = omega arith in ap (λ (x : ℕ). 2 ^ x - 1) m
+returns-else-n-lt64 c = let m : 64 ≡ min c.args.n 64 = omega arith in ap (λ (x : ℕ). 2 ^ x - 1) m

@@ -8,5 +8,5 @@ use Rattle.sets.proofs.one.Goals as goal
 pub returns-then-i-lt64 : goal.returns-then-i-lt64
 returns-then-i-lt64 c = shifted c.args.i (omega arith) ∙ sym (one_is c.args.i (omega arith))
 
-pub returns : goal.returns
-returns c = sym (one_none c.args.i (omega arith))
+pub returns-else-i-lt64 : goal.returns-else-i-lt64
+returns-else-i-lt64 c = sym (one_none c.args.i (omega arith))

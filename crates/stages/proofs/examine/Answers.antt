@@ -1,44 +1,41 @@
 -- `stages::examine` meets its contract. Assumes nothing.
 use mathlib.Core.Path.{sym, ◌∙◌}
-use Prim.Native.Nat.{ℕ, ◌≤◌}
-use native.Mathlib.Omega.{arith}
+use Prim.Native.Nat.{ℕ}
 use Rattle.table.specs.Table.{table_of}
 use Rattle.table.proofs.CutLaws.{cut_long}
 use Rattle.stages.specs.Lent.{lent_edges}
 use Rattle.stages.specs.SetsLaws.{flow_known}
-use Rattle.table.proofs.AcceptedLaws.{handles_few}
 use Rattle.table.proofs.FrontLaws.{front_fits, front_is, front_long}
 use Rattle.stages.proofs.examine.Goals as goal
 
 pub slice_bounds-flow-end : goal.slice_bounds-flow-end
 slice_bounds-flow-end c =
-    let few : c.field_of-handles.result ≤ 128 = omega (arith, c.field_of-handles.ensures.is, handles_few c.args.numbers.now c.requires.accepted) in
-    few
+    c.handles-handles.ensures.few
 
-pub slice_bounds-flow_sets-end-3 : goal.slice_bounds-flow_sets-end-3
-slice_bounds-flow_sets-end-3 c =
-    let few : c.field_of-handles.result ≤ 128 = omega (arith, c.field_of-handles.ensures.is, handles_few c.args.numbers.now c.requires.accepted) in
+pub slice_bounds-flow_sets-end : goal.slice_bounds-flow_sets-end
+slice_bounds-flow_sets-end c =
+    let few = c.handles-handles.ensures.few in
     cut_long {A = ℕ} _ 128 0 few
 
 pub flow_sets-requires : goal.flow_sets-requires
 flow_sets-requires c =
-    let few : c.field_of-handles.result ≤ 128 = omega (arith, c.field_of-handles.ensures.is, handles_few c.args.numbers.now c.requires.accepted) in
-    record { accepted = c.requires.accepted; handle_value = c.first_handles-handle.ensures; counts_value = c.parameter_counts-counts.ensures; numbers_in_bounds = c.requires.lent.edges_long; flow_len = sym (cut_long {A = ℕ} _ 128 0 few) ∙ c.field_of-handles.ensures.is }
+    let few = c.handles-handles.ensures.few in
+    record { edges_room = c.requires.lent.edges_long; flow_len = sym (cut_long {A = ℕ} _ 128 0 few) ∙ c.handles-handles.ensures.is }
 
 pub slice_bounds-flow-end-2 : goal.slice_bounds-flow-end-2
 slice_bounds-flow-end-2 c =
-    let few : c.field_of-handles.result ≤ 128 = omega (arith, c.field_of-handles.ensures.is, handles_few c.args.numbers.now c.requires.accepted) in
+    let few = c.handles-handles.ensures.few in
     let long = c.flow_sets.auto.flow ∙ sym (cut_long {A = ℕ} _ 128 0 few) in
     front_fits 128 c.flow_sets.new.flow long
 
 pub slice_bounds-with_flow-end : goal.slice_bounds-with_flow-end
 slice_bounds-with_flow-end c =
-    let few : c.field_of-handles.result ≤ 128 = omega (arith, c.field_of-handles.ensures.is, handles_few c.args.numbers.now c.requires.accepted) in
+    let few = c.handles-handles.ensures.few in
     let long = c.flow_sets.auto.flow ∙ sym (cut_long {A = ℕ} _ 128 0 few) in
     front_long 128 c.flow_sets.new.flow long
 
 pub with_flow-requires : goal.with_flow-requires
 with_flow-requires c =
-    let few : c.field_of-handles.result ≤ 128 = omega (arith, c.field_of-handles.ensures.is, handles_few c.args.numbers.now c.requires.accepted) in
+    let few = c.handles-handles.ensures.few in
     let long = c.flow_sets.auto.flow ∙ sym (cut_long {A = ℕ} _ 128 0 few) in
-    record { accepted = c.requires.accepted; flow_value = front_is 128 c.flow_sets.new.flow long ∙ flow_known (table_of c.args.numbers.now) _ c.flow_sets.ensures; lent = lent_edges _ c.requires.lent c.flow_sets.auto.edges }
+    record { flow_value = front_is 128 c.flow_sets.new.flow long ∙ flow_known (table_of c.args.numbers.now) _ c.flow_sets.ensures; lent = lent_edges _ c.requires.lent c.flow_sets.auto.edges }

@@ -4,4 +4,4 @@ use Rattle.findings.specs.StartLaws.{none_shared}
 use Rattle.stages.proofs.shared_of.Goals as goal
 
 pub returns-then-started-eq0 : goal.returns-then-started-eq0
-returns-then-started-eq0 c = none_shared _ c.requires.accepted (sym c.started.ensures ∙ c.if-started-eq0.true) _
+returns-then-started-eq0 c = none_shared _ c.started.ensures.accepted (sym c.started.ensures.is ∙ c.if-started-eq0.true) _

@@ -1,9 +1,12 @@
 -- `start_edges::append_reach` meets its contract. Assumes nothing.
-use mathlib.Core.Path.{refl}
-use Rattle.sets.proofs.AppendLaws.{appended_same, appended_both}
+use Rattle.std.proofs.Common.{refl}
+use Rattle.edges.specs.Grown.{grown_same, grown_both}
 use Rattle.edges.specs.LineLaws.{viewed}
-use Rattle.start_edges.proofs.StartLaws.{reach_parts}
+use Rattle.start_edges.proofs.StartLaws.{some_is, reach_parts}
 use Rattle.start_edges.proofs.append_reach.Goals as goal
 
 pub returns : goal.returns
-returns c = appended_same _ _ (reach_parts _ _ (viewed _ _ c.requires.lined.0 _ c.requires.lined.1 refl) _ _ c.requires.last_value.0 c.requires.last_value.1 c.refers-starts.ensures c.starts_at.ensures c.calls_at.ensures) (appended_both c.append_if-m.ensures c.append_from.ensures)
+returns c =
+    grown_same
+    (reach_parts _ _ (viewed c.program.view_is c.line_of-line.ensures c.requires.0 refl) _ _ c.routines.ensures.is c.requires.1 (some_is _ c.is_some-starts.ensures) c.starts_at.ensures c.calls_at.ensures)
+    (grown_both c.push_if.ensures c.push_from.ensures)

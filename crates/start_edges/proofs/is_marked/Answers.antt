@@ -8,4 +8,4 @@ use Rattle.start_edges.proofs.is_marked.Goals as goal
 
 pub returns : goal.returns
 unfolding is_marked
-returns c = c.has.ensures ∙ ap {B = Bool} (λ (x : ℕ). has x 0) c.set_at.ensures
+returns c = c.has.ensures ∙ ap {B = Bool} (λ (x : ℕ). has x 0) c.value_at.ensures

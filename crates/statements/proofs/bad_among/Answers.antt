@@ -1,16 +1,9 @@
 -- `statements::bad_among` meets its contract. Assumes nothing.
-use mathlib.Core.Path.{sym, ◌∙◌}
-use Rattle.table.proofs.UntilLaws.{looking_start, looking_next, looking_stop, looking_done}
+use Rattle.std.proofs.Common.{rules, of_calls}
+use Rattle.table.specs.Statements.{statement_ok}
+use Rattle.table.proofs.FoundLaws.{failing_is}
 use Rattle.statements.proofs.bad_among.Goals as goal
 
-pub loop-s-init : goal.loop-s-init
-loop-s-init c = looking_start _ _ _
-
-pub returns-then-not-statement_ok : goal.returns-then-not-statement_ok
-returns-then-not-statement_ok c = looking_stop _ _ _ _ c.loop-s.invariant c.loop-s-test.true (sym c.statement_ok.ensures ∙ c.if-not-statement_ok.true)
-
-pub loop-s-preserved : goal.loop-s-preserved
-loop-s-preserved c = looking_next _ _ _ _ c.loop-s.invariant c.loop-s-test.true (sym c.statement_ok.ensures ∙ c.if-not-statement_ok.false)
-
 pub returns : goal.returns
-returns c = looking_done _ _ _ _ c.loop-s.invariant c.loop-s-test.false
+returns c =
+    failing_is (statement_ok c.args.numbers.now c.args.r) c.args.from c.args.end _ (λ k b a h s. search (rules, of_calls)) c.first_failing.result c.first_failing.ensures

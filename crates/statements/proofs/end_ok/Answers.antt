@@ -7,15 +7,9 @@ use Rattle.table.proofs.Lists.{statements_begin, begin_early}
 use Rattle.table.specs.Statements.{end_ok, last_of}
 use Rattle.statements.proofs.end_ok.Goals as goal
 
-pub first_line-requires : goal.first_line-requires
-first_line-requires c = tt
-
 pub overflow_add-first_line : goal.overflow_add-first_line
 overflow_add-first_line c =
     record { fits = omega (arith, c.last_of.ensures, begin_early c.requires.statements_begin (c.args.r + 1), c.first_line.ensures.small) }
-
-pub field_of-op-requires : goal.field_of-op-requires
-field_of-op-requires c = tt
 
 pub returns : goal.returns
 unfolding end_ok

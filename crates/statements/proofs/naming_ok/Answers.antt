@@ -4,12 +4,6 @@ use Rattle.table.specs.Statements.{naming_ok}
 use native.Mathlib.Omega.{arith}
 use Rattle.statements.proofs.naming_ok.Goals as goal
 
-pub field_of-q-requires : goal.field_of-q-requires
-field_of-q-requires c = tt
-
-pub field_of-requires : goal.field_of-requires
-field_of-requires c = tt
-
 pub returns-then-field_of-q : goal.returns-then-field_of-q
 unfolding naming_ok
 returns-then-field_of-q c = rw (le-ltb _ _ (rw (c.field_of-q.ensures.is, c.field_of.ensures.is) at c.if-field_of-q.true))

@@ -6,38 +6,17 @@ use Rattle.table.proofs.Lists.{statements_begin}
 use borrow.Author.Tests.{eq-eqb, ne_eqb}
 use Rattle.statements.proofs.operation_ok.Goals as goal
 
-pub field_of-a-requires : goal.field_of-a-requires
-field_of-a-requires c = tt
-
-pub own_of_kind-requires : goal.own_of_kind-requires
-own_of_kind-requires c = tt
-
-pub is_unused-requires : goal.is_unused-requires
-is_unused-requires c = tt
-
 pub returns-then-op : goal.returns-then-op
 unfolding operation_ok
 returns-then-op c = rw (c.if-op.true, c.own_of_kind.ensures, c.is_unused.ensures, c.field_of-a.ensures.is)
-
-pub is_unused-requires-then-op-2 : goal.is_unused-requires-then-op-2
-is_unused-requires-then-op-2 c = tt
 
 pub returns-then-op-2 : goal.returns-then-op-2
 unfolding operation_ok
 returns-then-op-2 c = rw (c.if-op.false, c.if-op-2.true, c.is_unused-then-op-2.ensures)
 
-pub own_of_kind-requires-then-op-3 : goal.own_of_kind-requires-then-op-3
-own_of_kind-requires-then-op-3 c = tt
-
-pub is_unused-requires-then-op-3 : goal.is_unused-requires-then-op-3
-is_unused-requires-then-op-3 c = tt
-
 pub returns-then-op-3 : goal.returns-then-op-3
 unfolding operation_ok
 returns-then-op-3 c = rw (c.if-op.false, c.if-op-2.false, c.if-op-3.true, c.own_of_kind-then-op-3.ensures, c.is_unused-then-op-3.ensures, c.field_of-a.ensures.is)
-
-pub point_ok-requires : goal.point_ok-requires
-point_ok-requires c = tt
 
 pub returns-then-op-eq7 : goal.returns-then-op-eq7
 unfolding operation_ok
@@ -47,18 +26,12 @@ pub returns-then-op-4 : goal.returns-then-op-4
 unfolding operation_ok
 returns-then-op-4 c = rw (c.if-op.false, c.if-op-2.false, c.if-op-3.false, ne_eqb _ _ c.if-op-eq7.false, c.if-op-4.true, c.naming_ok.ensures)
 
-pub is_unused-requires-then-op-5 : goal.is_unused-requires-then-op-5
-is_unused-requires-then-op-5 c = tt
-
 pub returns-then-op-5 : goal.returns-then-op-5
 unfolding operation_ok own_statement
 returns-then-op-5 c =
     let inside = c.requires.r_bound in
     let few = c.requires.statements_begin.sized.routines_most in
     rw (c.if-op.false, c.if-op-2.false, c.if-op-3.false, ne_eqb _ _ c.if-op-eq7.false, c.if-op-4.false, c.if-op-5.true, c.own_statement.ensures, c.is_unused-then-op-5.ensures, c.field_of-a.ensures.is, statements_begin c.requires.statements_begin c.args.r (omega arith), statements_begin c.requires.statements_begin (c.args.r + 1) (omega arith))
-
-pub is_unused-requires-2 : goal.is_unused-requires-2
-is_unused-requires-2 c = tt
 
 pub returns : goal.returns
 unfolding operation_ok

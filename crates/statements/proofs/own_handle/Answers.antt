@@ -3,15 +3,9 @@ use borrow.Author.Tests.{le-ltb, lt-ltb}
 use Rattle.table.specs.Statements.{own_handle}
 use Rattle.statements.proofs.own_handle.Goals as goal
 
-pub field_of-requires : goal.field_of-requires
-field_of-requires c = tt
-
 pub returns-then-field_of-x : goal.returns-then-field_of-x
 unfolding own_handle
 returns-then-field_of-x c = rw (le-ltb _ _ (rw c.field_of.ensures.is at c.if-field_of-x.true))
-
-pub field_of-requires-2 : goal.field_of-requires-2
-field_of-requires-2 c = tt
 
 pub returns : goal.returns
 unfolding own_handle

@@ -5,12 +5,6 @@ use Rattle.table.proofs.HeaderLaws.{statement_line_lem}
 use Rattle.table.specs.Statements.{statement_ok}
 use Rattle.statements.proofs.statement_ok.Goals as goal
 
-pub first_line-requires : goal.first_line-requires
-first_line-requires c = tt
-
-pub field_of-requires : goal.field_of-requires
-field_of-requires c = tt
-
 pub returns : goal.returns
 unfolding statement_ok
 returns c =

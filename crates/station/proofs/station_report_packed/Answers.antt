@@ -3,5 +3,5 @@ use mathlib.Core.Path.{ap, ◌∙◌}
 use Rattle.station.specs.Packed.{packed_answer}
 use Rattle.station.proofs.station_report_packed.Goals as goal
 
-pub returns : goal.returns
-returns c = record { answer = c.pack.ensures ∙ ap packed_answer c.report-answer.ensures.answer; buffer = c.report-answer.ensures.buffer }
+pub returns-clause-answer : goal.returns-clause-answer
+returns-clause-answer c = c.packed.ensures ∙ ap packed_answer c.report.ensures.answer

@@ -5,7 +5,7 @@ use Rattle.std.specs.Io.KnownBytes.{Appends, Consumes, IsAtEnd}
 use Rattle.std.proofs.lemmas.Bool.{cases_lt, lt-leb}
 use Rattle.std.proofs.Common.{inl, inr}
 use Rattle.table.specs.Verdict.{text_ok, verdict}
-use Rattle.table.specs.declared.Verdict.TheVariants.{Refused}
+use Rattle.table.specs.declared.Refusal.TheVariants.{Length}
 use Rattle.answer.specs.Said.{said_of}
 use Rattle.answer.specs.SaidLaws.{said_refused}
 use Rattle.station_check.proofs.check_file.Goals as goal
@@ -32,7 +32,7 @@ text_too_long n h = go (ltb 0 n && eqb (n % 49) 0) (leb n 32977) (lt-leb n 32977
     go true b e = e
     go false b e = refl
 
-too_long : (xs : List ℕ) → 32977 < length xs → verdict xs ≡ Refused 1 0
+too_long : (xs : List ℕ) → 32977 < length xs → verdict xs ≡ Err Length
 unfolding verdict
 too_long xs h = rw (text_too_long (length xs) h)
 
@@ -42,7 +42,7 @@ said_of_front xs =
     elim (cases_lt 65536 (length xs)) [
       | inl h ↦
           let size = length-take-le 65536 xs (omega arith) in
-          said_refused (take 65536 xs) 65536 1 0 (too_long (take 65536 xs) (omega arith)) (omega arith) ∙ sym (said_refused xs 65536 1 0 (too_long xs (omega arith)) (omega arith))
+          said_refused (take 65536 xs) 65536 Length (too_long (take 65536 xs) (omega arith)) (omega arith) ∙ sym (said_refused xs 65536 Length (too_long xs (omega arith)) (omega arith))
       | inr h ↦ ap (λ (t : List ℕ). said_of t 65536) (take_all 65536 xs h)
     ]
 

@@ -1,12 +1,6 @@
--- `steps_vectors::take_turns` meets its contract. Assumes nothing.
-use Prim.Native.Nat.{◌-◌}
-use Rattle.steps_vectors.proofs.Turns.{Turns}
+-- `steps_vectors::take_turns` meets its contract: each step keeps both runs standing. Assumes nothing.
+use Rattle.run_state.specs.Shown.{Standing}
 use Rattle.steps_vectors.proofs.take_turns.Given as goal
 
 abbrev pub invariant-loop-i : goal.invariant-loop-i
-invariant-loop-i g l =
-    Turns l.a l.first_a l.handle_a l.sizes_a l.words_a l.values_a l.registers_a l.b l.first_b l.handle_b l.sizes_b l.words_b l.values_b l.registers_b l.i
-
-abbrev pub decreases-loop-i : goal.decreases-loop-i
-decreases-loop-i g l =
-    300 - l.i
+invariant-loop-i g l = Standing l.program_a l.state_a × Standing l.program_b l.state_b

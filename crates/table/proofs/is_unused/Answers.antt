@@ -9,9 +9,6 @@ use Rattle.table.proofs.is_unused.Goals as goal
 pub loop-j-init : goal.loop-j-init
 loop-j-init c = looking_start _ _ _
 
-pub field_of-requires : goal.field_of-requires
-field_of-requires c = tt
-
 pub returns-then-field_of-ne0 : goal.returns-then-field_of-ne0
 unfolding unused
 returns-then-field_of-ne0 c = sym (ap (leb 8) (sym (looking_stop _ _ _ _ c.loop-j.invariant c.loop-j-test.true (ne_eqb _ _ (λ e. c.if-field_of-ne0.true (c.field_of.ensures.is ∙ e))))) ∙ lt-leb _ _ c.loop-j-test.true)

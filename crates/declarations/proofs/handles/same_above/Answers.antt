@@ -7,12 +7,6 @@ pub returns-then-h-k : goal.returns-then-h-k
 unfolding same_above
 returns-then-h-k c = rw (lt-leb _ _ c.if-h-k.true)
 
-pub field_of-requires : goal.field_of-requires
-field_of-requires c = tt
-
-pub field_of-requires-2 : goal.field_of-requires-2
-field_of-requires-2 c = tt
-
 pub returns : goal.returns
 unfolding same_above
 returns c = rw (le-leb _ _ c.if-h-k.false, c.field_of.ensures.is, c.field_of-2.ensures.is)

@@ -3,15 +3,9 @@ use borrow.Author.Tests.{eq-eqb, ne_eqb}
 use Rattle.table.specs.Handles.{things}
 use Rattle.declarations.proofs.handles.things_of.Goals as goal
 
-pub field_of-requires : goal.field_of-requires
-field_of-requires c = tt
-
 pub returns-then-kind-eq1 : goal.returns-then-kind-eq1
 unfolding things
 returns-then-kind-eq1 c = rw (eq-eqb _ _ c.if-kind-eq1.true, c.field_of.ensures.is)
-
-pub field_of-requires-2 : goal.field_of-requires-2
-field_of-requires-2 c = tt
 
 pub returns : goal.returns
 unfolding things

@@ -3,15 +3,9 @@ use borrow.Author.Tests.{le-leb, lt-leb}
 use Rattle.table.specs.Header.{leading}
 use Rattle.declarations.proofs.header.leading_of.Goals as goal
 
-pub field_of-handles-requires : goal.field_of-handles-requires
-field_of-handles-requires c = tt
-
 pub returns-then-line-handles : goal.returns-then-line-handles
 unfolding leading
 returns-then-line-handles c = rw (le-leb _ _ (rw c.field_of-handles.ensures.is at c.if-line-handles.true))
-
-pub field_of-requires : goal.field_of-requires
-field_of-requires c = tt
 
 pub returns-then-line-handles-2 : goal.returns-then-line-handles-2
 unfolding leading

@@ -2,9 +2,6 @@
 use Rattle.table.specs.Header.{leading_ok}
 use Rattle.declarations.proofs.header.leading_ok.Goals as goal
 
-pub field_of-requires : goal.field_of-requires
-field_of-requires c = tt
-
 pub returns : goal.returns
 unfolding leading_ok
 returns c = rw (c.field_of.ensures.is, c.leading_of.ensures)

@@ -1,10 +1,6 @@
 -- `reader::checks::bad_statement` meets its contract. Assumes nothing.
-use Prim.Native.Nat.{◌-◌}
 use Rattle.reader.specs.SearchLaws.{Searching}
 use Rattle.reader.proofs.checks.bad_statement.Given as goal
 
 abbrev pub invariant-loop-r : goal.invariant-loop-r
 invariant-loop-r l = Searching l.numbers l.count l.r
-
-abbrev pub decreases-loop-r : goal.decreases-loop-r
-decreases-loop-r l = l.count - l.r

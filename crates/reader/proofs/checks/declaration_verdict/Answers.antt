@@ -1,33 +1,32 @@
 -- `reader::checks::declaration_verdict` meets its contract. Assumes nothing.
-use borrow.Author.Tests.{lt-ltb, le-ltb, eqb-true}
+use borrow.Author.Tests.{eqb-true}
 use mathlib.Core.Path.{sym, ◌∙◌}
+use Rattle.table.proofs.FoundLaws.{below_some, below_none}
 use Rattle.table.specs.Verdict.{declaration_verdict}
 use Rattle.table.specs.Routines.{sum_ok}
 use Rattle.reader.proofs.checks.declaration_verdict.Goals as goal
 
-pub field_of-requires : goal.field_of-requires
-field_of-requires c = tt
-
-pub returns-then-h-field_of : goal.returns-then-h-field_of
+pub returns-in-Some : goal.returns-in-Some
 unfolding declaration_verdict
-returns-then-h-field_of c = rw (← c.bad_handle-h.ensures, lt-ltb _ _ (rw c.field_of.ensures.is at c.if-h-field_of.true))
+returns-in-Some c = let f = below_some _ _ _ (sym c.in-Some.is ∙ c.bad_handle.ensures) in rw (f.0, f.1)
 
-pub field_of-requires-2 : goal.field_of-requires-2
-field_of-requires-2 c = tt
-
-pub field_of-requires-then-r-field_of : goal.field_of-requires-then-r-field_of
-field_of-requires-then-r-field_of c = tt
-
-pub returns-then-r-field_of : goal.returns-then-r-field_of
+pub returns-in-Some-bad_routine : goal.returns-in-Some-bad_routine
 unfolding declaration_verdict
-returns-then-r-field_of c = rw (← c.bad_handle-h.ensures, le-ltb _ _ (rw c.field_of.ensures.is at c.if-h-field_of.false), ← c.bad_routine-r.ensures, lt-ltb _ _ (rw c.field_of-2.ensures.is at c.if-r-field_of.true), c.field_of-then-r-field_of.ensures.is)
+returns-in-Some-bad_routine c =
+    let f = below_some _ _ _ (sym c.in-Some-bad_routine.is ∙ c.bad_routine.ensures) in
+    rw (below_none _ _ (sym c.in_default.is ∙ c.bad_handle.ensures), f.0, f.1, c.field_of.ensures.is)
 
 pub sum_ok-requires : goal.sum_ok-requires
 sum_ok-requires c = record { first_value = c.first_statements-first.ensures; numbers_bound = c.requires.routines_most }
 
 pub returns-then-not-sum_ok : goal.returns-then-not-sum_ok
 unfolding declaration_verdict
-returns-then-not-sum_ok c = rw (← c.bad_handle-h.ensures, le-ltb _ _ (rw c.field_of.ensures.is at c.if-h-field_of.false), ← c.bad_routine-r.ensures, le-ltb _ _ (rw c.field_of-2.ensures.is at c.if-r-field_of.false), sym c.sum_ok.ensures ∙ c.if-not-sum_ok.true)
+returns-then-not-sum_ok c =
+    rw (
+      below_none _ _ (sym c.in_default.is ∙ c.bad_handle.ensures),
+      below_none _ _ (sym c.in_default-bad_routine.is ∙ c.bad_routine.ensures),
+      sym c.sum_ok.ensures ∙ c.if-not-sum_ok.true,
+    )
 
 pub statement_verdict-requires : goal.statement_verdict-requires
 unfolding sum_ok
@@ -40,4 +39,10 @@ statement_verdict-requires c =
 
 pub returns : goal.returns
 unfolding declaration_verdict
-returns c = rw (← c.bad_handle-h.ensures, le-ltb _ _ (rw c.field_of.ensures.is at c.if-h-field_of.false), ← c.bad_routine-r.ensures, le-ltb _ _ (rw c.field_of-2.ensures.is at c.if-r-field_of.false), sym c.sum_ok.ensures ∙ c.if-not-sum_ok.false) c.statement_verdict.ensures
+returns c =
+    rw (
+      below_none _ _ (sym c.in_default.is ∙ c.bad_handle.ensures),
+      below_none _ _ (sym c.in_default-bad_routine.is ∙ c.bad_routine.ensures),
+      sym c.sum_ok.ensures ∙ c.if-not-sum_ok.false,
+    )
+    c.statement_verdict.ensures

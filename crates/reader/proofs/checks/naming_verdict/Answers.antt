@@ -1,36 +1,31 @@
 -- `reader::checks::naming_verdict` meets its contract. Assumes nothing.
-use mathlib.Core.Path.{◌≡◌, ap, ◌∙◌}
-use Prim.Native.Nat.{◌-◌}
-use borrow.Author.Tests.{lt-ltb, le-ltb}
-use Rattle.table.specs.Until.{until}
-use native.Mathlib.Nat.{sub-zero}
-use Rattle.table.specs.Naming.{is_named, is_acyclic}
+use Rattle.std.proofs.Common.{sym, ◌∙◌}
+use Rattle.table.proofs.FoundLaws.{below_some, below_none}
 use Rattle.table.specs.Verdict.{naming_verdict}
 use Rattle.naming.specs.GatherLaws.{names_ended}
-use Rattle.reader.specs.Rules.{named_by_all}
 use Rattle.reader.proofs.checks.naming_verdict.Goals as goal
 
-pub field_of-count-requires : goal.field_of-count-requires
-field_of-count-requires c = tt
+pub unnamed_routine-requires : goal.unnamed_routine-requires
+unnamed_routine-requires c =
+    rw c.field_of-count.ensures.is (names_ended c.args.numbers.now c.args.names.now c.requires.sized.routines_most c.requires.names_value)
 
-pub all_named-all-requires : goal.all_named-all-requires
-all_named-all-requires c =
-    rw c.field_of-count.ensures.is (names_ended c.args.numbers.now c.args.names.now c.requires.statements_begin.sized.routines_most c.requires.names_value)
-
-pub field_of-requires : goal.field_of-requires
-field_of-requires c = tt
-
-pub returns-then-r-count : goal.returns-then-r-count
+pub returns-in-Some : goal.returns-in-Some
 unfolding naming_verdict
-returns-then-r-count c = let unnamed_here : c.lowest-r.result ≡ until (is_named c.args.names.now) 1 (c.field_of-count.result - 1) = c.lowest-r.ensures ∙ named_by_all _ _ _ c.all_named-all.ensures in rw (← c.field_of-count.ensures.is, ← unnamed_here, lt-ltb _ _ c.if-r-count.true, c.field_of.ensures.is)
+returns-in-Some c =
+    let f = below_some _ _ _ (sym c.in-Some.is ∙ c.unnamed_routine.ensures) in
+    rw (← c.field_of-count.ensures.is, f.0, f.1, c.field_of.ensures.is)
 
-pub field_of-requires-then-q-count : goal.field_of-requires-then-q-count
-field_of-requires-then-q-count c = tt
-
-pub returns-then-q-count : goal.returns-then-q-count
+pub returns-in-Some-recursive_routine : goal.returns-in-Some-recursive_routine
 unfolding naming_verdict
-returns-then-q-count c = let unnamed_here : c.lowest-r.result ≡ until (is_named c.args.names.now) 1 (c.field_of-count.result - 1) = c.lowest-r.ensures ∙ named_by_all _ _ _ c.all_named-all.ensures in let cyclic_here : c.lowest-q.result ≡ until (is_acyclic c.args.names.now) 0 c.field_of-count.result = c.lowest-q.ensures ∙ ap (until _ 0) (sub-zero _) in rw (← c.field_of-count.ensures.is, ← unnamed_here, le-ltb _ _ c.if-r-count.false, ← cyclic_here, lt-ltb _ _ c.if-q-count.true, c.field_of-then-q-count.ensures.is)
+returns-in-Some-recursive_routine c =
+    let f = below_some _ _ _ (sym c.in-Some-recursive_routine.is ∙ c.recursive_routine.ensures) in
+    rw (← c.field_of-count.ensures.is, below_none _ _ (sym c.in_default.is ∙ c.unnamed_routine.ensures), f.0, f.1, c.field_of-in-Some-recursive_routine.ensures.is)
 
 pub returns : goal.returns
 unfolding naming_verdict
-returns c = let unnamed_here : c.lowest-r.result ≡ until (is_named c.args.names.now) 1 (c.field_of-count.result - 1) = c.lowest-r.ensures ∙ named_by_all _ _ _ c.all_named-all.ensures in let cyclic_here : c.lowest-q.result ≡ until (is_acyclic c.args.names.now) 0 c.field_of-count.result = c.lowest-q.ensures ∙ ap (until _ 0) (sub-zero _) in rw (← c.field_of-count.ensures.is, ← unnamed_here, le-ltb _ _ c.if-r-count.false, ← cyclic_here, le-ltb _ _ c.if-q-count.false)
+returns c =
+    rw (
+      ← c.field_of-count.ensures.is,
+      below_none _ _ (sym c.in_default.is ∙ c.unnamed_routine.ensures),
+      below_none _ _ (sym c.in_default-recursive_routine.is ∙ c.recursive_routine.ensures),
+    )

@@ -2,8 +2,5 @@
 use Rattle.passes.specs.PassLaws.{solving_start}
 use Rattle.solver.proofs.worklist.follow.Goals as goal
 
-pub returns-else-edges-places : goal.returns-else-edges-places
-returns-else-edges-places c = solving_start _ _ _
-
 pub returns-else-places-le1024 : goal.returns-else-places-le1024
 returns-else-places-le1024 c = solving_start _ _ _

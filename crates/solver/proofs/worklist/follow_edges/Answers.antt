@@ -1,13 +1,28 @@
--- `solver::worklist::follow_edges` meets its contract. Its loop has gone along some edges. Assumes nothing.
+-- `solver::worklist::follow_edges` meets its contract. Its loop has gone along some edges, and each next one comes later. Assumes nothing.
+use Rattle.std.specs.Prelude.{Option, Some, None, IfSome, ℕ, ◌-◌, ◌^◌, ◌<◌}
+use Rattle.std.proofs.Common.{sym, subst, arith}
 use Rattle.passes.specs.PassLaws.{solving_start, solving_both}
-use borrow.Author.Rules.{rules}
 use Rattle.solver.proofs.worklist.follow_edges.Goals as goal
 
-pub loop-last-init : goal.loop-last-init
-loop-last-init c = (search rules, solving_start _ _ _)
+left : Option ℕ → ℕ
+left o = elim o [ None ↦ 0 | Some k ↦ 2 ^ 64 - k ]
 
-pub loop-last-preserved : goal.loop-last-preserved
-loop-last-preserved c = (search rules, solving_both _ _ c.loop-last.invariant.1 c.follow_pair.ensures)
+later_less : (k : ℕ) (o : Option ℕ) → k < 2 ^ 64 → IfSome o (λ later. k < later) → left o < left (Some k)
+unfolding left
+later_less k None h later = omega arith
+later_less k (Some j) h later = omega arith
+
+pub loop-next-init : goal.loop-next-init
+loop-next-init c = solving_start _ _ _
+
+pub loop-next-preserved : goal.loop-next-preserved
+loop-next-preserved c = solving_both _ _ c.loop-next.invariant c.follow_pair.ensures
+
+pub loop-next-smaller : goal.loop-next-smaller
+unfolding left
+loop-next-smaller c =
+    subst (λ (o : Option ℕ). left c.linked_behind-next.result < left o) (sym c.in-Some.is)
+    (later_less c.in-Some.k c.linked_behind-next.result (omega arith) c.linked_behind-next.ensures)
 
 pub returns : goal.returns
-returns c = c.loop-last.invariant.1
+returns c = c.loop-next.invariant

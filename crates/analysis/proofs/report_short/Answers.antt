@@ -1,9 +1,0 @@
--- `analysis::report_short` meets its contract. Assumes nothing.
-use Rattle.analysis.specs.ReportedLaws.{sized, sized_text}
-use Rattle.analysis.proofs.report_short.Goals as goal
-
-pub slice_bounds-report_within-end : goal.slice_bounds-report_within-end
-slice_bounds-report_within-end c = sized 64 c.args.text.now _ c.line_count-count.ensures c.requires
-
-pub report_within-requires : goal.report_within-requires
-report_within-requires c = sized_text 64 c.args.text.now _ c.line_count-count.ensures c.requires

@@ -1,0 +1,60 @@
+// An accepted table, with the line of its first statement and the lists that say where each routine's statements and handles begin and how many parameters
+// it has.
+ghost use Rattle.std.specs.Prelude.{◌≡◌, ◌<◌, ◌≤◌, List, ℤ};
+ghost use Rattle.table.specs.Header.{handles, routines, statements, statement_line};
+ghost use Rattle.declarations.specs.Laid.{Laid};
+
+use std::marker::Model;
+
+// In a contract, the table's numbers.
+#[derive(Drop)]
+pub struct Program<'a> {
+    pub numbers: &'a [i32],
+    pub base: usize,
+    pub first: &'a [usize],
+    pub handle: &'a [usize],
+    pub counts: &'a [usize],
+}
+
+impl<'a> Model for Program<'a> {
+    ghost Value = { List ℤ };
+
+    ghost view = { λ p. p.numbers.now };
+
+    ghost invariant = { λ p. Laid p.numbers.now p.base p.first.now p.handle.now p.counts.now };
+}
+
+impl<'a> Program<'a> {
+    // How many statements it has.
+    pub fn statements(&self) -> usize
+        ensures is { result ≡ statements self.now }
+        ensures some { 1 ≤ result }
+        ensures few { result ≤ 512 }
+    {
+        table::field_of(self.numbers, 0, 5)
+    }
+
+    // How many routines it has.
+    pub fn routines(&self) -> usize
+        ensures is { result ≡ routines self.now }
+        ensures few { result ≤ 32 }
+    {
+        table::field_of(self.numbers, 0, 4)
+    }
+
+    // How many handles it has.
+    pub fn handles(&self) -> usize
+        ensures is { result ≡ handles self.now }
+        ensures few { result ≤ 128 }
+    {
+        table::field_of(self.numbers, 0, 3)
+    }
+
+    // The line of statement `s`.
+    pub fn line_of(&self, s: usize) -> usize
+        requires { s < statements self.now }
+        ensures { result ≡ statement_line self.now s }
+    {
+        self.base + s
+    }
+}

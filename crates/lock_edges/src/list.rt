@@ -1,0 +1,69 @@
+// A list of edges with the place whose set each meets, filled from the front in room that a caller lends.
+ghost use Rattle.std.specs.Prelude.{◌≡◌, [], ◌∷◌, ◌≤◌, length, take};
+
+use super::Origin;
+
+// An edge is a number in `edges` and a place in `also`, as the solver takes them.
+#[derive(Drop)]
+pub struct MetEdges<'a> {
+    pub edges: &'a mut [u32],
+    pub also: &'a mut [u16],
+    pub used: usize,
+    pub ghost inside: { used ≤ length edges.now },
+    pub ghost also_inside: { used ≤ length also.now },
+}
+
+impl<'a> MetEdges<'a> {
+    ghost use Rattle.table.specs.View.{list_on, when};
+    ghost use Rattle.lock_edges.specs.ViewEdges.{edge_from};
+    ghost use Rattle.lock_edges.specs.Grown.{Grown};
+
+    // The numbers of the edges so far.
+    pub fn edges(&self) -> &[u32]
+        ensures { result.now ≡ take self.now.used self.now.edges.now }
+    {
+        &self.edges[..self.used]
+    }
+
+    // The places that the edges so far meet.
+    pub fn also(&self) -> &[u16]
+        ensures { result.now ≡ take self.now.used self.now.also.now }
+    {
+        &self.also[..self.used]
+    }
+
+    // Appends the edge from `origin` to `t`. Where there is no room, or a number is too large, nothing changes.
+    pub fn push(&mut self, origin: Origin, t: usize)
+        ensures { Grown self.old self.new (edge_from origin t ∷ []) }
+    {
+        let n = self.used;
+        if n < self.edges.len()
+            && n < self.also.len()
+            && origin.from < 65536
+            && origin.also < 65536
+            && t < 65536
+        {
+            self.edges[n] = (origin.from * 65536 + t) as u32;
+            self.also[n] = origin.also as u16;
+            self.used = n + 1;
+        }
+    }
+
+    // Appends the edge from `origin` to what is referred to, if to anything.
+    pub fn push_to(&mut self, origin: Origin, to: Option<usize>)
+        ensures { Grown self.old self.new (list_on to (λ j. edge_from origin j ∷ [])) }
+    {
+        if let Some(j) = to {
+            self.push(origin, j);
+        }
+    }
+
+    // Appends the edge from `origin` to `t`, if the test holds.
+    pub fn push_if(&mut self, test: bool, origin: Origin, t: usize)
+        ensures { Grown self.old self.new (when test (edge_from origin t ∷ [])) }
+    {
+        if test {
+            self.push(origin, t);
+        }
+    }
+}
