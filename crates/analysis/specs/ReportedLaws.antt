@@ -1,5 +1,5 @@
 -- The answers of `report` and `is_clean`, by what was read and what was printed. Assumes nothing.
-use Rattle.std.specs.Prelude.{◌≡◌, refl, Bool, true, false, cond, List, ℕ, ◌*◌, ◌≤◌, ◌<◌, ltb, ℤ, pos, length, take, replicate, Result, Ok, Err, Option, Some, None, ok_or}
+use Rattle.std.specs.Prelude.{◌≡◌, refl, Bool, true, false, cond, List, ℕ, ◌*◌, ◌≤◌, ltb, ℤ, pos, length, take, replicate, Ok, Err, Option, Some, None, ok_or}
 use Rattle.std.proofs.Common.{sym, ap, ◌∙◌, arith}
 use Rattle.std.proofs.lemmas.List.{length-replicate}
 use Rattle.lines.specs.Line.{numbers_of, line_count}
@@ -16,7 +16,6 @@ use Rattle.report_printer.specs.Printed.{bytes_in, printed_over, counts_nothing}
 use Rattle.analysis.specs.Reported.{table_in, answer_of, report_answer, reported_into, loadable, with_clean, examined_in}
 use Rattle.table.specs.declared.Refusal.{Refusal}
 use Rattle.table.specs.declared.Refusal.TheVariants.{Length, Room}
-use Rattle.analysis.specs.declared.Examined.{Examined}
 use Rattle.stages.specs.Lent.{Lent}
 use Rattle.findings.specs.FoundLaws.{statements_few}
 use Rattle.table.proofs.AcceptedLaws.{handles_few, routines_few}
@@ -99,7 +98,7 @@ lent_long f acc =
     let r : routines f ≤ 32 = routines_few f acc in
     let s : statements f ≤ 512 = statements_few f acc in
     let h : handles f ≤ 128 = handles_few f acc in
-    record { zeros = refl; work_long = omega arith; places_long = omega arith; edges_long = omega arith }
+    record { work_long = omega arith; places_long = omega arith; edges_long = omega arith }
 
 -- for those of a table of N lines at most
 pub lent_sized : (f : List ℤ) (N W E : ℕ) → length f ≡ 8 * statement_line f (statements f) → length f ≤ 8 * N → 3 * N ≤ W → 4 * N ≤ E
@@ -107,4 +106,4 @@ pub lent_sized : (f : List ℤ) (N W E : ℕ) → length f ≡ 8 * statement_lin
 lent_sized f N W E e l w k =
     let a : length (replicate {A = ℕ} W 0) ≡ W = length-replicate W 0 in
     let b : length (replicate {A = ℕ} E 0) ≡ E = length-replicate E 0 in
-    record { zeros = ap (λ (n : ℕ). replicate n 0) (sym a); work_long = omega arith; places_long = omega arith; edges_long = omega arith }
+    record { work_long = omega arith; places_long = omega arith; edges_long = omega arith }

@@ -1,4 +1,5 @@
 -- The numbers of a verdict and of an answer are small: packing or printing them loses nothing. Assumes nothing.
+use Rattle.std.proofs.lemmas.Bool.{and_parts}
 use Rattle.std.specs.Prelude.{◌≡◌, refl, Bool, true, false, cond, ◌&&◌, List, ℕ, ◌-◌, ◌/◌, ◌%◌, ◌^◌, ◌≤◌, ◌<◌, eqb, leb, ltb, ℤ, length, Ok, Err}
 use Rattle.std.proofs.Math.Option.{Option, none, some}
 use Rattle.std.proofs.Common.{arith}
@@ -7,7 +8,7 @@ use Rattle.lines.specs.Line.{first_bad, numbers_of}
 use Rattle.lines.proofs.LineLaws.{first_bad_line}
 use Rattle.table.specs.Header.{header_ok, length_ok, leading_ok, handles, routines, statements, routine_line, handle_line, statement_line}
 use Rattle.table.specs.HeaderLaws.{Sized}
-use Rattle.table.proofs.HeaderLaws.{header_sized, both}
+use Rattle.table.proofs.HeaderLaws.{header_sized}
 use Rattle.table.specs.Until.{until}
 use Rattle.table.specs.Handles.{handle_ok}
 use Rattle.table.specs.Routines.{first_statement, routine_ok, sum_ok}
@@ -114,7 +115,7 @@ numbers_small f lines l =
 
 text_short : (n : ℕ) → text_ok n ≡ true → n ≤ 32977
 unfolding text_ok
-text_short n e = leb-true n 32977 (both (ltb 0 n && eqb (n % 49) 0) (leb n 32977) e).1
+text_short n e = leb-true n 32977 (and_parts (ltb 0 n && eqb (n % 49) 0) (leb n 32977) e).1
 
 -- of every text
 pub verdict_small : (text : List ℕ) → SmallVerdict (verdict text)

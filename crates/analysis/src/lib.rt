@@ -1,5 +1,7 @@
 #![tactic(auto)]
 // The report of a table text, and whether its totals are 0.
+// Text and buffer are lent apart, as C lends them, and the room for the numbers beside the text, since there is no heap. An accepted table's numbers are
+// asked for up to where the lists for a `Program` are made.
 ghost use Rattle.std.specs.Prelude.{◌≡◌, ◌*◌, ◌≤◌, ◌^◌, ◌<◌, length, replicate};
 ghost use Rattle.lines.specs.Line.{line_count};
 ghost use Rattle.table.specs.Header.{statements, statement_line};

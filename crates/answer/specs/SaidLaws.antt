@@ -1,6 +1,6 @@
 -- What is printed for an accepted and for a refused text, and what the answer of `report` leaves to print. Assumes nothing.
 use Rattle.std.specs.Prelude.{◌≡◌, refl, Bool, true, false, cond, List, ◌++◌, ℕ, ◌≤◌, ltb, length, drop, Ok, Err}
-use Rattle.std.proofs.Common.{sym, ap, ap₂, ◌∙◌, arith, ltb-false, le-ltb}
+use Rattle.std.proofs.Common.{sym, ap, ◌∙◌, arith, ltb-false, le-ltb}
 use Rattle.table.specs.Refusals.{number_of, line_of}
 use Rattle.table.specs.declared.Refusal.{Refusal}
 use Rattle.table.specs.declared.Refusal.TheVariants.{Room}
@@ -9,8 +9,8 @@ use Rattle.report.specs.Report.{report_text}
 use Rattle.refusal.specs.Refusal.{refusal_text, refusal_in, over}
 use Rattle.refusal.specs.RefusalLaws.{refusal_said, refusal_fits}
 use Rattle.analysis.specs.Reported.{Answer, table_in, answer_by, report_answer, written_by, reported_into}
-use Rattle.analysis.specs.SmallLaws.{SmallVerdict, SmallRefusal, verdict_small}
-use Rattle.answer.specs.Said.{said_by, said_of}
+use Rattle.analysis.specs.SmallLaws.{SmallRefusal, verdict_small}
+use Rattle.answer.specs.Said.{said_of}
 
 -- ---- the promise, by the verdict
 

@@ -1,5 +1,7 @@
 #![tactic(auto)]
 // A statement by its attributes, out of its line in a table's numbers: each by equality with that of its view.
+// `numbers` and `line` go together as a list and an index do: a struct of both would be made anew for each statement, and each promise would be longer.
+// Operations are numbers here, as in the line: they are read before they are known to be any.
 ghost use Rattle.std.specs.Prelude.{◌≡◌, get_or};
 ghost use Rattle.table.specs.Fields.{field};
 ghost use Rattle.table.specs.Table.{passed, statement_in};
@@ -48,6 +50,7 @@ fn arguments_if(numbers: &[i32], line: usize, test: bool) -> Arguments
 }
 
 // What the statement in `line` is to the rules, where locks taken for writing alone count, or all. Past the last line it is RETURN.
+// `writing` is a Boolean as the definition `in_mode` has it: it chooses what counts, not what is done; `held_edges::Mode` stands above.
 pub fn view_at(numbers: &[i32], line: usize, writing: bool) -> View
     ensures { result ≡ in_mode writing (view (statement_in numbers.now line (field numbers.now line 1))) }
 {

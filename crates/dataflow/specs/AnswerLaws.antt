@@ -1,5 +1,5 @@
 -- The report's sets solve the equations: their edges and the sets that they begin with are those of the report's definitions. Assumes nothing.
-use Rattle.std.specs.Prelude.{ℕ, ◌≤◌, max, ◌≡◌, ℤ, length}
+use Rattle.std.specs.Prelude.{ℕ, ◌≤◌, max, ◌≡◌, Bool, ℤ, length}
 use Rattle.std.proofs.Common.{arith, ◌∙◌}
 use Rattle.std.proofs.Math.Path.{refl, sym, ap, ap₂, subst}
 use Rattle.std.proofs.Math.Bool.{true, false}
@@ -22,10 +22,9 @@ use Rattle.report.proofs.FlowLaws.{initials_sets}
 use Rattle.report.specs.FlowPasses.{flow_passes, HelpersFirst}
 use Rattle.report.proofs.FlowPassesLaws.{flow_among, passes_by_edges, passes_at_most_handles, three_passes_at_most}
 use Rattle.report.specs.Effect.{over_copy, up_from, naming_edges, call_edges as up_call_edges, effects, gives}
-use Rattle.edges.specs.Equations.{Equation, Flow, Effects, Gives, up_edges, edges_at, edges_for}
-use Rattle.initial.specs.declared.Act.{Act}
-use Rattle.initial.specs.declared.Act.TheVariants.{Reads, Writes, Gives as InitialGives}
-use Rattle.initial.specs.InitialSets.{own_set, in_routine}
+use Rattle.edges.specs.Equations.{Flow, Effects, Gives, up_edges, edges_at, edges_for}
+use Rattle.initial.specs.declared.Act.TheVariants.{Gives as InitialGives}
+use Rattle.initial.specs.InitialSets.{acts, own_set, in_routine}
 use Rattle.edges.specs.EdgeLaws.{joined_same}
 use Rattle.edges.specs.RoutineLaws.{copy_of}
 
@@ -52,17 +51,19 @@ module _ (t : Table) where
   -- ---- the sets
 
   module _ (flow : List ℕ) where
-    read_sets : least (naming_edges t (one_each t)) (tabulate (length t.routines) (in_routine Reads flow t)) ≡ effects t (one_each t) flow false
+    effect_sets : (w : Bool) → least (naming_edges t (one_each t)) (tabulate (length t.routines) (in_routine (acts w) flow t)) ≡ effects t (one_each t) flow w
     unfolding effects in_routine own_set over_copy accessed one_each
-    read_sets = refl
-
-    written_sets : least (naming_edges t (one_each t)) (tabulate (length t.routines) (in_routine Writes flow t)) ≡ effects t (one_each t) flow true
-    unfolding effects in_routine own_set over_copy accessed one_each
-    written_sets = refl
+    effect_sets true = refl
+    effect_sets false = refl
 
     given_sets : least (up_call_edges t (one_each t)) (tabulate (length t.routines) (in_routine InitialGives flow t)) ≡ gives t (one_each t) flow
     unfolding gives in_routine own_set over_copy given one_each
     given_sets = refl
+
+-- ---- what the solver leaves, by an equation's edges
+
+pub solved : (l : List ℕ) {es : List Edge} → map edge_of l ≡ es → (s : List ℕ) {out : List ℕ} → out ≡ least (map edge_of l) s → out ≡ least es s
+solved l is s p = p ∙ ap (λ (es : List Edge). least es s) is
 
 -- ---- the report's sets are the answers
 
@@ -70,21 +71,13 @@ module _ (f : List ℤ) where
   abbrev t : Table
   t = table_of f
 
-  module _ (flow : List ℕ) {n : ℕ} (e : n ≡ routines f) (l : List ℕ) {out : List ℕ} where
-    -- from what each routine does itself, along an equation's edges
-    along : (q : Equation) (act : Act) {es : List Edge} → map edge_of l ≡ edges_for q t → edges_for q t ≡ es
-        → out ≡ least (map edge_of l) (tabulate n (in_routine act flow t)) → out ≡ least es (tabulate (length t.routines) (in_routine act flow t))
-    along q act is same p =
-        p ∙ ap₂ (λ (es : List Edge) (k : ℕ). least es (tabulate k (in_routine act flow t))) (is ∙ same) (e ∙ sym (routines_length f))
+  pub effect_answer : (w : Bool) (flow : List ℕ) {n : ℕ} → n ≡ routines f → least (edges_for Effects t) (tabulate n (in_routine (acts w) flow t)) ≡ effects t (one_each t) flow w
+  effect_answer w flow e =
+      ap₂ (λ (es : List Edge) (k : ℕ). least es (tabulate k (in_routine (acts w) flow t))) (up_edges_lem t) (e ∙ sym (routines_length f)) ∙ effect_sets t flow w
 
-    pub reads_answer : map edge_of l ≡ edges_for Effects t → out ≡ least (map edge_of l) (tabulate n (in_routine Reads flow t)) → out ≡ effects t (one_each t) flow false
-    reads_answer is p = along Effects Reads is (up_edges_lem t) p ∙ read_sets t flow
-
-    pub writes_answer : map edge_of l ≡ edges_for Effects t → out ≡ least (map edge_of l) (tabulate n (in_routine Writes flow t)) → out ≡ effects t (one_each t) flow true
-    writes_answer is p = along Effects Writes is (up_edges_lem t) p ∙ written_sets t flow
-
-    pub given_answer : map edge_of l ≡ edges_for Gives t → out ≡ least (map edge_of l) (tabulate n (in_routine InitialGives flow t)) → out ≡ gives t (one_each t) flow
-    given_answer is p = along Gives InitialGives is (given_edges t) p ∙ given_sets t flow
+  pub given_answer : (flow : List ℕ) {n : ℕ} → n ≡ routines f → least (edges_for Gives t) (tabulate n (in_routine InitialGives flow t)) ≡ gives t (one_each t) flow
+  given_answer flow e =
+      ap₂ (λ (es : List Edge) (k : ℕ). least es (tabulate k (in_routine InitialGives flow t))) (given_edges t) (e ∙ sym (routines_length f)) ∙ given_sets t flow
 
 -- ---- flow, by passes over the statements
 

@@ -2,6 +2,8 @@
 // Flow, effects and given-up locks of an accepted table, each the least sets along the edges of its equation: flow by passes over the statements from the
 // highest number down, the others by the solver.
 // `edges` lends the room for the edges, four a statement; what stands in it before does not matter, and what is left in it says nothing.
+// The room is lent from above, since there is no heap, and lent on in parts, so each function says how much it needs: of a struct
+// of program and room each contract would have to say too that they are the same lists.
 ghost use Rattle.std.specs.Prelude.{◌≡◌, true, false, map, ◌*◌, ◌≤◌, max, length, take};
 ghost use Rattle.sets.specs.Least.{edge_of, least};
 ghost use Rattle.table.specs.Header.{handles, routines, statements};
@@ -15,7 +17,7 @@ ghost use Rattle.initial.specs.InitialSets.{in_routine};
 
 use declarations::program::Program;
 use edges::list::EdgeList;
-use initial::Act;
+use initial::{Act, Acts};
 use solver::Order;
 
 // Leaves in `flow` the flow set of each handle, by passes over the statements from the highest number down until one changes nothing. Returns how many
@@ -47,11 +49,11 @@ pub fn flow_sets(program: &Program<'_>, edges: &mut [u32], flow: &mut [u64])
 }
 
 // Leaves in `out` the least sets along the edges, from what the statements of each routine do so themselves.
-fn own_sets(program: &Program<'_>, flow: &[u64], act: Act, edges: &[u32], out: &mut [u64])
-    requires { length out.old ≡ routines program.now }
-    ensures { out.new ≡ least (map edge_of edges.now) (tabulate (length out.old) (in_routine act flow.now (table_of program.now))) }
+fn own_sets(acts: &Acts<'_>, edges: &[u32], out: &mut [u64])
+    requires { length out.old ≡ routines acts.now.program.now }
+    ensures { out.new ≡ least (map edge_of edges.now) (tabulate (length out.old) (in_routine acts.now.act acts.now.flow.now (table_of acts.now.program.now))) }
 {
-    initial::fill_own(program, flow, act, out);
+    acts.fill_own(out);
     solver::solve_plain(out, edges, Order::LastToFirst);
 }
 
@@ -75,8 +77,10 @@ pub fn effect_sets(
     };
     edges::fill_naming(program, &mut list);
     let naming = list.edges();
-    own_sets(program, flow, Act::Reads, naming, reads);
-    own_sets(program, flow, Act::Writes, naming, writes);
+    let act = Act::Reads;
+    own_sets(&Acts { program, flow, act }, naming, reads);
+    let act = Act::Writes;
+    own_sets(&Acts { program, flow, act }, naming, writes);
 }
 
 // Leaves in `given` the locks that each routine, or what it reaches by CALLs, may give up.
@@ -90,5 +94,6 @@ pub fn given_sets(program: &Program<'_>, flow: &[u64], edges: &mut [u32], given:
         used: 0,
     };
     edges::fill_calls(program, &mut list);
-    own_sets(program, flow, Act::Gives, list.edges(), given);
+    let act = Act::Gives;
+    own_sets(&Acts { program, flow, act }, list.edges(), given);
 }

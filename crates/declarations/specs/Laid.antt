@@ -6,6 +6,13 @@ use Rattle.table.specs.Table.{table_of}
 use Rattle.table.proofs.LookupLaws.{handles_length, routines_length, statements_length}
 use Rattle.table.specs.Accepted.{Accepted}
 use Rattle.table.specs.Extents.{first_statements, first_handles, parameter_counts}
+use Rattle.declarations.specs.declared.outline.Extents.{Extents}
+
+-- the three lists are those of these numbers
+pub record Measured (f : List ℤ) (x : Extents) : Type 0 where
+  pub firsts : x.first ≡ first_statements f
+  pub handles_first : x.handle ≡ first_handles f
+  pub parameters : x.counts ≡ parameter_counts f
 
 pub record Laid (f : List ℤ) (base : ℕ) (first handle counts : List ℕ) : Type 0 where
   pub accepted : Accepted (table_of f)

@@ -1,4 +1,6 @@
 // The handle lines: their rule.
+// Kinds and origins are numbers here, as in the line: the rules read them before they are known to be any. The numbers and a handle are a list and an index;
+// that the index is small is asked where a line's number is reckoned from it, and a range gives it.
 ghost use Rattle.std.specs.Prelude.{◌≡◌, ◌<◌, ◌^◌, ◌-◌};
 ghost use Rattle.table.specs.Until.{until};
 ghost use Rattle.table.specs.Found.{below};

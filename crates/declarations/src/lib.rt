@@ -2,6 +2,7 @@
 // Where each routine's statements and handles begin, and how many parameters it has; and the rules of the lines that say it.
 pub mod handles;
 pub mod header;
+pub mod outline;
 pub mod program;
 pub mod routines;
 

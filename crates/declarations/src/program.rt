@@ -2,8 +2,11 @@
 // it has.
 ghost use Rattle.std.specs.Prelude.{◌≡◌, ◌<◌, ◌≤◌, List, ℤ};
 ghost use Rattle.table.specs.Header.{handles, routines, statements, statement_line};
-ghost use Rattle.declarations.specs.Laid.{Laid};
+ghost use Rattle.table.specs.Table.{table_of};
+ghost use Rattle.table.specs.Accepted.{Accepted};
+ghost use Rattle.declarations.specs.Laid.{Laid, Measured};
 
+use crate::outline::Extents;
 use std::marker::Model;
 
 // In a contract, the table's numbers.
@@ -25,6 +28,21 @@ impl<'a> Model for Program<'a> {
 }
 
 impl<'a> Program<'a> {
+    // Of an accepted table's numbers and its extents.
+    pub fn new(numbers: &'a [i32], extents: &'a Extents) -> Program<'a>
+        requires measured { Measured numbers.now extents.now }
+        requires accepted { Accepted (table_of numbers.now) }
+        ensures { result ≡ numbers.now }
+    {
+        Program {
+            numbers,
+            base: table::first_line(numbers),
+            first: &extents.first,
+            handle: &extents.handle,
+            counts: &extents.counts,
+        }
+    }
+
     // How many statements it has.
     pub fn statements(&self) -> usize
         ensures is { result ≡ statements self.now }

@@ -1,4 +1,5 @@
 // The routine lines: their rule.
+// The numbers and a routine are a list and an index, as in `handles`.
 ghost use Rattle.std.specs.Prelude.{◌≡◌, ◌<◌, ◌^◌};
 ghost use Rattle.table.specs.Until.{until};
 ghost use Rattle.table.specs.Found.{below};

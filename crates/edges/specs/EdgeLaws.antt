@@ -4,7 +4,7 @@ use Rattle.std.proofs.Common.{ap, ap₂, ◌∙◌, add-one, arith, length-appen
 use Rattle.std.proofs.lemmas.List.{map-append}
 use Rattle.sets.specs.Least.{Edge, edge_of}
 use Rattle.sets.proofs.LeastLaws.{edge_packed}
-use Rattle.sets.proofs.AppendLaws.{Small, Room, Kind, room_left, appended_same, appended_none, appended_both, appended_not}
+use Rattle.sets.proofs.AppendLaws.{Small, Kind, appended_not}
 use Rattle.sets.proofs.AppendLaws as A
 use Rattle.report.specs.Over.{joined_from}
 use Rattle.report.proofs.OverLaws.{Within}

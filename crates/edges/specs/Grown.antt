@@ -77,9 +77,16 @@ edges_in x = map edge_of (take x.used x.room.now)
 abbrev pub nothing : (a : ℕ) {x : List ℕ} {n : ℕ} → n ≡ 0 → length x ≡ a → Holds a (listed x n) []
 nothing a e l = record { count = e; long = l; is = rw e refl }
 
+-- it has these edges, all in its room
+pub record Filled (b : EdgeList) (es : List Edge) : Type 0 where
+  pub there : b.used ≤ length b.room.now
+  pub is : edges_in b ≡ es
+
 -- whatever stood in the room before
-pub filled : {a b : EdgeList} {es : List Edge} → a.used ≡ 0 → Grown a b es → Room (length a.room.now) es → edges_in b ≡ es
-filled {a} e g r = (g.appended.then (length a.room.now) [] (nothing (length a.room.now) e refl) r).is
+pub filled : {a b : EdgeList} {es : List Edge} → a.used ≡ 0 → Grown a b es → Room (length a.room.now) es → Filled b es
+filled {a} e g r =
+    let h = g.appended.then (length a.room.now) [] (nothing (length a.room.now) e refl) r in
+    record { there = omega (arith, h.count, h.long, r.room); is = h.is }
 
 -- first some edges, then others
 pub record Halves (n : ℕ) (x : List ℕ) (p q : List Edge) : Type 0 where

@@ -1,5 +1,5 @@
 -- What the view of a statement's line says of the edges of each equation. Assumes nothing.
-use Rattle.std.specs.Prelude.{ℕ, ◌+◌, ◌<◌, ◌≡◌, Bool, true, false, ℤ, length, get_or, Option, Some, None}
+use Rattle.std.specs.Prelude.{ℕ, ◌+◌, ◌<◌, ◌≡◌, Bool, true, false, cond, ℤ, length, get_or, Option, Some, None}
 use Rattle.std.proofs.Math.Path.{sym, ap, ap₂, subst}
 use Rattle.std.proofs.Common.{◌∙◌, zero-add, arith}
 use mathlib.Core.List.{List, [], ◌∷◌, ◌++◌, map-append, append-nil}
@@ -72,11 +72,11 @@ module _ (t : Table) (s : ℕ) (σ : Statement) {v : View} (is : v ≡ view σ) 
       sym (append-nil (pointed v)) ∙ ap {B = List Edge} (λ r. pointed v ++ list_on r (λ (q : ℕ). passing t (one_each t) 0 0 q v.arguments)) (sym e) ∙ flow_parts
 
   -- CALL, and START
-  up_all : (c : ℕ) {r : Option ℕ} → r ≡ v.names → list_on r (λ (q : ℕ). edge q c ∷ []) ≡ up_edges true c σ
+  pub up_all : (c : ℕ) {r : Option ℕ} → r ≡ v.names → list_on r (λ (q : ℕ). edge q c ∷ []) ≡ up_edges true c σ
   unfolding up_edges named
   up_all c h = ap {B = List Edge} (λ r. list_on r (λ (q : ℕ). edge q c ∷ [])) (h ∙ ap (λ (v : View). v.names) is) ∙ sym (on_number (view σ).names (λ (q : ℕ). edge q c ∷ []) [])
 
-  up_calls : (c : ℕ) {r : Option ℕ} → r ≡ calls v → list_on r (λ (q : ℕ). edge q c ∷ []) ≡ up_edges false c σ
+  pub up_calls : (c : ℕ) {r : Option ℕ} → r ≡ calls v → list_on r (λ (q : ℕ). edge q c ∷ []) ≡ up_edges false c σ
   unfolding up_edges named
   up_calls c h = ap {B = List Edge} (λ r. list_on r (λ (q : ℕ). edge q c ∷ [])) (h ∙ ap calls is) ∙ sym (on_called (view σ) (λ (q : ℕ). edge q c ∷ []) [])
 
@@ -104,15 +104,18 @@ module _ (t : Table) (s : ℕ) (σ : Statement) {v : View} (is : v ≡ view σ) 
 -- ---- all statements
 
 -- up from statement s to the routine that it stands in
+pub up_at : (starts : Bool) (t : Table) (s c : ℕ) → c ≡ owner_of t s → up_edges starts c (statement t s) ≡ edges_at (cond starts Effects Gives) t s
+unfolding edges_at
+up_at true t s c e = ap {B = List Edge} (λ (x : ℕ). up_edges true x (statement t s)) e
+up_at false t s c e = ap {B = List Edge} (λ (x : ℕ). up_edges false x (statement t s)) e
+
 pub naming_at : (t : Table) (s c : ℕ) {v : View} → v ≡ view (statement t s) → {r : Option ℕ} → r ≡ v.names → c ≡ owner_of t s
     → list_on r (λ (q : ℕ). edge q c ∷ []) ≡ edges_at Effects t s
-unfolding edges_at
-naming_at t s c is p e = up_all t s (statement t s) is c p ∙ ap {B = List Edge} (λ (x : ℕ). up_edges true x (statement t s)) e
+naming_at t s c is p e = up_all t s (statement t s) is c p ∙ up_at true t s c e
 
 pub call_at : (t : Table) (s c : ℕ) {v : View} → v ≡ view (statement t s) → {r : Option ℕ} → r ≡ calls v → c ≡ owner_of t s
     → list_on r (λ (q : ℕ). edge q c ∷ []) ≡ edges_at Gives t s
-unfolding edges_at
-call_at t s c is p e = up_calls t s (statement t s) is c p ∙ ap {B = List Edge} (λ (x : ℕ). up_edges false x (statement t s)) e
+call_at t s c is p e = up_calls t s (statement t s) is c p ∙ up_at false t s c e
 
 -- to statement s from what may come next
 pub next_at : (t : Table) (s : ℕ) {v : View} → v ≡ view (statement t s) → {r : Option ℕ} {b : Bool} → r ≡ v.target → b ≡ v.onward

@@ -22,7 +22,7 @@ use Rattle.report.proofs.OneEach.{statement_below}
 use Rattle.report.specs.Flow.{passing, flow_edges}
 use Rattle.edges.specs.Equations.{Equation, Flow, Effects, Gives, Nexts, Callers, edge, up_edges, next_edges, call_edges, edges_at, edges_for}
 use Rattle.edges.specs.declared.list.EdgeList.{EdgeList}
-use Rattle.edges.specs.Grown.{Grown, edges_in, filled, Halves, parts}
+use Rattle.edges.specs.Grown.{Grown, Filled, filled, Halves, parts}
 use Rattle.edges.specs.LineLaws.{next_parts}
 
 pub room_edge : (m f t : ℕ) → f < 65536 → t < 65536 → Room (m + 1) (edge f t ∷ [])
@@ -166,14 +166,14 @@ module _ (t : Table) (acc : Accepted t) where
       at_callers s l o = room_callers s o.0 (omega (arith, acc.statements_most)) o.1 (statement t s) (acc.operands o.0 s o.1 o.2)
 
 -- so a list with that much room holds an equation's edges, whatever stood in it before
-filled_for : (q : Equation) (f : List ℤ) → Accepted (table_of f) → {a b : EdgeList} → 4 * statements f ≤ length a.room.now → a.used ≡ 0
-    → Grown a b (edges_for q (table_of f)) → edges_in b ≡ edges_for q (table_of f)
+pub filled_for : (q : Equation) (f : List ℤ) → Accepted (table_of f) → {a b : EdgeList} → 4 * statements f ≤ length a.room.now → a.used ≡ 0
+    → Grown a b (edges_for q (table_of f)) → Filled b (edges_for q (table_of f))
 filled_for q f acc {a} room e g = filled e g (edges_room (table_of f) acc q (length a.room.now) (omega (arith, statements_length f)))
 
 -- as the list gives them
 pub edges_are : (q : Equation) (f : List ℤ) → Accepted (table_of f) → {a b : EdgeList} → 4 * statements f ≤ length a.room.now → a.used ≡ 0
     → Grown a b (edges_for q (table_of f)) → {l : List ℕ} → l ≡ take b.used b.room.now → map edge_of l ≡ edges_for q (table_of f)
-edges_are q f acc room e g p = ap {B = List Edge} (λ (l : List ℕ). map edge_of l) p ∙ filled_for q f acc room e g
+edges_are q f acc room e g p = ap {B = List Edge} (λ (l : List ℕ). map edge_of l) p ∙ (filled_for q f acc room e g).is
 
 -- and those of both stages of futures behind each other
 pub stages_are : (f : List ℤ) → Accepted (table_of f) → {a b c : EdgeList} → 4 * statements f ≤ length a.room.now → a.used ≡ 0
@@ -182,3 +182,11 @@ pub stages_are : (f : List ℤ) → Accepted (table_of f) → {a b c : EdgeList}
 stages_are f acc {a} {b} room e g h p =
     subst (λ (l : List ℕ). Halves b.used l (edges_for Nexts (table_of f)) (edges_for Callers (table_of f))) (sym p)
     (parts e g h (stages_room (table_of f) acc (length a.room.now) (omega (arith, statements_length f))))
+
+-- ---- what `append_callers` asks, of the numbers that a program holds
+
+pub callers_asked : {f g : List ℤ} → f ≡ g → Accepted (table_of g) → (s : ℕ) → {end c : ℕ} → end ≡ statements g → end ≤ 512 → c ≡ owner_of (table_of g) s
+    → (end ≡ statements f) × (end ≤ 512) × (c ≡ owner_of (table_of f) s) × (c < 4294967296)
+callers_asked {g} e acc s {c = c} p l q =
+    let small : c < 4294967296 = omega (arith, q, owner_small (table_of g) acc s) in
+    rw e (p, l, q, small)

@@ -1,8 +1,11 @@
 #![tactic(auto)]
 // The edges of a dataflow equation, in the order of its definition. An edge is one number: 65,536 times the place that it comes from, and the place
 // that it leads to. Each function appends to a list that the caller lends; four places a statement are room enough.
+// A statement `s` and its routine `c` go beside the program as indices beside a list. (`lock_edges::Here` is a struct, since it holds a view that four
+// functions read; here each reads an attribute or two.) `append_naming` and `append_calls` differ in the attribute that they read, and each has an equation
+// of its own.
 ghost use Rattle.std.specs.Prelude.{◌≡◌, [], ◌∷◌, ◌<◌, ◌≤◌, ◌+◌, ◌^◌};
-ghost use Rattle.table.specs.Header.{statements};
+ghost use Rattle.table.specs.Header.{statements, statement_line};
 ghost use Rattle.table.specs.Table.{table_of, statement};
 ghost use Rattle.table.specs.Extents.{first_statements, first_handles, parameter_counts};
 ghost use Rattle.table.specs.Accepted.{Accepted};
@@ -152,16 +155,32 @@ pub fn fill_nexts(program: &Program<'_>, list: &mut EdgeList<'_>)
     append_each(program, list, |list, s, _c| append_nexts(program, s, list));
 }
 
-// Appends the edges from statement `s`, if it is a CALL, and from the CALLs of its routine `c`, to those of the routine that it names; the places of
-// a routine's CALLs stand behind the statements.
-pub fn append_callers(program: &Program<'_>, s: usize, c: usize, list: &mut EdgeList<'_>)
+// Appends the edges from statement `s`, whose line is `line`, if it is a CALL, and from the CALLs of its routine `c`, to those of the routine that it names;
+// the places of a routine's CALLs stand from `end` on, the number of statements.
+pub fn append_callers(
+    numbers: &[i32],
+    line: usize,
+    s: usize,
+    end: usize,
+    c: usize,
+    list: &mut EdgeList<'_>,
+)
+    requires line_value { (line ≡ statement_line numbers.now s) × (s < statements numbers.now) }
+    requires end_value { (end ≡ statements numbers.now) × (end ≤ 512) × (c ≡ owner_of (table_of numbers.now) s) × (c < 2 ^ 32) }
+    ensures { Grown list.old list.new (edges_at Callers (table_of numbers.now) s) }
+{
+    let called = attributes::calls_at(numbers, line);
+    list.push_to(s, end, called);
+    list.push_to(end + c, end, called);
+}
+
+// Appends the edges by which futures come from the CALLs of routine `c`, where statement `s` is one.
+fn append_calling(program: &Program<'_>, s: usize, c: usize, list: &mut EdgeList<'_>)
     requires { (s < statements program.now) × (c ≡ owner_of (table_of program.now) s) }
     ensures { Grown list.old list.new (edges_at Callers (table_of program.now) s) }
 {
-    let end = program.statements();
-    let called = attributes::calls_at(program.numbers, program.line_of(s));
-    list.push_to(s, end, called);
-    list.push_to(end + c, end, called);
+    let line = program.line_of(s);
+    append_callers(program.numbers, line, s, program.statements(), c, list);
 }
 
 // Appends the edges by which futures come from the CALLs of each routine.
@@ -172,6 +191,6 @@ pub fn fill_callers(program: &Program<'_>, list: &mut EdgeList<'_>)
     append_each(
         program,
         list,
-        |list, s, c| append_callers(program, s, c, list),
+        |list, s, c| append_calling(program, s, c, list),
     );
 }

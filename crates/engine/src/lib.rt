@@ -1,5 +1,6 @@
 #![tactic(auto)]
 // The stepping engine: runs a schedule over a table text and leaves the answers and the cells.
+// Text, schedule, answers and cells are lent apart, as C lends them, and the room for the numbers beside the text, since there is no heap.
 ghost use Rattle.std.specs.Prelude.{◌≡◌, ◌++◌, ◌*◌, ◌≤◌, length, drop};
 ghost use Rattle.lines.specs.Line.{line_count};
 ghost use Rattle.table.specs.Header.{statements, statement_line};
@@ -10,15 +11,15 @@ ghost use Rattle.machine.specs.Engine.{engine_run, answers as answersOf};
 ghost use Rattle.run_state.specs.Shown.{Fixed};
 ghost use Rattle.engine.specs.Run.{outcome_of, answers_left, cells_left};
 
-use run_state::{Program, State};
+use run_state::{Loaded, State};
 use table::Refusal;
 
 // What a run of an accepted table's numbers never changes.
-pub fn program_of(numbers: &[i32]) -> Program<'_>
+pub fn program_of(numbers: &[i32]) -> Loaded<'_>
     requires { Accepted (table_of numbers.now) × (length numbers.now ≡ 8 * statement_line numbers.now (statements numbers.now)) }
     ensures { (result.numbers.now ≡ numbers.now) × Fixed result }
 {
-    Program {
+    Loaded {
         numbers,
         first: declarations::first_statements(numbers),
         handle: declarations::first_handles(numbers),

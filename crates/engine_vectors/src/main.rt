@@ -3,7 +3,7 @@
 // longer than needed.
 #![tactic(auto)]
 
-use run_printer::load;
+use run_printer::{Tail, load};
 use std::io;
 use std::rt::Files;
 use table::Refusal;
@@ -12,20 +12,29 @@ fn say(rt: &impl Print, text: &[u8]) -> io::Result<()> {
     rt.write_all(text)
 }
 
+// What `put` puts, behind a comma, a space and what it is.
+fn say_words<F: FnOnce(&mut Tail<'_>)>(rt: &impl Print, what: &[u8], put: F) -> io::Result<()>
+    requires { F.IsAlwaysCallable put }
+{
+    let mut out = [0u8; 2048];
+    let mut tail = Tail {
+        out: &mut out,
+        start: 2048,
+    };
+    put(&mut tail);
+    tail.put_text(what);
+    tail.put_text(b", ");
+    say(rt, tail.text())
+}
+
 // All the cells, a space before each.
 fn say_cells(rt: &impl Print, cells: &[i32]) -> io::Result<()> {
-    let mut out = [0u8; 2048];
-    let start = run_printer::put_values(&mut out, 2048, cells);
-    say(rt, b", cells")?;
-    say(rt, &out[start..])
+    say_words(rt, b"cells", |tail| tail.put_values(cells))
 }
 
 // All the answers, a space before each.
 fn say_answers(rt: &impl Print, answers: &[u8]) -> io::Result<()> {
-    let mut out = [0u8; 2048];
-    let start = run_printer::put_answers(&mut out, 2048, answers);
-    say(rt, b", answers")?;
-    say(rt, &out[start..])
+    say_words(rt, b"answers", |tail| tail.put_answers(answers))
 }
 
 // The number and the line of a call.

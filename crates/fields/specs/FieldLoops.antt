@@ -1,6 +1,6 @@
 -- What the loops of the field reader need of its definitions: each step keeps what is left to read, and a number of six digits fits.
 -- Assumes nothing.
-use Rattle.std.specs.Prelude.{◌≡◌, refl, ℕ, zero, suc, ◌+◌, ◌*◌, ◌-◌, ◌≤◌, ◌<◌, ◌^◌, Bool, true, false, ◌⊎◌, cond, not, ◌==◌, List, [], ◌∷◌, leb, ltb, eqb, ℤ, pos, negsuc, ◌-ℤ◌, neg_ℤ, length, get_or, take, drop}
+use Rattle.std.specs.Prelude.{◌≡◌, refl, ℕ, zero, suc, ◌+◌, ◌*◌, ◌-◌, ◌≤◌, ◌<◌, ◌^◌, Bool, true, false, ◌⊎◌, not, ◌==◌, List, [], ◌∷◌, leb, ltb, eqb, pos, negsuc, ◌-ℤ◌, neg_ℤ, length, get_or, take, drop}
 use Rattle.std.specs.Prelude as R
 use Rattle.std.specs.List.{position, position_or_len}
 use Rattle.std.proofs.Common.{sym, ap, ◌∙◌, inl, inr, arith, one-mul, mul_assoc, mul-le-mul_right, lt_of_lt_of_le, add-one, one-add, to_z, SFits, drop_of_length-le, length-take, length-drop, take_all, drop-cons, leb-true, leb-false, eq-eqb, ne_eqb, le-leb, lt-ltb, ltb-true, ltb-false, eqb-true}
@@ -72,7 +72,15 @@ pub record Digits (cs : List ℕ) (i m : ℕ) : Type 0 where
   pub small : m < 10 ^ i
   pub left : digits_from 0 cs ≡ digits_from m (drop i cs)
 
+pub digits_start : {cs : List ℕ} → length cs ≤ 6 → Digits cs 0 0
+digits_start e = record { size = e; small = rw pow-zero (omega arith); left = refl }
+
 module _ {cs : List ℕ} {i m : ℕ} (d : Digits cs i m) where
+  pub digits_fit : i < length cs → m < 100000
+  digits_fit h =
+      let k : i ≤ 5 = omega (arith, d.size) in
+      omega (arith, d.small, pow-le-pow_right {n = 10} (omega arith) k)
+
   pub digits_next : i < length cs → 48 ≤ get_or cs i 0 → get_or cs i 0 ≤ 57 → Digits cs (i + 1) (10 * m + (get_or cs i 0 - 48))
   digits_next h lo hi =
       let s : m < 10 ^ i = d.small in
@@ -173,38 +181,50 @@ decimal_six cs {n} l h = omega (arith, decimal_below n cs h, pow-le-pow_right {n
 abbrev no_space : ℕ → Bool
 no_space c = not (c == 32)
 
--- the spaces that are passed change nothing
-spaces_passed : (cs : List ℕ) → spaced_of cs ≡ signed_of (drop (position_or_len no_space cs) cs)
-spaces_passed [] = spaced_none
-spaces_passed (c ∷ cs) = go (eqb c 32) refl (spaces_passed cs)
-  where
-    go : (b : Bool) → eqb c 32 ≡ b → spaced_of cs ≡ signed_of (drop (position_or_len no_space cs) cs) → spaced_of (c ∷ cs) ≡ signed_of (drop (position_or_len no_space (c ∷ cs)) (c ∷ cs))
-    go true e ih = spaced_space c cs (eqb-true c 32 e) ∙ ih ∙ rw (e, one-add)
-    go false e ih = spaced_other c cs (eqb-false c 32 e) ∙ rw e
-
--- the first character that is no space: what stands before it changes nothing
+-- what a search over spaces has passed changes nothing
 pub record PastSpaces (cs : List ℕ) (r : ℕ) : Type 0 where
-  pub within : r < length cs
+  pub within : r ≤ length cs
   pub rest : spaced_of cs ≡ signed_of (drop r cs)
 
-pub past_some : {cs : List ℕ} {r : ℕ} → R.Some r ≡ position (λ c. not (c == 32)) cs → PastSpaces cs r
+spaces_passed : (cs : List ℕ) → PastSpaces cs (position_or_len no_space cs)
+spaces_passed [] = record { within = omega arith; rest = spaced_none }
+spaces_passed (c ∷ cs) = go (eqb c 32) refl (spaces_passed cs)
+  where
+    go : (b : Bool) → eqb c 32 ≡ b → PastSpaces cs (position_or_len no_space cs) → PastSpaces (c ∷ cs) (position_or_len no_space (c ∷ cs))
+    go true e p = rw e (record { within = omega (arith, p.within); rest = spaced_space c cs (eqb-true c 32 e) ∙ p.rest ∙ rw one-add })
+    go false e p = rw e (record { within = omega arith; rest = spaced_other c cs (eqb-false c 32 e) })
+
+pub past_some : {cs : List ℕ} {r : ℕ} → R.Some r ≡ position (λ c. not (c == 32)) cs → (r < length cs) × PastSpaces cs r
 past_some {cs} {r} e = go (ltb (position_or_len no_space cs) (length cs)) refl
   where
-    go : (b : Bool) → ltb (position_or_len no_space cs) (length cs) ≡ b → PastSpaces cs r
+    go : (b : Bool) → ltb (position_or_len no_space cs) (length cs) ≡ b → (r < length cs) × PastSpaces cs r
     go true t =
         let h : R.Some r ≡ R.Some (position_or_len no_space cs) = rw t at e in
         let u : r ≡ position_or_len no_space cs = cc in
-        rw u (record { within = ltb-true (position_or_len no_space cs) (length cs) t; rest = spaces_passed cs })
+        rw u (ltb-true (position_or_len no_space cs) (length cs) t, spaces_passed cs)
     go false t = let h : R.Some r ≡ R.None = rw t at e in let z : ◌≡◌ {A = ℕ} 0 1 = cc in absurd (omega arith)
 
-pub past_none : (cs : List ℕ) → R.None ≡ position (λ c. not (c == 32)) cs → spaced_of cs ≡ none
+pub past_none : (cs : List ℕ) → R.None ≡ position (λ c. not (c == 32)) cs → PastSpaces cs (length cs)
 past_none cs e = go (ltb (position_or_len no_space cs) (length cs)) refl
   where
-    go : (b : Bool) → ltb (position_or_len no_space cs) (length cs) ≡ b → spaced_of cs ≡ none
+    go : (b : Bool) → ltb (position_or_len no_space cs) (length cs) ≡ b → PastSpaces cs (length cs)
     go true t = let h : R.None ≡ R.Some (position_or_len no_space cs) = rw t at e in let z : ◌≡◌ {A = ℕ} 0 1 = cc in absurd (omega arith)
-    go false t = spaces_passed cs ∙ rw (drop_of_length-le cs (ltb-false _ _ t)) signed_empty
+    go false t =
+        let p = spaces_passed cs in
+        let u : position_or_len no_space cs ≡ length cs = omega (arith, p.within, ltb-false (position_or_len no_space cs) (length cs) t) in
+        rw u at p
 
 -- what six characters say, by the first that is no space
+
+module _ {cs : List ℕ} {r : ℕ} (six : length cs ≡ 6) (p : PastSpaces cs r) where
+  pub field_blank : 6 ≤ r → field_of cs ≡ none
+  field_blank h = field_six cs six ∙ p.rest ∙ rw (drop_of_length-le cs {i = r} (rw six h)) signed_empty
+
+  pub field_minus : r < 6 → get_or cs r 0 ≡ 45 → field_of cs ≡ negative (decimal_of (drop (r + 1) cs))
+  field_minus h e = field_six cs six ∙ p.rest ∙ rw (add-one, drop-cons cs r 0 (rw six h)) (signed_minus _ _ e)
+
+  pub field_plus : r < 6 → (get_or cs r 0 ≡ 45 → ⊥) → field_of cs ≡ positive (decimal_of (drop r cs))
+  field_plus h e = field_six cs six ∙ p.rest ∙ rw (drop-cons cs r 0 (rw six h)) (signed_other _ _ e)
 
 -- the characters from place k on, as code takes them
 abbrev rest_from : ℕ → List ℕ → List ℕ
@@ -213,19 +233,16 @@ rest_from k cs = take (length cs - k) (drop k cs)
 rest_from_lem : (k : ℕ) (cs : List ℕ) → rest_from k cs ≡ drop k cs
 rest_from_lem k cs = take_all (length cs - k) (drop k cs) (rw length-drop (omega arith))
 
+-- the same of what the search finds
 module _ (cs : List ℕ) {r : ℕ} (first : R.Some r ≡ position (λ c. not (c == 32)) cs) (six : length cs ≡ 6) where
-  pub field_minus : get_or cs r 0 ≡ 45 → field_of cs ≡ negative (decimal_of (rest_from (r + 1) cs))
-  field_minus e =
-      let p = past_some first in
-      field_six cs six ∙ p.rest ∙ rw (rest_from_lem, add-one, drop-cons cs r 0 p.within) (signed_minus _ _ e)
+  pub found_minus : get_or cs r 0 ≡ 45 → field_of cs ≡ negative (decimal_of (rest_from (r + 1) cs))
+  found_minus e = let p = past_some first in rw rest_from_lem (field_minus six p.1 (rw six at p.0) e)
 
-  pub field_plus : (get_or cs r 0 ≡ 45 → ⊥) → field_of cs ≡ positive (decimal_of (rest_from r cs))
-  field_plus e =
-      let p = past_some first in
-      field_six cs six ∙ p.rest ∙ rw (rest_from_lem, drop-cons cs r 0 p.within) (signed_other _ _ e)
+  pub found_plus : (get_or cs r 0 ≡ 45 → ⊥) → field_of cs ≡ positive (decimal_of (rest_from r cs))
+  found_plus e = let p = past_some first in rw rest_from_lem (field_plus six p.1 (rw six at p.0) e)
 
-pub field_blank : (cs : List ℕ) → R.None ≡ position (λ c. not (c == 32)) cs → length cs ≡ 6 → field_of cs ≡ none
-field_blank cs e six = field_six cs six ∙ past_none cs e
+pub found_blank : (cs : List ℕ) → R.None ≡ position (λ c. not (c == 32)) cs → length cs ≡ 6 → field_of cs ≡ none
+found_blank cs e six = field_blank six (past_none cs e) (omega (arith, six))
 
 pub decimal_rest : (k : ℕ) (cs : List ℕ) {n : ℕ} → length cs ≡ 6 → decimal_of (rest_from k cs) ≡ some n → n < 1000000
 decimal_rest k cs six h = decimal_six (rest_from k cs) (rw (length-take, length-drop) (omega arith)) h
@@ -261,3 +278,19 @@ negative_some (suc k) n = refl
 pub negative_zero : (m : ℕ) → m ≡ 0 → negative (some m) ≡ none
 negative_zero zero e = refl
 negative_zero (suc k) e = absurd (omega arith)
+
+-- a decimal number that begins at a place of six characters
+
+pub decimal_stops : (cs : List ℕ) (from : ℕ) → length cs ≡ 6 → from ≡ 6 → decimal_of (drop from cs) ≡ none
+decimal_stops cs from six e = rw (drop_of_length-le cs {i = from} (omega arith)) decimal_empty
+
+pub decimal_last : (cs : List ℕ) (from : ℕ) → length cs ≡ 6 → from ≡ 5 → get_or cs from 0 ≡ 48 → decimal_of (drop from cs) ≡ some 0
+decimal_last cs from six f e =
+    rw (drop-cons cs from 0 (omega arith), drop_of_length-le cs {i = suc from} (omega arith)) (decimal_zero _ e)
+
+pub decimal_more : (cs : List ℕ) (from : ℕ) → length cs ≡ 6 → from < 5 → get_or cs from 0 ≡ 48 → decimal_of (drop from cs) ≡ none
+decimal_more cs from six f e =
+    rw (drop-cons cs from 0 (omega arith), drop-cons cs (suc from) 0 (omega arith)) (decimal_leading _ _ _ e)
+
+pub decimal_other : (cs : List ℕ) (from : ℕ) → length cs ≡ 6 → from < 6 → (get_or cs from 0 ≡ 48 → ⊥) → decimal_of (drop from cs) ≡ digits_from 0 (drop from cs)
+decimal_other cs from six f e = rw (drop-cons cs from 0 (omega arith)) (decimal_digits _ _ e)

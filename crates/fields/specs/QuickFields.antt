@@ -2,7 +2,7 @@
 use Rattle.std.specs.Prelude.{◌≡◌, refl, ℕ, suc, ◌+◌, ◌*◌, ◌-◌, ◌/◌, ◌%◌, ◌≤◌, ◌<◌, Bool, true, false, ◌&&◌, List, [], ◌∷◌, eqb, pos, length, get_or, take, drop}
 use Rattle.std.proofs.Common.{ap, ◌∙◌, arith, Fits, w8, drop-cons, eqb-true}
 use Rattle.std.proofs.Math.Option.{Option, some}
-use Rattle.std.proofs.lemmas.Bool.{eqb-false}
+use Rattle.std.proofs.lemmas.Bool.{eqb-false, and_parts}
 use Rattle.fields.specs.Field.{decimal_of, positive, spaced_of, field_of}
 use Rattle.fields.specs.FieldLoops.{spaced_space, spaced_other, is_digit_lem, digits_digit, digits_none, decimal_zero, decimal_digits, signed_other, field_six}
 
@@ -130,23 +130,22 @@ module _ (t : List ℕ) (at : ℕ) (room : at + 6 ≤ length t) where
 
 -- zeros
 
-pub both : (a b : Bool) → (a && b) ≡ true → (a ≡ true) × (b ≡ true)
-both true b h = (refl, h)
-both false b h = let z : ◌≡◌ {A = ℕ} 0 1 = cc in absurd (omega arith)
+pub zero_field : (t : List ℕ) (at : ℕ) {r s : ℕ} → at + 6 ≤ length t → Four (get_or t at 0) (get_or t (at + 1) 0) (get_or t (at + 2) 0) (get_or t (at + 3) 0) r
+    → Four (get_or t (at + 4) 0) (get_or t (at + 5) 0) 0 0 s → (eqb r 538976288 && eqb s 12320) ≡ true → ZeroField t at
+zero_field t at {r} {s} h w v e =
+    let u : (eqb r 538976288 ≡ true) × (eqb s 12320 ≡ true) = and_parts _ _ e in
+    let l : r ≡ 538976288 = eqb-true r 538976288 u.0 in
+    let k : s ≡ 12320 = eqb-true s 12320 u.1 in
+    let f : get_or t (at + 5) 0 ≡ 48 = omega (arith, v.whole, v.bytes, k) in
+    let g : get_or t (at + 4) 0 ≡ 32 = omega (arith, v.whole, v.bytes, k) in
+    let z : get_or t (at + 5) 0 - 48 ≡ 0 = omega (arith, f) in
+    let q : Quick _ (get_or t (at + 5) 0 - 48) = quick_one t at h w (omega (arith, f)) (omega (arith, f)) l g in
+    record { zero = q.said ∙ rw z }
 
--- the spaces and the 0 that the characters are held to stand as numbers, `blank` and `nought`
-pub zero_field : (t : List ℕ) (at : ℕ) {head tail blank nought : ℕ} → at + 6 ≤ length t
+-- the same where the spaces and the 0 that the characters are held to stand as numbers, `blank` and `nought`
+pub zero_read : (t : List ℕ) (at : ℕ) {head tail blank nought : ℕ} → at + 6 ≤ length t
     → Four (get_or t at 0) (get_or t (at + 1) 0) (get_or t (at + 2) 0) (get_or t (at + 3) 0) head
     → tail ≡ get_or t (at + 4) 0 + get_or t (at + 5) 0 * 256 → ((i : ℕ) → Fits w8 (get_or t i 0))
     → blank ≡ 538976288 → nought ≡ 12320 → (eqb head blank && eqb tail nought) ≡ true → ZeroField t at
-zero_field t at {head} {tail} {blank} {nought} room w two bytes b n e =
-    let u : (eqb head blank ≡ true) × (eqb tail nought ≡ true) = both _ _ e in
-    let l : head ≡ 538976288 = eqb-true head blank u.0 ∙ b in
-    let k : tail ≡ 12320 = eqb-true tail nought u.1 ∙ n in
-    let low : get_or t (at + 4) 0 < 256 = (bytes (at + 4)).fits in
-    let high : get_or t (at + 5) 0 < 256 = (bytes (at + 5)).fits in
-    let f : get_or t (at + 5) 0 ≡ 48 = omega (arith, two, k, low, high) in
-    let g : get_or t (at + 4) 0 ≡ 32 = omega (arith, two, k, low, high) in
-    let z : get_or t (at + 5) 0 - 48 ≡ 0 = omega (arith, f) in
-    let q : Quick _ (get_or t (at + 5) 0 - 48) = quick_one t at room w (omega (arith, f)) (omega (arith, f)) l g in
-    record { zero = q.said ∙ rw z }
+zero_read t at room w two bytes b n e =
+    zero_field t at room w (record { whole = omega (arith, two); bytes = ((bytes (at + 4)).fits, (bytes (at + 5)).fits, omega arith, omega arith) }) (rw (b, n) at e)

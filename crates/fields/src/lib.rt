@@ -1,5 +1,7 @@
 #![tactic(auto)]
 // A field of a table text: six characters and the number that they say, read.
+// A text and a place in it are a list and an index: a slice from the place on would be measured anew for each field. Numbers are read by hand, since std's
+// `parse` takes `+1` and `01`, which are no fields. Casts are by `as` where `From` has no way and `TryFrom` would answer with a `Result` that cannot fail.
 ghost use Rattle.std.specs.Prelude.{◌≡◌, ◌+◌, ◌≤◌, true, not, ◌==◌, IfSome, length, take, drop};
 ghost use Rattle.std.specs.List.{position};
 ghost use Rattle.fields.specs.Field.{answer, field_of, decimal_of, digits_from, field_at};
@@ -22,7 +24,7 @@ fn digits(cs: &[u8]) -> Option<u32>
         if !c.is_ascii_digit() {
             return None;
         }
-        m = 10 * m + (*c - b'0') as u32;
+        m = 10 * m + u32::from(*c - b'0');
     }
     Some(m)
 }
@@ -65,7 +67,7 @@ fn hundreds(lead: u32, e: u8, ones: u32) -> Option<u32>
     ensures { IfSome result (Hundreds lead e ones) }
 {
     match lead {
-        17..=25 if e.is_ascii_digit() => Some(100 * (lead - 16) + 10 * (e - b'0') as u32 + ones),
+        17..=25 if e.is_ascii_digit() => Some(100 * (lead - 16) + 10 * u32::from(e - b'0') + ones),
         _ => None,
     }
 }
@@ -80,13 +82,13 @@ pub fn quick_at(text: &[u8], at: usize) -> Option<u32>
     if !f.is_ascii_digit() {
         return None;
     }
-    let ones = (f - b'0') as u32;
+    let ones = u32::from(f - b'0');
     let head = u32::from_le_bytes([text[at], text[at + 1], text[at + 2], text[at + 3]]);
     let lead = head.checked_sub(0x20202020)?;
     if lead == 0 {
         return match e {
             b' ' => Some(ones),
-            b'1'..=b'9' => Some(10 * (e - b'0') as u32 + ones),
+            b'1'..=b'9' => Some(10 * u32::from(e - b'0') + ones),
             _ => None,
         };
     }

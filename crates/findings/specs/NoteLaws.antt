@@ -1,5 +1,5 @@
 -- Accesses noted statement by statement: which locks all of a cell's accesses hold, and the counts of the walk. Assumes nothing.
-use Rattle.std.specs.Prelude.{Some, ◌≡◌, refl, Bool, cond, not, ◌&&◌, ◌||◌, ℕ, zero, suc, ◌+◌, ◌-◌, ◌^◌, ◌≤◌, ◌<◌, eqb, ℤ, length, get_or, set, replicate, None}
+use Rattle.std.specs.Prelude.{Some, ◌≡◌, refl, Bool, cond, not, ◌&&◌, ◌||◌, ℕ, zero, suc, ◌+◌, ◌-◌, ◌^◌, ◌≤◌, ◌<◌, eqb, ℤ, length, get_or, set, replicate}
 use Rattle.std.proofs.Common.{sym, ap, ◌∙◌, subst, arith, zero-add, length-set, get_or-set_same, get_or-set_other, eqb-true, eq-eqb}
 use Rattle.std.proofs.Math.Path.{ap₂}
 use Rattle.std.proofs.Math.Bool.{true, false}
@@ -8,7 +8,7 @@ use Rattle.std.proofs.Math.Decide.{dec_lt}
 use Rattle.std.proofs.lemmas.List.{length-replicate, get_or-replicate}
 use Rattle.std.proofs.lemmas.Bool.{eqb-false}
 use Rattle.sets.specs.Set.{has, inter, minus, one, count, lowest, firsts}
-use Rattle.sets.proofs.SetLaws.{has_minus, has_one, has_empty, has_inter, same_elements, minus_below, count_inside_less, has_beyond, lowest_is, lowest_nothing}
+use Rattle.sets.proofs.SetLaws.{has_minus, has_one, has_empty, has_inter, same_elements, minus_below, count_inside_less, has_beyond, lowest_is}
 use Rattle.table.specs.Header.{locks, statements}
 use Rattle.table.specs.Tabulate.{tabulate}
 use Rattle.table.proofs.TabulateLaws.{is_tabulate, zeros_at}
@@ -86,17 +86,12 @@ marking_start cells held common counts below common_long counts_long = record {
     no_both false = refl
 
 module _ {cells held : ℕ} {common₀ common counts₀ counts : List ℕ} {rest : ℕ} (m : Marking cells held common₀ common counts₀ counts rest) where
+  -- the lowest cell that is left
+  pub lowest_left : (e : ℕ) → lowest rest ≡ Some e → (has rest e ≡ true) × (e < 64)
+  lowest_left e is = lowest_there rest e m.below is
+
   -- one cell more
-  module _ (e : ℕ) (is : lowest rest ≡ Some e) where
-    found : (has rest e ≡ true) × (e < 64)
-    found = lowest_there rest e m.below is
-
-    there : has rest e ≡ true
-    there = found.0
-
-    pub few : e < 64
-    few = found.1
-
+  module _ (e : ℕ) (there : has rest e ≡ true) (few : e < 64) where
     abbrev left : ℕ
     left = inter held (get_or common e 0)
 
@@ -181,8 +176,8 @@ module _ {cells held : ℕ} {common₀ common counts₀ counts : List ℕ} {rest
         same_number : (n : ℕ) → eqb n n ≡ true
         same_number n = eq-eqb n n refl
 
-  pub marking_done : lowest rest ≡ None → Marked cells held common₀ common counts₀ counts
-  marking_done n = let z = lowest_nothing rest n in same_marked (λ i. has_minus cells rest i ∙ rw (z, has_empty i) (all (has cells i))) m.marked
+  pub marking_done : rest ≡ 0 → Marked cells held common₀ common counts₀ counts
+  marking_done z = same_marked (λ i. has_minus cells rest i ∙ rw (z, has_empty i) (all (has cells i))) m.marked
     where
       all : (b : Bool) → (b && true) ≡ b
       all true = refl

@@ -1,5 +1,7 @@
 #![tactic(auto)]
 // What the report says of cells and GIVEs, from the sets of a table. A statement is seen by its view.
+// Flow sets, held sets, effects and futures come out of different equations, in lists of their own: a struct of all would ask for more than each function
+// needs.
 ghost use Rattle.std.specs.Prelude.{◌≡◌, ℕ, Bool, ◌+◌, ◌≤◌, ◌<◌, ◌^◌, get_or};
 ghost use Rattle.table.specs.Header.{routines, statements, statement_line};
 ghost use Rattle.table.specs.Table.{statement_of, table_of};
@@ -184,13 +186,13 @@ pub fn stray_count(program: &Program<'_>, flow: &[u64], held: &[u64]) -> usize
     )
 }
 
-// How many of the first `cells` cells are unguarded.
-pub fn unguarded_count(shared: u64, noted: &Noted, cells: usize) -> usize
-    ensures is { result ≡ count_from 0 cells (unguarded_in shared noted.now.common) }
+// How many of the first `cells` cells are unguarded; `common` has for each cell the locks common to all its accesses.
+pub fn unguarded_count(shared: u64, common: &[u64], cells: usize) -> usize
+    ensures is { result ≡ count_from 0 cells (unguarded_in shared common.now) }
     ensures small { result ≤ cells }
 {
     count_each(
         cells,
-        |x| sets::has(shared, x) & sets::is_empty(lists::value_at(&noted.common, x, 0)),
+        |x| sets::has(shared, x) & sets::is_empty(lists::value_at(common, x, 0)),
     )
 }

@@ -10,10 +10,10 @@ ghost use Rattle.report.specs.Layout.{one_each};
 ghost use Rattle.report.specs.FlowPasses.{flow_passes};
 ghost use Rattle.flow_vectors.specs.Passes.{passes_in};
 
+use declarations::outline::Extents;
 use declarations::program::Program;
-use std::env::FillError;
 use std::io;
-use std::rt::{Env, Files};
+use std::rt::Files;
 
 // How many passes the flow sets of a program take.
 fn passes_through(program: &Program<'_>) -> usize
@@ -31,17 +31,8 @@ fn passes_of(numbers: &[i32]) -> usize
     requires { Accepted (table_of numbers.now) }
     ensures { result ≡ flow_passes (table_of numbers.now) (one_each (table_of numbers.now)) }
 {
-    let first = declarations::first_statements(numbers);
-    let handle = declarations::first_handles(numbers);
-    let counts = declarations::parameter_counts(numbers, &handle[..]);
-    let program = Program {
-        numbers,
-        base: table::first_line(numbers),
-        first: &first,
-        handle: &handle,
-        counts: &counts,
-    };
-    passes_through(&program)
+    let extents = Extents::of(numbers);
+    passes_through(&Program::new(numbers, &extents))
 }
 
 // How many passes a text takes, with a list that has room for its numbers; 0 where it is refused.
@@ -64,13 +55,7 @@ fn passes_for(text: &[u8]) -> usize
     passes_in(text, &mut numbers[..count])
 }
 
-// Prints the line of a text: its name, a space, how many passes it takes, and a line feed.
-fn print_line(rt: &impl Print, name: &[u8], passes: usize) -> io::Result<()> {
-    rt.write_all(name)?;
-    println!(rt; " {passes}")
-}
-
-// Prints the line of one argument: of the file that it names.
+// Prints the line of one argument: the name of a file, a space, how many passes its text takes, and a line feed.
 fn try_argument(rt: &(impl Files + Print + Eprint), path: &[u8]) -> io::Result<()> {
     let Some(mut file) = run_printer::open(rt, path)? else {
         return Ok(());
@@ -78,18 +63,10 @@ fn try_argument(rt: &(impl Files + Print + Eprint), path: &[u8]) -> io::Result<(
     let mut text = [0u8; 65536];
     let count = run_printer::read_full(&mut file, &mut text)?;
     let passes = passes_for(&text[..count]);
-    print_line(rt, path, passes)
+    rt.write_all(path)?;
+    println!(rt; " {passes}")
 }
 
-// A name that is longer than the buffer counts as empty.
 fn main(rt: HostRuntime) -> io::Result<()> {
-    let mut path = [0u8; 4096];
-    for i in 1..usize::MAX {
-        match rt.arg(i, &mut path) {
-            Ok(n) => try_argument(&rt, &path[..n])?,
-            Err(FillError::TooLong) => try_argument(&rt, b"")?,
-            Err(FillError::NotPresent) => break,
-        }
-    }
-    Ok(())
+    run_printer::each_argument(&rt, |path| try_argument(&rt, path))
 }

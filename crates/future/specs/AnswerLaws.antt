@@ -23,8 +23,7 @@ use Rattle.report.specs.Effect.{effect_of}
 use Rattle.report.specs.Future.{callers, next_effects, future_initials, futures}
 use Rattle.edges.specs.Equations.{Nexts, Callers, next_edges, call_edges, edges_at, edges_for}
 use Rattle.initial.specs.declared.Act.{Act}
-use Rattle.initial.specs.declared.Act.TheVariants.{Reads, Writes}
-use Rattle.initial.specs.InitialSets.{own_set, effect_at, nexts_effect, future_initial}
+use Rattle.initial.specs.InitialSets.{acts, own_set, effect_at, nexts_effect, future_initial}
 use Rattle.edges.specs.EdgeLaws.{joined_same}
 use Rattle.edges.specs.RoutineLaws.{copy_of}
 use Rattle.future.specs.StageLaws.{with_group, spread, staged}
@@ -33,11 +32,6 @@ use Rattle.future.specs.FutureStages.{next_edges as all_next_edges, caller_edges
 -- a list that is another holds its edges
 pub edges_like : {l k : List ℕ} {es : List Edge} → l ≡ k → map edge_of k ≡ es → map edge_of l ≡ es
 edges_like e h = ap {B = List Edge} (λ (l : List ℕ). map edge_of l) e ∙ h
-
--- reading, or writing
-abbrev pub acts : Bool → Act
-acts true = Writes
-acts false = Reads
 
 module _ (t : Table) where
   next_edges_lem : edges_for Nexts t ≡ all_next_edges t (one_each t)

@@ -1,6 +1,9 @@
 #![tactic(auto)]
 // The futures of an accepted table, by the one solver, in two stages: what may follow in the routine, then what comes from its CALLs. `edges` lends the room
 // for the edges, four a statement; what stands in it before does not matter, and what is left in it says nothing.
+// The room is lent from above, since there is no heap, and lent on in parts, so each function says how much it needs: of a struct
+// of program and room each contract would have to say too that they are the same lists.
+// `spread` goes through the statements itself: `edges::append_each` appends to a list of edges.
 ghost use Rattle.std.specs.Prelude.{◌≡◌, true, false, ◌++◌, map, ◌+◌, ◌*◌, ◌≤◌, length};
 ghost use Rattle.sets.specs.Least.{edge_of, least};
 ghost use Rattle.table.specs.Header.{routines, statements};
@@ -13,10 +16,11 @@ ghost use Rattle.future.specs.StageLaws.{spread};
 
 use declarations::program::Program;
 use edges::list::EdgeList;
-use initial::Act;
+use initial::{Act, Acts, Effects};
 use solver::Order;
 
-// Puts what the CALLs of each routine have into the sets of its statements.
+// Puts what the CALLs of each routine have into the sets of its statements. By places: each set is put together with one that stands behind the statements,
+// in the same list.
 fn spread(program: &Program<'_>, out: &mut [u64])
     requires { length out.old ≡ statements program.now + routines program.now }
     ensures { out.new ≡ spread (statements program.now) (routines program.now) (owner_of (table_of program.now)) out.old }
@@ -31,22 +35,14 @@ fn spread(program: &Program<'_>, out: &mut [u64])
 
 // Leaves in `out` futures in two stages, from the effects of what may come next: along the edges `within` a routine, then along those `up` to it, which
 // bring what the CALLs of each routine have; and this goes to all its statements.
-fn later_sets(
-    program: &Program<'_>,
-    flow: &[u64],
-    effect: &[u64],
-    act: Act,
-    within: &[u32],
-    up: &[u32],
-    out: &mut [u64],
-)
-    requires { length out.old ≡ statements program.now + routines program.now }
-    ensures { out.new ≡ spread (statements program.now) (routines program.now) (owner_of (table_of program.now)) (least (map edge_of up.now) (least (map edge_of within.now) (tabulate (length out.old) (future_initial act flow.now effect.now (table_of program.now))))) }
+fn later_sets(effects: &Effects<'_>, within: &[u32], up: &[u32], out: &mut [u64])
+    requires { length out.old ≡ statements effects.now.acts.program.now + routines effects.now.acts.program.now }
+    ensures { out.new ≡ spread (statements effects.now.acts.program.now) (routines effects.now.acts.program.now) (owner_of (table_of effects.now.acts.program.now)) (least (map edge_of up.now) (least (map edge_of within.now) (tabulate (length out.old) (future_initial effects.now.acts.act effects.now.acts.flow.now effects.now.effect.now (table_of effects.now.acts.program.now))))) }
 {
-    initial::fill_future(program, flow, effect, act, out);
+    effects.fill_future(out);
     solver::solve_plain(out, within, Order::LastToFirst);
     solver::solve_plain(out, up, Order::FirstToLast);
-    spread(program, out);
+    spread(effects.acts.program, out);
 }
 
 // Leaves in `later` the future of each statement, and behind them that of the CALLs of each routine: first the cells that are read, then those that
@@ -72,6 +68,16 @@ pub fn future_sets(
     edges::fill_callers(program, &mut list);
     let (within, up) = list.edges().split_at(nexts);
     let (read, written) = later.split_at_mut(later.len() / 2);
-    later_sets(program, flow, reads, Act::Reads, within, up, read);
-    later_sets(program, flow, writes, Act::Writes, within, up, written);
+    let act = Act::Reads;
+    let reading = Effects {
+        acts: Acts { program, flow, act },
+        effect: reads,
+    };
+    later_sets(&reading, within, up, read);
+    let act = Act::Writes;
+    let writing = Effects {
+        acts: Acts { program, flow, act },
+        effect: writes,
+    };
+    later_sets(&writing, within, up, written);
 }

@@ -1,6 +1,6 @@
 -- A list of edges that is filled from the front, part after part: what a loop over the parts leaves in it. Assumes nothing.
 use Rattle.std.specs.Prelude.{ℕ, ◌+◌, ◌≤◌, ◌≡◌, refl, List, [], length}
-use Rattle.std.proofs.Common.{subst}
+use Rattle.std.proofs.Common.{subst, arith}
 use Rattle.sets.specs.Least.{Edge, edges_of}
 use Rattle.report.specs.Over.{joined_from}
 use Rattle.report.proofs.OverLaws.{joined_next}
@@ -23,10 +23,18 @@ growing_next {part} {i = i} g a = record { so_far = appended_same _ _ (joined_ne
 
 -- ---- the list as the solver takes it
 
+-- it has these edges, all in its room
+pub record Filled (y : MetEdges) (es : List Edge) : Type 0 where
+  pub there : y.used ≤ length y.edges.now
+  pub also_there : y.used ≤ length y.also.now
+  pub is : edges_in y ≡ es
+
 -- whatever stood in the room before
-pub filled : {x y : MetEdges} {es : List Edge} (a : ℕ) → x.used ≡ 0 → a ≤ length x.edges.now → a ≤ length x.also.now → Grown x y es → Room a es → edges_in y ≡ es
+pub filled : {x y : MetEdges} {es : List Edge} (a : ℕ) → x.used ≡ 0 → a ≤ length x.edges.now → a ≤ length x.also.now → Grown x y es → Room a es → Filled y es
 unfolding edges_of
-filled {x} a e l m p r = (p.then a [] (record { count = e; long = l; also_long = m; is = rw e refl }) r).is
+filled {x} a e l m p r =
+    let h = p.then a [] (record { count = e; long = l; also_long = m; is = rw e refl }) r in
+    record { there = omega (arith, h.count, h.long, r.room); also_there = omega (arith, h.count, h.also_long, r.room); is = h.is }
 
 -- ---- parts of a range of numbers
 

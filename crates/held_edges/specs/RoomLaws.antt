@@ -25,9 +25,9 @@ use Rattle.report.specs.Rules.{Place}
 use Rattle.report.specs.Held.{entry}
 use Rattle.held_edges.specs.HeldEdges.{back_place, given_place, flow_place, every_place, place_count, met_place, edges_at, held_edges}
 use Rattle.sets.proofs.AppendLaws.{Room}
-use Rattle.lock_edges.specs.Grown.{Grown, edges_in}
+use Rattle.lock_edges.specs.Grown.{Grown}
 use Rattle.lock_edges.specs.declared.list.MetEdges.{MetEdges}
-use Rattle.held_edges.specs.GoingLaws.{filled}
+use Rattle.held_edges.specs.GoingLaws.{Filled, filled}
 use Rattle.held_edges.specs.EdgePlaceLaws.{place_there, entry_there, handle_there, operands_of, next_there, leads_there, met_there}
 
 -- ---- how many
@@ -159,6 +159,6 @@ held_room t mode acc = record {
 
 pub held_filled : (f : List ℤ) (mode : Bool) → Accepted (table_of f) → {x y : MetEdges} → x.used ≡ 0 → 3 * statements f + 1 ≤ length x.edges.now
     → 3 * statements f + 1 ≤ length x.also.now → Grown x y (held_edges (table_of f) (one_each (table_of f)) mode)
-    → edges_in y ≡ held_edges (table_of f) (one_each (table_of f)) mode
+    → Filled y (held_edges (table_of f) (one_each (table_of f)) mode)
 held_filled f mode acc e l m g =
     filled (3 * length (table_of f).statements + 1) e (omega (arith, statements_length f)) (omega (arith, statements_length f)) g (held_room (table_of f) mode acc)

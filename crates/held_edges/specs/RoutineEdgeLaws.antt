@@ -29,6 +29,12 @@ use Rattle.held_edges.specs.TableEdges.{bases_of, part_of}
 use Rattle.lock_edges.specs.declared.Bases.{Bases}
 use Rattle.table.specs.declared.View.{View}
 
+-- a view by its line: `f` are the numbers that a program holds, and `g` those that its contracts speak of
+pub viewed : {f g : List ℤ} → f ≡ g → {line s : ℕ} → line ≡ statement_line g s → s < statements g → (mode : Bool) {v : View}
+    → v ≡ in_mode mode (view (statement_in f line (field f line 1))) → v ≡ in_mode mode (view (statement (table_of g) s))
+viewed {g} e {line} {s} at b mode {v} h =
+    subst (λ (k : List ℤ). v ≡ in_mode mode (view (statement_in k line (field k line 1)))) e h ∙ ap (in_mode mode) (view_here g s b at refl)
+
 module _ (f : List ℤ) (first : List ℕ) (acc : Accepted (table_of f)) (first_is : first ≡ first_statements f) where
   abbrev t : Table
   t = table_of f
@@ -74,7 +80,7 @@ module _ (f : List ℤ) (first : List ℕ) (acc : Accepted (table_of f)) (first_
   pub few_routines : routines f ≤ 32
   few_routines = omega (arith, acc.routines_most, routines_length f)
 
-  first_at : (c : ℕ) → c ≤ routines f → get_or first c 0 ≡ first_statement f c
+  pub first_at : (c : ℕ) → c ≤ routines f → get_or first c 0 ≡ first_statement f c
   first_at c l = L.first_at f (omega (arith, acc.routines_most, routines_length f)) first c first_is l
 
   pub begins : {c r : ℕ} → c ≤ routines f → r ≡ get_or first c 0 → r ≡ first_statement f c
@@ -83,13 +89,16 @@ module _ (f : List ℤ) (first : List ℕ) (acc : Accepted (table_of f)) (first_
   pub first_grows : (c : ℕ) → c < routines f → first_statement f c ≤ first_statement f (c + 1)
   first_grows c l = omega (arith, (routine_says f c l).next)
 
-  pub first_zero : first_statement f 0 ≡ 0
+  pub first_grows_at : (c : ℕ) → c < routines f → get_or first c 0 ≤ get_or first (c + 1) 0
+  first_grows_at c l = omega (arith, first_at c (omega arith), first_at (c + 1) (omega arith), first_grows c l)
+
+  pub first_zero : get_or first 0 0 ≡ 0
   unfolding first_statement
-  first_zero = refl
+  first_zero = first_at 0 (omega arith)
 
   -- the last routine ends with the last statement
-  sum : first_statement f (routines f) ≡ statements f
-  sum =
+  pub routines_end : first_statement f (routines f) ≡ statements f
+  routines_end =
       let some : 1 ≤ routines f = omega (arith, acc.routines_some, routines_length f) in
       let last : first_statement f (routines f - 1 + 1) ≤ statements f = ends (routines f - 1) (omega arith) in
       let e : routines f - 1 + 1 ≡ routines f = omega arith in
@@ -110,8 +119,8 @@ module _ (f : List ℤ) (first : List ℕ) (acc : Accepted (table_of f)) (first_
           absurd (omega (arith, i.1, ends_before f o.0 (routines f) b))
       go u (no d) = omega arith
 
-  pub first_end : (c : ℕ) → c ≡ routines f → first_statement f c ≡ statements f
-  first_end c e = ap (first_statement f) e ∙ sum
+  pub first_end : (c : ℕ) → c ≡ routines f → get_or first c 0 ≡ statements f
+  first_end c e = ap (λ (r : ℕ). get_or first r 0) e ∙ first_at (routines f) (omega arith) ∙ routines_end
 
   pub in_range : {c s from end : ℕ} → c < routines f → from ≡ get_or first c 0 → end ≡ get_or first (c + 1) 0 → from ≤ s → s < end → InRoutine t c s
   in_range {c} {s} l from_is end_is low high =
@@ -125,12 +134,30 @@ module _ (f : List ℤ) (first : List ℕ) (acc : Accepted (table_of f)) (first_
     statement_there = omega (arith, statement_below t acc c s there inside, statements_length f)
 
     module _ (mode : Bool) {v : View} (is : v ≡ in_mode mode (view (statement t s))) where
-      pub fits_here : Fit v
-      fits_here = subst Fit (sym is) (fit c s there inside mode)
+      pub view_fits : Fit v
+      view_fits = subst Fit (sym is) (fit c s there inside mode)
 
-      pub part_here : {b : Bases} → b ≡ bases_of f → view_edges b first s c v ≡ part_of mode f s
-      part_here {b} e =
+      pub view_part : {b : Bases} → b ≡ bases_of f → view_edges b first s c v ≡ part_of mode f s
+      view_part {b} e =
           ap {B = List Edge} (λ (x : Bases). view_edges x first s c v) e ∙ ap {B = List Edge} (view_edges (bases_of f) first s c) is ∙ edges_are c s there inside mode
+
+  -- the same by the list of first statements, and by the statement's line
+  module _ (c s base : ℕ) (l : c < routines f) (low : get_or first c 0 ≤ s) (high : s < get_or first (c + 1) 0) (base_is : base ≡ statement_line f 0) where
+    inside : InRoutine t c s
+    inside = in_range l refl refl low high
+
+    seen : (mode : Bool) {v : View} → v ≡ in_mode mode (view (statement_in f (base + s) (field f (base + s) 1))) → v ≡ in_mode mode (view (statement t s))
+    seen mode = viewed refl (omega arith) (statement_there c s l inside) mode
+
+    pub small_here : s < 512
+    small_here = omega (arith, statement_there c s l inside, statements_length f, acc.statements_most)
+
+    pub fits_here : (mode : Bool) {b : Bases} {v : View} → b ≡ bases_of f → v ≡ in_mode mode (view (statement_in f (base + s) (field f (base + s) 1))) → (s < 512) × (c < 32) × Low b × Fit v
+    fits_here mode e i = (small_here, omega (arith, few_routines), subst Low (sym e) low_bases, view_fits c s l inside mode (seen mode i))
+
+    pub part_here : (mode : Bool) {b : Bases} {v : View} → b ≡ bases_of f → v ≡ in_mode mode (view (statement_in f (base + s) (field f (base + s) 1)))
+        → view_edges b first s c v ≡ part_of mode f s
+    part_here mode e i = view_part c s l inside mode (seen mode i) e
 
   -- all edges, that to routine 0 first
   main_edge : {y : ℕ} → y ≡ get_or first 0 0 → edge_from (origin (bases_of f).every (bases_of f).every) y ≡ plain (every_place (one_each t)) (entry t (one_each t) (one_each t).first)
@@ -143,9 +170,3 @@ module _ (f : List ℤ) (first : List ℕ) (acc : Accepted (table_of f)) (first_
   all_edges mode {b} {y} i e =
       ap {B = List Edge} (λ (x : Bases). edge_from (origin x.every x.every) y ∷ joined_from 0 (statements f) (part_of mode f)) i
       ∙ ap₂ {C = List Edge} (λ (x : Edge) (n : ℕ). x ∷ joined_from 0 n (part_of mode f)) (main_edge e) (sym (statements_length f))
-
--- a view by its line: `f` are the numbers that a program holds, and `g` those that its contracts speak of
-pub viewed : {f g : List ℤ} → f ≡ g → {line s : ℕ} → line ≡ statement_line g s → s < statements g → (mode : Bool) {v : View}
-    → v ≡ in_mode mode (view (statement_in f line (field f line 1))) → v ≡ in_mode mode (view (statement (table_of g) s))
-viewed {g} e {line} {s} at b mode {v} h =
-    subst (λ (k : List ℤ). v ≡ in_mode mode (view (statement_in k line (field k line 1)))) e h ∙ ap (in_mode mode) (view_here g s b at refl)

@@ -1,11 +1,13 @@
 #![tactic(auto)]
 // The edges of all statements of a table, along which what is left out of the held sets goes: those of each routine after those of the one before.
+// `Mode` is what callers choose by; the definitions have a Boolean, and `writing_alone` is the one place that turns one into the other.
 ghost use Rattle.std.specs.Prelude.{◌≡◌, ◌^◌, ◌+◌, ◌*◌, ◌≤◌, ◌<◌, length};
 ghost use Rattle.table.specs.Header.{routines, statements};
 ghost use Rattle.table.specs.Routines.{first_statement};
 ghost use Rattle.table.specs.Table.{table_of};
 ghost use Rattle.report.specs.Layout.{one_each};
-ghost use Rattle.lock_edges.specs.Grown.{Same, edges_in};
+ghost use Rattle.lock_edges.specs.Grown.{Same};
+ghost use Rattle.held_edges.specs.GoingLaws.{Filled};
 ghost use Rattle.lock_edges.specs.ViewEdges.{Low};
 ghost use Rattle.held_edges.specs.HeldEdges.{held_edges};
 ghost use Rattle.held_edges.specs.TableEdges.{writing_alone, bases_of, part_of};
@@ -74,7 +76,7 @@ fn append_routine(program: &Program<'_>, c: usize, mode: Mode, list: &mut MetEdg
 pub fn fill(program: &Program<'_>, mode: Mode, list: &mut MetEdges<'_>)
     requires { (3 * statements program.now + 1 ≤ length list.old.edges.now) × (3 * statements program.now + 1 ≤ length list.old.also.now) }
     ensures same { Same list.old list.new }
-    ensures is { edges_in list.new ≡ held_edges (table_of program.now) (one_each (table_of program.now)) (writing_alone mode) }
+    ensures filled { Filled list.new (held_edges (table_of program.now) (one_each (table_of program.now)) (writing_alone mode)) }
 {
     let bases = bases_of(program.numbers);
     let all = Origin {

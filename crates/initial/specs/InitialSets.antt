@@ -1,6 +1,6 @@
 -- The sets that each dataflow equation begins with, over the table's own numbers. What `dataflow` promises cites the report's definitions; these are the
 -- same, as the code goes through them. Assumes nothing.
-use Rattle.std.specs.Prelude.{ℕ, cond, List, ltb, length, get_or, Option}
+use Rattle.std.specs.Prelude.{ℕ, Bool, true, false, cond, List, ltb, length, get_or, Option}
 use Rattle.sets.specs.Set.{union}
 use Rattle.table.specs.Table.{Table, routine, statement}
 use Rattle.table.specs.View.{view, set_on}
@@ -17,6 +17,11 @@ abbrev pub touched : Act → View → Option ℕ
 touched Gives v = v.gives
 touched Reads v = v.reads
 touched Writes v = v.writes
+
+-- reading, or writing
+abbrev pub acts : Bool → Act
+acts true = Writes
+acts false = Reads
 
 -- the locks that a statement itself may give up, or the cells that it reads or writes
 unfoldable pub own_set : Act → List ℕ → Statement → ℕ

@@ -1,5 +1,6 @@
 #![tactic(auto)]
 // The sets that each dataflow equation begins with, in lists that the caller lends.
+// `Act` is matched in `touched` alone, and a handle's origin is a number there as in its line.
 ghost use Rattle.std.specs.Prelude.{◌≡◌, ◌<◌, ℕ, length};
 ghost use Rattle.table.specs.Header.{handles, routines, statements};
 ghost use Rattle.table.specs.Fields.{field};
@@ -61,94 +62,117 @@ fn touched(numbers: &[i32], line: usize, act: Act) -> Option<usize>
     }
 }
 
-// The locks that statement `s` itself may give up, or the cells that it reads or writes.
-fn own_set(program: &Program<'_>, flow: &[u64], act: Act, s: usize) -> u64
-    requires { s < statements program.now }
-    ensures { result ≡ own_set act flow.now (statement (table_of program.now) s) }
-{
-    attributes::set_on(touched(program.numbers, program.line_of(s), act), flow)
+// What the statements of an accepted table do in one way, by the flow sets.
+#[derive(Clone, Copy)]
+pub struct Acts<'a> {
+    pub program: &'a Program<'a>,
+    pub flow: &'a [u64],
+    pub act: Act,
 }
 
-// The union of these over the statements of routine `r`.
-fn in_routine(program: &Program<'_>, flow: &[u64], act: Act, r: usize) -> u64
-    requires { r < routines program.now }
-    ensures { result ≡ in_routine act flow.now (table_of program.now) r }
-{
-    let begin = lists::value_at(program.first, r, 0);
-    let mut all = 0u64;
-    for s in (begin..lists::value_at(program.first, r + 1, 0)).rev() {
-        all = sets::union(own_set(program, flow, act, s), all);
+impl<'a> Acts<'a> {
+    // The locks that statement `s` itself may give up, or the cells that it reads or writes.
+    fn own_set(&self, s: usize) -> u64
+        requires { s < statements self.now.program.now }
+        ensures { result ≡ own_set self.now.act self.now.flow.now (statement (table_of self.now.program.now) s) }
+    {
+        let program = self.program;
+        attributes::set_on(
+            touched(program.numbers, program.line_of(s), self.act),
+            self.flow,
+        )
     }
-    all
-}
 
-// Fills the list with these unions, one for each routine.
-pub fn fill_own(program: &Program<'_>, flow: &[u64], act: Act, out: &mut [u64])
-    requires { length out.old ≡ routines program.now }
-    ensures { out.new ≡ tabulate (length out.old) (in_routine act flow.now (table_of program.now)) }
-{
-    fill_each(out, |r| in_routine(program, flow, act, r));
-}
-
-// The effect of statement `s`; nothing if there is no such statement.
-fn effect_at(program: &Program<'_>, flow: &[u64], effect: &[u64], act: Act, s: usize) -> u64
-    ensures { result ≡ effect_at act flow.now effect.now (table_of program.now) s }
-{
-    if program.statements() <= s {
-        return 0;
+    // The union of these over the statements of routine `r`.
+    fn in_routine(&self, r: usize) -> u64
+        requires { r < routines self.now.program.now }
+        ensures { result ≡ in_routine self.now.act self.now.flow.now (table_of self.now.program.now) r }
+    {
+        let program = self.program;
+        let begin = lists::value_at(program.first, r, 0);
+        let mut all = 0u64;
+        for s in (begin..lists::value_at(program.first, r + 1, 0)).rev() {
+            all = sets::union(self.own_set(s), all);
+        }
+        all
     }
-    let line = program.line_of(s);
-    let own = attributes::set_on(touched(program.numbers, line, act), flow);
-    sets::union(
-        own,
-        attributes::set_on(attributes::names_at(program.numbers, line), effect),
-    )
-}
 
-// The effect of the statement that is referred to, if one is.
-fn effect_on(
-    program: &Program<'_>,
-    flow: &[u64],
-    effect: &[u64],
-    act: Act,
-    reference: Option<usize>,
-) -> u64
-    ensures { result ≡ set_on reference (effect_at act flow.now effect.now (table_of program.now)) }
-{
-    // not `map_or`: what it ensures of the closure did not close the proof
-    match reference {
-        Some(s) => effect_at(program, flow, effect, act, s),
-        None => 0,
+    // Fills the list with these unions, one for each routine.
+    pub fn fill_own(&self, out: &mut [u64])
+        requires { length out.old ≡ routines self.now.program.now }
+        ensures { out.new ≡ tabulate (length out.old) (in_routine self.now.act self.now.flow.now (table_of self.now.program.now)) }
+    {
+        fill_each(out, |r| self.in_routine(r));
     }
 }
 
-// The effects of the statements that may come after statement `s`.
-fn nexts_effect(program: &Program<'_>, flow: &[u64], effect: &[u64], act: Act, s: usize) -> u64
-    requires { s < statements program.now }
-    ensures { result ≡ nexts_effect act flow.now effect.now (table_of program.now) s }
-{
-    let line = program.line_of(s);
-    let target = attributes::target_at(program.numbers, line);
-    let there = effect_on(program, flow, effect, act, target);
-    if attributes::onward_at(program.numbers, line) {
-        return sets::union(there, effect_at(program, flow, effect, act, s + 1));
-    }
-    there
+// The same with the effect of each routine, which is what its statements and those of the routines that it names do.
+#[derive(Clone, Copy)]
+pub struct Effects<'a> {
+    pub acts: Acts<'a>,
+    pub effect: &'a [u64],
 }
 
-// What the future at place `p` begins with: the effects of what may come next, and nothing behind the last statement.
-fn future_initial(program: &Program<'_>, flow: &[u64], effect: &[u64], act: Act, p: usize) -> u64
-    ensures { result ≡ future_initial act flow.now effect.now (table_of program.now) p }
-{
-    if p < program.statements() {
-        return nexts_effect(program, flow, effect, act, p);
+impl<'a> Effects<'a> {
+    // The effect of statement `s`; nothing if there is no such statement.
+    fn effect_at(&self, s: usize) -> u64
+        ensures { result ≡ effect_at self.now.acts.act self.now.acts.flow.now self.now.effect.now (table_of self.now.acts.program.now) s }
+    {
+        let program = self.acts.program;
+        if program.statements() <= s {
+            return 0;
+        }
+        let line = program.line_of(s);
+        let own = attributes::set_on(
+            touched(program.numbers, line, self.acts.act),
+            self.acts.flow,
+        );
+        sets::union(
+            own,
+            attributes::set_on(attributes::names_at(program.numbers, line), self.effect),
+        )
     }
-    0
-}
 
-// Fills the list with what futures begin with.
-pub fn fill_future(program: &Program<'_>, flow: &[u64], effect: &[u64], act: Act, out: &mut [u64])
-    ensures { out.new ≡ tabulate (length out.old) (future_initial act flow.now effect.now (table_of program.now)) }
-{
-    fill_each(out, |p| future_initial(program, flow, effect, act, p));
+    // The effect of the statement that is referred to, if one is.
+    fn effect_on(&self, reference: Option<usize>) -> u64
+        ensures { result ≡ set_on reference (effect_at self.now.acts.act self.now.acts.flow.now self.now.effect.now (table_of self.now.acts.program.now)) }
+    {
+        // not `map_or`: what it ensures of the closure did not close the proof
+        match reference {
+            Some(s) => self.effect_at(s),
+            None => 0,
+        }
+    }
+
+    // The effects of the statements that may come after statement `s`.
+    fn nexts_effect(&self, s: usize) -> u64
+        requires { s < statements self.now.acts.program.now }
+        ensures { result ≡ nexts_effect self.now.acts.act self.now.acts.flow.now self.now.effect.now (table_of self.now.acts.program.now) s }
+    {
+        let program = self.acts.program;
+        let line = program.line_of(s);
+        let target = attributes::target_at(program.numbers, line);
+        let there = self.effect_on(target);
+        if attributes::onward_at(program.numbers, line) {
+            return sets::union(there, self.effect_at(s + 1));
+        }
+        there
+    }
+
+    // What the future at place `p` begins with: the effects of what may come next, and nothing behind the last statement.
+    fn future_initial(&self, p: usize) -> u64
+        ensures { result ≡ future_initial self.now.acts.act self.now.acts.flow.now self.now.effect.now (table_of self.now.acts.program.now) p }
+    {
+        if p < self.acts.program.statements() {
+            return self.nexts_effect(p);
+        }
+        0
+    }
+
+    // Fills the list with what futures begin with.
+    pub fn fill_future(&self, out: &mut [u64])
+        ensures { out.new ≡ tabulate (length out.old) (future_initial self.now.acts.act self.now.acts.flow.now self.now.effect.now (table_of self.now.acts.program.now)) }
+    {
+        fill_each(out, |p| self.future_initial(p));
+    }
 }

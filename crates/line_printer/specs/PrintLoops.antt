@@ -1,8 +1,9 @@
 -- What the loops of the printer need: bytes copied one after the other, digits written from the last, fields from the first.
 -- Assumes nothing.
-use Rattle.std.specs.Prelude.{◌≡◌, refl, ℕ, zero, suc, ◌+◌, ◌*◌, ◌-◌, ◌/◌, ◌%◌, ◌≤◌, ◌<◌, ◌^◌, Bool, true, false, ◌&&◌, List, [], ◌∷◌, ◌++◌, ℤ, pos, negsuc, nat_abs, length, get_or, take, drop, set, replicate, Ok}
+use Rattle.std.specs.Prelude.{◌≡◌, refl, ℕ, zero, suc, ◌+◌, ◌*◌, ◌-◌, ◌/◌, ◌%◌, ◌≤◌, ◌<◌, ◌^◌, Bool, true, false, ◌&&◌, List, [], ◌∷◌, ◌++◌, ℤ, pos, negsuc, nat_abs, ◌-ℤ◌, length, get_or, take, drop, set, replicate, Result, Ok, Err}
 use Rattle.std.specs.List.{list_all}
-use Rattle.std.proofs.Common.{sym, ap, ◌∙◌, arith, add-one, zero-add, append_assoc, append-nil, length-append, length-set, length-take, length-drop, drop_of_length-le, drop-cons, drop-drop, take_all, drop_at, ltb-true, le-leb}
+use Rattle.std.proofs.Common.{sym, ap, ◌∙◌, arith, add-one, zero-add, append_assoc, append-nil, length-append, length-set, length-take, length-drop, drop_of_length-le, drop-cons, drop-drop, take_all, take_at, drop_at, ltb-true, ltb-false, lt-ltb, le-ltb, le-leb}
+use Rattle.std.proofs.lemmas.Bool.{lt-leb}
 use Rattle.std.proofs.Math.Nat.{pow-succ'}
 use Rattle.std.specs.Int.Signed.{lt_z}
 use Rattle.std.proofs.lemmas.List.{length-replicate, set-append_left, set_split}
@@ -14,9 +15,22 @@ use Rattle.fields.specs.Field.{in_field, decimal_text, field_text}
 use Rattle.fields.specs.FieldLaws.{text_last, text_more, text_width, field_text_lem, field_text_length, signed_pos, signed_negsuc}
 use Rattle.lines.specs.Line.{all_in_field, line_text}
 use Rattle.lines.proofs.LineLaws.{all_none, all_good, all_bad, text_end, text_cons, line_text_length}
+use Rattle.line_printer.specs.declared.PrintError as P
 use Rattle.line_printer.specs.Print.{print_answer, printed_at}
 
 -- the range and the sign, from tests on signed numbers
+
+pub range_low : (z : ℤ) → lt_z z (negsuc 99998) ≡ true → in_field z ≡ false
+range_low (pos n) h = let u : ◌≡◌ {A = ℕ} 0 1 = cc in absurd (omega arith)
+range_low (negsuc n) h = le-ltb n 99999 (omega (arith, ltb-true 99998 n h))
+
+pub range_high : (z : ℤ) → lt_z (pos 999999) z ≡ true → in_field z ≡ false
+range_high (pos n) h = le-ltb n 1000000 (omega (arith, ltb-true 999999 n h))
+range_high (negsuc n) h = let u : ◌≡◌ {A = ℕ} 0 1 = cc in absurd (omega arith)
+
+pub range_between : (z : ℤ) → lt_z z (negsuc 99998) ≡ false → lt_z (pos 999999) z ≡ false → in_field z ≡ true
+range_between (pos n) h k = lt-ltb n 1000000 (omega (arith, ltb-false 999999 n k))
+range_between (negsuc n) h k = lt-ltb n 99999 (omega (arith, ltb-false 99998 n h))
 
 pub abs_small : (z : ℤ) → in_field z ≡ true → nat_abs z < 1000000
 abs_small (pos n) h = ltb-true n 1000000 h
@@ -25,6 +39,14 @@ abs_small (negsuc n) h = omega (arith, ltb-true n 99999 h)
 pub abs_less : (z : ℤ) → in_field z ≡ true → lt_z z (pos 0) ≡ true → nat_abs z < 100000
 abs_less (pos n) h k = absurd (omega (arith, ltb-true n 0 k))
 abs_less (negsuc n) h k = omega (arith, ltb-true n 99999 h)
+
+pub minus_abs : (z : ℤ) → lt_z z (pos 0) ≡ true → (pos 0 -ℤ z) ≡ pos (nat_abs z)
+minus_abs (pos n) k = absurd (omega (arith, ltb-true n 0 k))
+minus_abs (negsuc n) k = ap pos (zero-add (suc n))
+
+pub plus_abs : (z : ℤ) → lt_z z (pos 0) ≡ false → z ≡ pos (nat_abs z)
+plus_abs (pos n) k = refl
+plus_abs (negsuc n) k = let u : ◌≡◌ {A = ℕ} 0 1 = cc in absurd (omega arith)
 
 -- numbers in the range
 pub all_are_in_field : (zs : List ℤ) → list_all in_field zs ≡ all_in_field zs
@@ -135,6 +157,14 @@ set_paste a at cs k x h six l =
     let s : set (take at a ++ cs) (at + k) x ≡ take at a ++ set cs k x = rw p at (set_behind (take at a) cs k x) in
     rw (take_all 6 cs (omega arith), take_all 6 (set cs k x) (rw length-set (omega arith)), set-append_left (take at a ++ cs) (drop (at + 6) a) (at + k) x w, s)
 
+-- six characters written over six others
+pub paste_over : (a : List ℕ) (at : ℕ) (s t b : List ℕ) → at + 6 ≤ length a → length s ≡ 6 → b ≡ paste a at s 6 → paste b at t 6 ≡ paste a at t 6
+paste_over a at s t b h six e =
+    let p : length (take at a) ≡ at = rw length-take (omega arith) in
+    let f : take at b ≡ take at a = ap (take at) e ∙ rw append_assoc (take_at (take at a) (take 6 s ++ drop (at + 6) a) at p) in
+    let g : drop (at + 6) b ≡ drop (at + 6) a = ap (drop (at + 6)) e ∙ drop-paste a at s 6 (omega arith) (omega arith) in
+    rw (f, g)
+
 -- six characters stand in a from `at` on, all other places are as in a₀; m, and the digits behind place k, are the digits of m₀
 pub record Writing (a₀ : List ℕ) (at m₀ : ℕ) (a : List ℕ) (m k : ℕ) : Type 0 where
   pub chars : List ℕ
@@ -175,20 +205,19 @@ module _ {a₀ : List ℕ} {at m₀ : ℕ} {a : List ℕ} {m k : ℕ} (w : Writi
     is = writing_set (48 + m % 10);
   }
 
+  pub writing_minus_room : m < 10 → m₀ < 100000 → 1 ≤ k
+  writing_minus_room h l = room_minus w.filling h l
+
   module _ (h : m < 10) (z : ℤ) (e : m₀ ≡ nat_abs z) where
     pub writing_plus : lt_z z (pos 0) ≡ false → set a (at + k) (48 + m) ≡ paste a₀ at (field_text z) 6
     writing_plus g = writing_set (48 + m) ∙ rw (filled_field w.filling h z e g)
 
-    module _ (r : in_field z ≡ true) (g : lt_z z (pos 0) ≡ true) where
-      pub writing_minus_room : 1 ≤ k
-      writing_minus_room = room_minus w.filling h (rw e (abs_less z r g))
-
-      pub writing_minus : set (set a (at + k) (48 + m)) (at + (k - 1)) 45 ≡ paste a₀ at (field_text z) 6
-      writing_minus =
-          let s : length (set w.chars k (48 + m)) ≡ 6 = length-set w.chars k (48 + m) ∙ w.filling.sized in
-          rw (writing_set (48 + m))
-          (set_paste a₀ at (set w.chars k (48 + m)) (k - 1) 45 (omega (arith, w.room)) s (omega (arith, w.filling.room))
-          ∙ rw (filled_minus_field w.filling h z e r g))
+    pub writing_minus : in_field z ≡ true → lt_z z (pos 0) ≡ true → set (set a (at + k) (48 + m)) (at + (k - 1)) 45 ≡ paste a₀ at (field_text z) 6
+    writing_minus r g =
+        let s : length (set w.chars k (48 + m)) ≡ 6 = length-set w.chars k (48 + m) ∙ w.filling.sized in
+        rw (writing_set (48 + m))
+        (set_paste a₀ at (set w.chars k (48 + m)) (k - 1) 45 (omega (arith, w.room)) s (omega (arith, w.filling.room))
+        ∙ rw (filled_minus_field w.filling h z e r g))
 
 -- fields written from the first
 
@@ -238,6 +267,14 @@ part_back : (out : List ℕ) (at : ℕ) (line : List ℕ) → at + 49 ≤ length
 part_back out at line h e =
     let l : length (drop at out) ≤ length out - at = rw length-drop (omega arith) in
     rw (take_all 49 line (omega arith), take_all (length out - at) (drop at out) l, drop_of_length-le (drop at out) {i = length out - at} l, append-nil, drop-drop) (sym (append_assoc (take at out) line (drop (at + 49) out)))
+
+pub printed_no_field : (out : List ℕ) (at : ℕ) (zs : List ℤ) → all_in_field zs ≡ false
+    → (◌≡◌ {A = Result (Unit {0}) P.PrintError} (Err P.PrintError.NoField) (print_answer out at zs)) × (out ≡ printed_at out at zs)
+printed_no_field out at zs e = (rw e, rw e)
+
+pub printed_no_room : (out : List ℕ) (at : ℕ) (zs : List ℤ) → all_in_field zs ≡ true → length out < at + 49
+    → (◌≡◌ {A = Result (Unit {0}) P.PrintError} (Err P.PrintError.NoRoom) (print_answer out at zs)) × (out ≡ printed_at out at zs)
+printed_no_room out at zs e h = (rw (e, lt-leb (at + 49) (length out) h), rw (e, lt-leb (at + 49) (length out) h))
 
 pub printed_whole : (out : List ℕ) (at : ℕ) (zs : List ℤ) → all_in_field zs ≡ true → length zs ≡ 8 → at + 49 ≤ length out
     → (Ok tt ≡ print_answer out at zs)

@@ -1,5 +1,7 @@
 #![tactic(auto)]
 // A line of a table text, printed: eight numbers as fields of six characters and a line feed, into a lent buffer.
+// Bytes by hand and not by `Display`: there is no heap, and each byte is promised. `print_line` takes the buffer and where in it the line goes, as its public
+// promise has it. Casts are by `as` where `From` has no way and `TryFrom` would answer with a `Result` that cannot fail.
 ghost use Rattle.std.specs.Prelude.{◌≡◌, true, ◌+◌, ◌≤◌, length};
 ghost use Rattle.std.proofs.Math.Seq.{paste};
 ghost use Rattle.fields.specs.Field.{in_field, field_text};
@@ -35,7 +37,7 @@ fn put_number(part: &mut [u8], at: usize, n: i32)
     part[at..at + 6].fill(b' ');
     let mut m = n.unsigned_abs();
     let mut k: usize = 5;
-    // By `while`: how many digits there are is not known before.
+    // No loop over an index: it divides the number until one digit is left. A `for` would count the digits first, so it is no plainer.
     while 10 <= m {
         part[at + k] = b'0' + (m % 10) as u8;
         m = m / 10;

@@ -1,5 +1,7 @@
 #![tactic(auto)]
 // A line of a table text: eight fields of six characters and a line feed, read.
+// A text and a place in it are a list and an index, as in `fields`. The loop over fields stands in `read_line` and in `read_numbers`: the document's form has
+// it inside the loop over lines, left by a label.
 ghost use Rattle.std.specs.Prelude.{◌≡◌, ◌*◌, ◌+◌, ◌≤◌, true, IfSome, length, take, drop};
 ghost use Rattle.std.specs.Bool.{MatchBool};
 ghost use Rattle.std.proofs.Math.Option.{none, some};
@@ -33,7 +35,8 @@ fn quick_fields(text: &[u8], at: usize) -> Option<(i32, i32, i32)>
     Some((x as i32, y as i32, z as i32))
 }
 
-// Puts the eight numbers of the line at a place into `line` if the quick way reads them; how many it put, eight or none.
+// Puts the eight numbers of the line at a place into `line` if the quick way reads them; how many it put, eight or none: a count and
+// no flag, since the loop over the fields begins behind what was put.
 fn put_quick(text: &[u8], at: usize, line: &mut [i32]) -> usize
     requires at_in_bounds { at + 49 ≤ length text.now }
     requires eight { length line.old ≡ 8 }

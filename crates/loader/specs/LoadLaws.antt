@@ -1,4 +1,5 @@
 -- A table that may be loaded is safe after every list of thread numbers, and its common locks guard readings: demand 3 and C-22, as the loader asks them. Assumes nothing.
+use Rattle.std.proofs.lemmas.Bool.{and_parts}
 use Rattle.std.specs.Prelude.{◌≡◌, refl, true, List, ℕ, ℤ, pos, negsuc, Ok, Err}
 use Rattle.std.proofs.Common.{sym, ap, eqb-true}
 use Rattle.table.proofs.AcceptedLaws.{accepted}
@@ -7,7 +8,7 @@ use Rattle.machine.specs.State.{start}
 use Rattle.machine.specs.Step.{step, run}
 use Rattle.machine.specs.Engine.{engine_step}
 use Rattle.machine.specs.Words.{Safe}
-use Rattle.report.proofs.OverLaws.{never, both_true}
+use Rattle.report.proofs.OverLaws.{never}
 use Rattle.report.specs.Report.{unguarded_total, stray_total}
 use Rattle.guarantee.proofs.Demand.{clean_table_safe}
 use Rattle.guarantee.specs.Reading.{EachCommon, Steady}
@@ -31,7 +32,7 @@ loads text = go (verdict text) refl
   where
     go : (v : Verdict) → verdict text ≡ v → loadable_by v (table_in text) ≡ true → Loads text
     go (Ok u) q h =
-        let both = both_true (is_none (unguarded_total (table_in text))) (is_none (stray_total (table_in text))) h in
+        let both = and_parts (is_none (unguarded_total (table_in text))) (is_none (stray_total (table_in text))) h in
         record { accepts = q; none_unguarded = none_is _ both.0; none_stray = none_is _ both.1 }
     go (Err r) q h = never (sym h)
 

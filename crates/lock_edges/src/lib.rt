@@ -27,7 +27,7 @@ pub struct Origin {
     pub also: usize,
 }
 
-// Statement `s` of routine `c`, by its view, with the first statement of each routine.
+// Statement `s` of routine `c`, by its view, with the first statement of each routine. It is read; the list that is filled goes beside it.
 #[derive(Clone, Copy)]
 pub struct Here<'a> {
     pub bases: Bases,

@@ -1,16 +1,22 @@
 // A list of edges with the place whose set each meets, filled from the front in room that a caller lends.
-ghost use Rattle.std.specs.Prelude.{◌≡◌, [], ◌∷◌, ◌≤◌, length, take};
+ghost use Rattle.std.specs.Prelude.{◌≡◌, [], ◌∷◌, take};
 
 use super::Origin;
 
-// An edge is a number in `edges` and a place in `also`, as the solver takes them.
+// An edge is a number in `edges` and a place in `also`, as the solver takes them. So two lists are filled, and `edges::list::EdgeList`, which fills one,
+// cannot serve; a list type over both would be no plainer, since what each method promises is of its own lists.
 #[derive(Drop)]
 pub struct MetEdges<'a> {
     pub edges: &'a mut [u32],
     pub also: &'a mut [u16],
     pub used: usize,
-    pub ghost inside: { used ≤ length edges.now },
-    pub ghost also_inside: { used ≤ length also.now },
+}
+
+// The first `n` of a list, or all of them.
+fn front<T>(list: &[T], n: usize) -> &[T]
+    ensures { result.now ≡ take n list.now }
+{
+    &list[..n.min(list.len())]
 }
 
 impl<'a> MetEdges<'a> {
@@ -22,14 +28,14 @@ impl<'a> MetEdges<'a> {
     pub fn edges(&self) -> &[u32]
         ensures { result.now ≡ take self.now.used self.now.edges.now }
     {
-        &self.edges[..self.used]
+        front(self.edges, self.used)
     }
 
     // The places that the edges so far meet.
     pub fn also(&self) -> &[u16]
         ensures { result.now ≡ take self.now.used self.now.also.now }
     {
-        &self.also[..self.used]
+        front(self.also, self.used)
     }
 
     // Appends the edge from `origin` to `t`. Where there is no room, or a number is too large, nothing changes.

@@ -1,11 +1,11 @@
 #![tactic(auto)]
 // TAKE, TAKER and GIVE. A lock's word is a set: reader n is element n, writer n is element 16 + n; 0 is nobody.
+// That there are 16 locks at most is asked here: `run_state::sizes_of` takes any numbers, so `Sizes` holds no bound.
 ghost use Rattle.std.specs.Prelude.{ℕ, ◌≡◌, ◌<◌, ◌≤◌, get_or, Result};
 ghost use Rattle.run_state.specs.Lists.{locks_in};
 ghost use Rattle.run_state.specs.Shown.{value_place};
 ghost use Rattle.operations.specs.declared.Stop.{Stop};
-ghost use Rattle.operations.specs.Operation.{Placed};
-ghost use Rattle.locks.specs.Turns.{taking_word, reading_word, giving_word, Handed, Turned};
+ghost use Rattle.locks.specs.Turns.{taking_word, reading_word, giving_word, Storable, Handed, Turned};
 
 use operations::{Move, Place, Stop};
 use run_state::State;
@@ -58,8 +58,9 @@ fn turn<F: FnOnce(u64) -> Result<u64, Stop>>(
     locks: usize,
     state: &mut State,
 ) -> Move
-    requires placed { Placed at × (locks ≤ 16) }
+    requires few { locks ≤ 16 }
     requires called { F.IsAlwaysCallable by }
+    requires stored { (word : ℕ) (r : Result ℕ Stop) → word < 4294967296 → F.post by word r → Storable r }
     ensures { (r : Result ℕ Stop) × F.post by (get_or (locks_in locks state.old) (get_or state.old.values (value_place at.slot h) 0) 0) r × Handed r (get_or state.old.values (value_place at.slot h) 0) at locks result state.old state.new }
 {
     let k = value_of(&state.values, at.slot, h);
@@ -70,7 +71,7 @@ fn turn<F: FnOnce(u64) -> Result<u64, Stop>>(
 
 // TAKE: "the free lock becomes this thread's"; it waits while anybody holds it.
 pub fn take(h: usize, at: Place, locks: usize, state: &mut State) -> Move
-    requires { Placed at × (locks ≤ 16) }
+    requires { locks ≤ 16 }
     ensures { Turned taking_word h at locks result state.old state.new }
 {
     turn(|word| taking(word, at.thread), h, at, locks, state)
@@ -78,7 +79,7 @@ pub fn take(h: usize, at: Place, locks: usize, state: &mut State) -> Move
 
 // TAKER: "takes a lock for reading"; it waits while a thread holds it for writing or this thread holds it at all.
 pub fn take_read(h: usize, at: Place, locks: usize, state: &mut State) -> Move
-    requires { Placed at × (locks ≤ 16) }
+    requires { locks ≤ 16 }
     ensures { Turned reading_word h at locks result state.old state.new }
 {
     turn(|word| reading(word, at.thread), h, at, locks, state)
@@ -86,7 +87,7 @@ pub fn take_read(h: usize, at: Place, locks: usize, state: &mut State) -> Move
 
 // GIVE: "ends either hold"; it is stopped where this thread holds the lock in neither way.
 pub fn give(h: usize, at: Place, locks: usize, state: &mut State) -> Move
-    requires { Placed at × (locks ≤ 16) }
+    requires { locks ≤ 16 }
     ensures { Turned giving_word h at locks result state.old state.new }
 {
     turn(|word| giving(word, at.thread), h, at, locks, state)

@@ -1,24 +1,25 @@
 -- Sets filled in, and turned round. Assumes nothing.
-use Rattle.std.specs.Prelude.{◌≡◌, refl, Bool, ℤ, set, take}
+use Rattle.std.specs.Prelude.{◌≡◌, refl, Bool, ℤ, set, take, replicate}
 use Rattle.std.proofs.Math.Path.{sym, ap, ap₂}
-use Rattle.std.proofs.Common.{◌∙◌, le_refl, get_or-take}
-use mathlib.Core.List.{List, [], ◌∷◌, ◌++◌}
-use Prim.Native.Nat.{ℕ, ◌+◌, ◌^◌, ◌≤◌, ◌<◌}
+use Rattle.std.proofs.Common.{◌∙◌, le_refl, get_or-take, lt-ltb, le-ltb}
+use mathlib.Core.List.{List, ◌++◌}
+use Prim.Native.Nat.{ℕ, ◌+◌, ◌-◌, ◌^◌, ◌≤◌, ◌<◌}
 use native.Mathlib.Omega.{arith}
-use Rattle.std.proofs.Math.ListN.{length, get_or}
-use Rattle.std.proofs.Math.Seq.{length-take-le}
+use Rattle.std.proofs.Math.ListN.{length, get_or, length-replicate}
+use Rattle.std.proofs.Math.Seq.{length-take-le, take-append_seam}
 use Rattle.sets.specs.Set.{firsts, minus}
 use Rattle.sets.specs.Least.{Edge, least}
 use Rattle.table.specs.Header.{locks, handles, routines, statements}
 use Rattle.table.specs.Table.{Table, table_of}
 use Rattle.table.specs.Tabulate.{tabulate}
-use Rattle.table.proofs.TabulateLaws.{Rewritten, rewritten_next, rewritten_all, length_tabulate, get_d_tabulate, is_tabulate}
+use Rattle.table.specs.TabulateLaws.{Filled}
+use Rattle.table.proofs.TabulateLaws.{Rewritten, rewritten_next, rewritten_all, zeros_at, length_tabulate, get_d_tabulate, is_tabulate}
 use Rattle.table.proofs.LookupLaws.{handles_length, routines_length, statements_length}
 use Rattle.table.specs.Accepted.{Accepted}
 use Rattle.report.specs.Greatest.{leaving}
 use Rattle.report.specs.Layout.{one_each}
 use Rattle.report.proofs.OneEach.{one_each_fits}
-use Rattle.report.specs.Held.{all_locks, held_sets}
+use Rattle.report.specs.Held.{all_locks, only_lock, held_sets}
 use Rattle.lock_edges.specs.declared.Bases.{Bases}
 use Rattle.held_edges.specs.TableEdges.{bases_of}
 use Rattle.held_edges.specs.HeldEdges.{place_count, start_at, held_edges, held_out}
@@ -35,15 +36,44 @@ turned_next all s₀ {p = p} t l e = rewritten_next t l (e ∙ ap (minus all) (t
 pub turned_done : (all : ℕ) (s₀ : List ℕ) {s : List ℕ} {p : ℕ} → Rewritten (leaving all s₀) s₀ s p → length s ≤ p → s ≡ tabulate (length s₀) (leaving all s₀)
 turned_done all s₀ t h = rewritten_all t (λ k l m. absurd (omega (arith, t.filled.long)))
 
+-- ---- the start
+
+module _ (flow given : List ℕ) (b : Bases) (all p : ℕ) where
+  pub in_early : p < b.given → start_in flow given b all p ≡ 0
+  unfolding start_in
+  in_early l = rw (lt-ltb p b.given l)
+
+  pub in_given : b.given ≤ p → p < b.flow → get_or given (p - b.given) 0 ≡ start_in flow given b all p
+  unfolding start_in
+  in_given l m = rw (le-ltb p b.given l, lt-ltb p b.flow m)
+
+  pub in_flow : b.given ≤ p → b.flow ≤ p → p < b.other → get_or flow (p - b.flow) 0 ≡ start_in flow given b all p
+  unfolding start_in
+  in_flow l m n = rw (le-ltb p b.given l, le-ltb p b.flow m, lt-ltb p b.other n)
+
+  pub in_other : b.given ≤ p → b.flow ≤ p → b.other ≤ p → p < b.every → minus all (only_lock (get_or flow (p - b.other) 0)) ≡ start_in flow given b all p
+  unfolding start_in
+  in_other l m n o = rw (le-ltb p b.given l, le-ltb p b.flow m, le-ltb p b.other n, lt-ltb p b.every o)
+
+  pub in_every : b.given ≤ p → b.flow ≤ p → b.other ≤ p → b.every ≤ p → all ≡ start_in flow given b all p
+  unfolding start_in
+  in_every l m n o = rw (le-ltb p b.given l, le-ltb p b.flow m, le-ltb p b.other n, le-ltb p b.every o)
+
+-- zeros are filled as far as nothing is left out
+pub start_filled : (flow given : List ℕ) (b : Bases) (all : ℕ) (s : List ℕ) → s ≡ replicate (length s) 0 → Filled (start_in flow given b all) s (length s) b.given
+start_filled flow given b all s z = record {
+  long = refl;
+  holds = λ k l. ap (λ (r : List ℕ). get_or r k 0) z ∙ zeros_at (length s) k ∙ sym (in_early flow given b all k l);
+}
+
+pub zeros_own : {s : List ℕ} (n : ℕ) → s ≡ replicate n 0 → s ≡ replicate (length s) 0
+zeros_own n z = z ∙ ap (λ (m : ℕ). replicate m 0) (sym (ap length z ∙ length-replicate n 0))
+
 -- ---- the whole
 
 pub locks_are : (f : List ℤ) → firsts (locks f) ≡ all_locks (table_of f)
 unfolding table_of
 locks_are f = refl
-
-take_front : (x y : List ℕ) → take (length x) (x ++ y) ≡ x
-take_front [] y = refl
-take_front (a ∷ x) y = ap (λ (l : List ℕ). a ∷ l) (take_front x y)
 
 module _ (f : List ℤ) (acc : Accepted (table_of f)) (mode : Bool) (flow : List ℕ) (below : (i : ℕ) → get_or flow i 0 < 2 ^ 64)
     (given : List ℕ) (Given_below : (i : ℕ) → get_or given i 0 < 2 ^ 64) where
@@ -102,4 +132,4 @@ module _ (f : List ℤ) (acc : Accepted (table_of f)) (mode : Bool) (flow : List
       → turned ≡ tabulate (length (take m out)) (leaving all (take m out)) → take (statements f) (turned ++ rest) ≡ held_sets t (one_each t) mode flow given
   held_front {out} {turned} rest {all} {m} o i e y =
       let long : length turned ≡ m = ap length y ∙ length_tabulate (length (take m out)) _ ∙ length-take-le m out (out_long o e) in
-      ap (λ (n : ℕ). take n (turned ++ rest)) (sym (long ∙ e)) ∙ take_front turned rest ∙ held_is o i e (out_long o e) y
+      ap (λ (n : ℕ). take n (turned ++ rest)) (sym (long ∙ e)) ∙ take-append_seam turned rest ∙ held_is o i e (out_long o e) y

@@ -1,5 +1,6 @@
 #![tactic(auto)]
 // The held sets of a table, of locks held for writing or in either way: all locks but what is left out of them, which the solver finds.
+// Flow sets and the locks given up are two lists, out of two equations.
 ghost use Rattle.std.specs.Prelude.{◌≡◌, ◌+◌, ◌*◌, ◌≤◌, length, take};
 ghost use Rattle.table.specs.Header.{statements};
 ghost use Rattle.table.specs.Table.{table_of};

@@ -1,16 +1,24 @@
 -- What the loops over the two modes leave. Assumes nothing.
-use Rattle.std.specs.Prelude.{◌≡◌, Option, Bool, not, List, ℕ, ◌+◌, ◌≤◌, ◌<◌, ℤ, length, get_or, set, take, drop}
+use Rattle.std.specs.Prelude.{◌≡◌, Option, Bool, not, List, ℕ, ◌+◌, ◌≤◌, ◌<◌, ℤ, length, get_or, set, take, drop, replicate}
 use Rattle.std.proofs.Common.{refl, sym, ap₂, ◌∙◌, le_refl, arith, get_or-drop, length-take-le}
 use Rattle.std.proofs.Math.Path.{ap}
+use Rattle.std.proofs.lemmas.List.{length-replicate}
 use Rattle.std.proofs.Math.Seq.{get_or-take}
 use Rattle.table.specs.Header.{statements, statement_line}
 use Rattle.table.specs.Fields.{field}
 use Rattle.table.specs.Table.{statement_in, statement_of}
-use Rattle.table.proofs.TabulateLaws.{Rewritten, rewritten_next, is_tabulate}
+use Rattle.table.specs.TabulateLaws.{Filled}
+use Rattle.table.proofs.TabulateLaws.{filled_all, Rewritten, rewritten_next, zeros_at, is_tabulate}
 use Rattle.table.proofs.OperationLaws.{view_line}
 use Rattle.table.specs.View.{view, on_or, takes_to_read}
 use Rattle.table.specs.declared.View.{View}
 use Rattle.modes.specs.Modes.{takes_to_write_alone, held_by}
+
+-- ---- a list that is cleared
+
+pub cleared : (s : List ℕ) (n p : ℕ) → Filled (λ k. 0) s n p → n ≤ p → s ≡ replicate n 0
+cleared s n p f h =
+    filled_all (λ k. 0) s n p f h ∙ sym (is_tabulate n (λ k. 0) (replicate n 0) 0 (length-replicate n 0) (λ k l. zeros_at n k))
 
 -- ---- a statement by its line
 

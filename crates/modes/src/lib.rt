@@ -1,5 +1,6 @@
 #![tactic(auto)]
 // The two modes of a hold (C-18), for writing and in either way: whether a table has two, and the held sets of both put together in the way of each access.
+// Functions of a statement's line take any text's numbers, so no `Program`.
 ghost use Rattle.std.specs.Prelude.{◌≡◌, ◌+◌, ◌≤◌, length, get_or, take, drop};
 ghost use Rattle.table.specs.Found.{below};
 ghost use Rattle.table.specs.Header.{statements, statement_line};

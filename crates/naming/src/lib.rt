@@ -1,11 +1,12 @@
 #![tactic(auto)]
 // Which routines name which, by CALL or START, and which reach themselves so. A set of routines is a number.
+// Two unions, one over a range of statements and one over a list with zeros behind: a fold for both would take a closure and say no more.
 ghost use Rattle.std.specs.Prelude.{◌≡◌, ℕ, ◌<◌, ◌^◌, ◌-◌, get_or};
 ghost use Rattle.table.specs.Header.{routines};
-ghost use Rattle.table.specs.Lists.{StatementsBegin};
 ghost use Rattle.table.specs.Naming.{named_by, gather, names_of, names_in, walk, is_acyclic};
 ghost use Rattle.naming.specs.GatherLaws.{Ended};
 
+use declarations::outline::Outline;
 use lists::value_at;
 use table::{field_of, first_line};
 
@@ -34,23 +35,25 @@ fn named_among(numbers: &[i32], from: usize, end: usize) -> u64
 }
 
 // What the statements of routine `r` name.
-fn names_of(numbers: &[i32], first: &[usize], r: usize) -> u64
-    requires statements_begin { StatementsBegin numbers.now first.now }
-    requires r_bound { r < routines numbers.now }
-    ensures { result ≡ names_of numbers.now r }
+fn names_of(outline: &Outline<'_>, r: usize) -> u64
+    requires { r < routines outline.now.numbers.now }
+    ensures { result ≡ names_of outline.now.numbers.now r }
 {
-    named_among(numbers, value_at(first, r, 0), value_at(first, r + 1, 0))
+    named_among(
+        outline.numbers,
+        value_at(&outline.extents.first, r, 0),
+        value_at(&outline.extents.first, r + 1, 0),
+    )
 }
 
 // For each routine, what its statements name.
-pub fn names_in(numbers: &[i32], first: &[usize]) -> [u64; 32]
-    requires { StatementsBegin numbers.now first.now }
-    ensures { result ≡ names_in numbers.now }
+pub fn names_in(outline: &Outline<'_>) -> [u64; 32]
+    ensures { result ≡ names_in outline.now.numbers.now }
 {
-    let count = field_of(numbers, 0, 4);
+    let count = field_of(outline.numbers, 0, 4);
     let mut names = [0u64; 32];
     for r in 0..count {
-        names[r] = names_of(numbers, first, r);
+        names[r] = names_of(outline, r);
     }
     names
 }

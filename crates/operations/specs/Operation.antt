@@ -3,18 +3,12 @@ use Rattle.std.specs.Prelude.{ℕ, ◌+◌, ◌*◌, ◌<◌, ◌≤◌, ◌≡�
 use Rattle.table.specs.Table.{table_of}
 use Rattle.table.specs.declared.Arguments.{Arguments}
 use Rattle.machine.specs.Engine.{frame_slots}
-use Rattle.run_state.specs.declared.Program.{Program}
+use Rattle.run_state.specs.declared.Loaded.{Loaded}
 use Rattle.run_state.specs.declared.State as Run
 use Rattle.run_state.specs.Shown.{Entered}
-use Rattle.operations.specs.declared.Place.{Place}
+use Rattle.operations.specs.declared.place.Place.{Place}
 use Rattle.operations.specs.declared.Stop.{Stop}
 use Rattle.operations.specs.declared.Stop.TheVariants.{Full}
-
--- a place within the limits of a run
-pub record Placed (at : Place) : Type 0 where
-  pub thread_low : at.thread < 16
-  pub slot_low : at.slot < 512
-  pub next_low : at.next < 512
 
 -- the slot is that of its thread's newest frame, of so many that are open
 pub record Newest (at : Place) (count : ℕ) : Type 0 where
@@ -31,7 +25,7 @@ abbrev pub on : Place → Move
 on at = Ok (Some (at.next + 1))
 
 -- CALL: the frame goes on, and a new one stands in the next slot
-pub record Called (p : Program) (routine : ℕ) (arguments : Arguments) (at : Place) (r : Move) (s s' : Run.State) : Type 0 where
+pub record Called (p : Loaded) (routine : ℕ) (arguments : Arguments) (at : Place) (r : Move) (s s' : Run.State) : Type 0 where
   pub answer_is : r ≡ on at
   pub state_is : s'
       ≡ record s {
@@ -42,7 +36,7 @@ pub record Called (p : Program) (routine : ℕ) (arguments : Arguments) (at : Pl
   pub entered : Entered (table_of p.numbers.now) s.values s'.values (at.slot + 1) at.slot (get_or p.handle routine 0) (get_or p.handle (routine + 1) 0) arguments
 
 -- START: stopped where 16 threads are started, and then nothing changes; else the frame goes on and the next thread has one frame
-abbrev pub Started : Program → ℕ → Arguments → Place → Move → Run.State → Run.State → Type 0
+abbrev pub Started : Loaded → ℕ → Arguments → Place → Move → Run.State → Run.State → Type 0
 Started p routine arguments at r s s' =
     record { full : 16 ≤ s.started; answer_is : r ≡ Err Full; state_is : s' ≡ s }
     ⊎ record {

@@ -1,15 +1,18 @@
 #![tactic(auto)]
 // The operations of document 01 on the state of a run, but for those on locks, one function each, and what a step is answered with.
+pub mod place;
+
 ghost use Rattle.std.specs.Prelude.{◌≡◌, cond, ◌+◌, ◌*◌, ◌-◌, ◌<◌, ◌≤◌, pos, ◌+ℤ◌, get_or, set, Ok, Some, None};
 ghost use Rattle.machine.specs.Step.{saturate, is_zero};
 ghost use Rattle.machine.specs.Engine.{frame_slots};
 ghost use Rattle.run_state.specs.Lists.{cells_in, put_cell};
 ghost use Rattle.run_state.specs.Shown.{value_place, HandlesThere, Naming};
 ghost use Rattle.operations.specs.Step.{refusal_number};
-ghost use Rattle.operations.specs.Operation.{Placed, Newest, on, Called, Started};
+ghost use Rattle.operations.specs.Operation.{Newest, on, Called, Started};
 
+pub use place::Place;
 use run_state::frames::{enter, put_value, value_of};
-use run_state::{Program, State};
+use run_state::{Loaded, State};
 use table::{Arguments, Statement};
 
 // Why an operation was stopped: TAKE finds its lock held, GIVE finds it not held by this thread, START finds 16 threads started.
@@ -20,37 +23,29 @@ pub enum Stop {
     Full = 18,
 }
 
-// Why a step did not run: its thread is not started or has ended, or the statement's operation was stopped.
+// Why a step was turned down: its thread is not started or has ended, or the statement's operation was stopped.
 #[derive(Clone, Copy)]
-pub enum Refusal {
+pub enum TurnedDown {
     NotStarted,
     Ended,
     Stopped { statement: Statement, why: Stop },
 }
 
-impl Refusal {
-    // The number of a refusal, 14 to 18.
+impl TurnedDown {
+    // Its number, 14 to 18.
     pub fn number(self) -> u8
         ensures { result ≡ refusal_number self }
     {
         match self {
-            Refusal::NotStarted => 14,
-            Refusal::Ended => 15,
-            Refusal::Stopped { statement: _, why } => why as u8,
+            TurnedDown::NotStarted => 14,
+            TurnedDown::Ended => 15,
+            TurnedDown::Stopped { statement: _, why } => why as u8,
         }
     }
 }
 
 // What a step is answered with: the statement that ran, or why none did.
-pub type Step = Result<Statement, Refusal>;
-
-// Where a thread stands: its number, the slot of its newest frame, and that frame's next statement.
-#[derive(Clone, Copy)]
-pub struct Place {
-    pub thread: usize,
-    pub slot: usize,
-    pub next: usize,
-}
+pub type Step = Result<Statement, TurnedDown>;
 
 // What an operation leaves: its frame goes to a statement, which the caller stores; with none its frame is closed; or it was stopped, and nothing has
 // changed.
@@ -58,7 +53,6 @@ pub type Move = Result<Option<usize>, Stop>;
 
 // The frame goes on to the next statement.
 fn going_on(at: Place) -> Move
-    requires { Placed at }
     ensures { result ≡ on at }
 {
     Ok(Some(at.next + 1))
@@ -66,7 +60,7 @@ fn going_on(at: Place) -> Move
 
 // READ: "accumulator becomes the cell's value".
 pub fn read(h: usize, at: Place, cells: usize, state: &mut State) -> Move
-    requires { Placed at × (cells ≤ 64) }
+    requires { cells ≤ 64 }
     ensures { (result ≡ on at) × (state.new ≡ record state.old { accumulators = set state.old.accumulators at.thread (get_or (cells_in cells state.old) (get_or state.old.values (value_place at.slot h) 0) (pos 0)) }) }
 {
     let x = value_of(&state.values, at.slot, h);
@@ -76,7 +70,7 @@ pub fn read(h: usize, at: Place, cells: usize, state: &mut State) -> Move
 
 // WRITE: "cell becomes the accumulator".
 pub fn write(h: usize, at: Place, cells: usize, state: &mut State) -> Move
-    requires { Placed at × (cells ≤ 64) }
+    requires { cells ≤ 64 }
     ensures { (result ≡ on at) × (state.new ≡ put_cell cells state.old (get_or state.old.values (value_place at.slot h) 0) (get_or state.old.accumulators at.thread (pos 0))) }
 {
     let x = value_of(&state.values, at.slot, h);
@@ -86,7 +80,6 @@ pub fn write(h: usize, at: Place, cells: usize, state: &mut State) -> Move
 
 // SET: "accumulator becomes it".
 pub fn set(number: i32, at: Place, state: &mut State) -> Move
-    requires { Placed at }
     ensures { (result ≡ on at) × (state.new ≡ record state.old { accumulators = set state.old.accumulators at.thread number }) }
 {
     state.accumulators[at.thread] = number;
@@ -95,7 +88,6 @@ pub fn set(number: i32, at: Place, state: &mut State) -> Move
 
 // ADD: "added", and "stops at 2,147,483,647 and at -2,147,483,648".
 pub fn add(number: i32, at: Place, state: &mut State) -> Move
-    requires { Placed at }
     ensures { (result ≡ on at) × (state.new ≡ record state.old { accumulators = set state.old.accumulators at.thread (saturate (get_or state.old.accumulators at.thread (pos 0) +ℤ number)) }) }
 {
     let sum = state.accumulators[at.thread].saturating_add(number);
@@ -105,7 +97,6 @@ pub fn add(number: i32, at: Place, state: &mut State) -> Move
 
 // POINT: "h refers to what g refers to".
 pub fn point(h: usize, g: usize, at: Place, state: &mut State) -> Move
-    requires { Placed at }
     ensures { (result ≡ on at) × (state.new ≡ record state.old { values = set state.old.values (value_place at.slot h) (get_or state.old.values (value_place at.slot g) 0) }) }
 {
     let v = value_of(&state.values, at.slot, g);
@@ -115,17 +106,17 @@ pub fn point(h: usize, g: usize, at: Place, state: &mut State) -> Move
 
 // CALL: "opens a frame". There is a slot for it: "32 frames always suffice".
 pub fn call(
-    program: &Program<'_>,
+    program: &Loaded<'_>,
     routine: usize,
     arguments: Arguments,
     at: Place,
     state: &mut State,
 ) -> Move
-    requires { Naming program.now routine × Placed at × Newest at (get_or state.old.counts at.thread 0) × (get_or state.old.counts at.thread 0 < frame_slots) × HandlesThere program.now.numbers.now }
+    requires { Naming program.now routine × Newest at (get_or state.old.counts at.thread 0) × (get_or state.old.counts at.thread 0 < frame_slots) × HandlesThere program.now.numbers.now }
     ensures { Called program.now routine arguments at result state.old state.new }
 {
     let slot = at.slot + 1;
-    // stored before the frame is entered, as in START: entered first, a step that POINTs took twice as long
+    // stored before the frame is entered, as in START: entered first, a step that POINTs took twice as long; `as`: see `State`
     state.nexts[slot] = program.first[routine] as u32;
     state.counts[at.thread] += 1;
     enter(
@@ -142,19 +133,20 @@ pub fn call(
 
 // START: "adds a thread"; it is stopped where 16 are started.
 pub fn start(
-    program: &Program<'_>,
+    program: &Loaded<'_>,
     routine: usize,
     arguments: Arguments,
     at: Place,
     state: &mut State,
 ) -> Move
-    requires { Naming program.now routine × Placed at × (at.slot < state.old.started * 32) × HandlesThere program.now.numbers.now }
+    requires { Naming program.now routine × (at.slot < state.old.started * 32) × HandlesThere program.now.numbers.now }
     ensures { Started program.now routine arguments at result state.old state.new }
 {
     let n = state.started;
     if 16 <= n {
         return Err(Stop::Full);
     }
+    // `as`: see `State`
     state.nexts[n * 32] = program.first[routine] as u32;
     state.counts[n] = 1;
     state.started = n + 1;
@@ -173,7 +165,6 @@ pub fn start(
 
 // JUMPZ: "goes there if the accumulator is zero, else on".
 pub fn jump_zero(s: usize, at: Place, state: &State) -> Move
-    requires { Placed at }
     ensures { result ≡ Ok (Some (cond (is_zero (get_or state.now.accumulators at.thread (pos 0))) s (at.next + 1))) }
 {
     if state.accumulators[at.thread] == 0 {
@@ -185,7 +176,7 @@ pub fn jump_zero(s: usize, at: Place, state: &State) -> Move
 
 // RETURN: "closes the frame"; as many stay open as are older.
 pub fn close(at: Place, state: &mut State) -> Move
-    requires { Placed at × Newest at (get_or state.old.counts at.thread 0) }
+    requires { Newest at (get_or state.old.counts at.thread 0) }
     ensures { (result ≡ Ok None) × (state.new ≡ record state.old { counts = set state.old.counts at.thread (get_or state.old.counts at.thread 0 - 1) }) }
 {
     state.counts[at.thread] -= 1;

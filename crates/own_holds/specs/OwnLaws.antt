@@ -149,5 +149,8 @@ module _ (f : List ℤ) where
 
 -- ---- room for edges: three a statement and one more
 
+pub also_fits : (f : List ℤ) → Accepted (table_of f) → 3 * statements f + 1 ≤ 1537
+also_fits f acc = omega (arith, acc.statements_most, statements_length f)
+
 pub edges_fit : (f : List ℤ) → Accepted (table_of f) → {n : ℕ} → 4 * statements f ≤ n → 3 * statements f + 1 ≤ n
 edges_fit f acc l = omega (arith, acc.statements_some, statements_length f)

@@ -1,7 +1,9 @@
 #![tactic(auto)]
 // What is held at each statement of a table, in the way of its access (C-18): for writing at a WRITE, in either way at any other statement. It comes from the
 // held sets of both modes, which are the same where nothing is taken for reading. `edges` lends the room for edges, four a statement.
-ghost use Rattle.std.specs.Prelude.{◌≡◌, true, false, ◌+◌, ◌*◌, ◌≤◌, length, replicate, take};
+// The room is lent from above, since there is no heap, and lent on in parts, so each function says how much it needs: of a struct
+// of program and room each contract would have to say too that they are the same lists.
+ghost use Rattle.std.specs.Prelude.{◌≡◌, true, false, ◌+◌, ◌*◌, ◌≤◌, length, take};
 ghost use Rattle.table.specs.Header.{statements};
 ghost use Rattle.table.specs.Table.{table_of};
 ghost use Rattle.report.specs.Layout.{one_each};
@@ -22,7 +24,7 @@ fn add_writing(
     edges: &mut [u32],
     work: &mut [u64],
 )
-    requires edges_room { 3 * statements program.now + 1 ≤ length edges.old }
+    requires edges_room { 4 * statements program.now ≤ length edges.old }
     requires work_room { statements program.now + ((bases_of program.now).every + 1) ≤ length work.old }
     ensures { take (statements program.now) work.new ≡ held_by program.now (held_sets (table_of program.now) (one_each (table_of program.now)) true flow.now given.now) work.old }
 {
@@ -47,7 +49,7 @@ fn either_holds(
     edges: &mut [u32],
     work: &mut [u64],
 )
-    requires edges_room { 3 * statements program.now + 1 ≤ length edges.old }
+    requires edges_room { 4 * statements program.now ≤ length edges.old }
     requires work_room { (bases_of program.now).every + 1 ≤ length work.old }
     ensures { take (statements program.now) work.new ≡ held_sets (table_of program.now) (one_each (table_of program.now)) false flow.now given.now }
 {
@@ -70,7 +72,7 @@ fn both_holds(
     edges: &mut [u32],
     work: &mut [u64],
 )
-    requires edges_room { 3 * statements program.now + 1 ≤ length edges.old }
+    requires edges_room { 4 * statements program.now ≤ length edges.old }
     requires work_room { statements program.now + ((bases_of program.now).every + 1) ≤ length work.old }
     ensures { take (statements program.now) work.new ≡ held_by program.now (held_sets (table_of program.now) (one_each (table_of program.now)) true flow.now given.now) (held_sets (table_of program.now) (one_each (table_of program.now)) false flow.now given.now) }
 {
@@ -80,15 +82,14 @@ fn both_holds(
     }
 }
 
-// Leaves in the first places of `work`, a list of empty sets, what is held at each statement of a table in the way of its access, from its flow sets.
+// Leaves in the first places of `work` what is held at each statement of a table in the way of its access, from its flow sets.
 pub fn own_holds(program: &Program<'_>, flow: &[u64], edges: &mut [u32], work: &mut [u64])
     requires flow_value { flow.now ≡ (sets_of (table_of program.now) (one_each (table_of program.now))).flow }
     requires numbers_in_bounds { 4 * statements program.now ≤ length edges.old }
-    requires work_value { work.old ≡ replicate (length work.old) 0 }
     requires numbers_in_bounds_2 { statements program.now + ((bases_of program.now).every + 1) ≤ length work.old }
     ensures { take (statements program.now) work.new ≡ own_holds (table_of program.now) (one_each (table_of program.now)) (sets_of (table_of program.now) (one_each (table_of program.now))) }
 {
-    let routines = table::field_of(program.numbers, 0, 4);
+    let routines = program.routines();
     let mut given = [0u64; 32];
     dataflow::given_sets(program, flow, edges, &mut given[..routines]);
     both_holds(program, flow, &given[..routines], edges, work);

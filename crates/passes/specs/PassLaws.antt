@@ -1,7 +1,7 @@
 -- The solver's steps: an edge, a pass over the edges in any order, and passes until nothing changes. Assumes nothing.
 use Rattle.std.proofs.Math.Path.{◌≡◌, refl, ap, subst}
 use Rattle.std.proofs.Common.{sym, ◌∙◌, inl, ⊎_elim, le_of_suc-le-suc, lt_of_lt_of_le, lt_of_le_of_lt, get_or-set_same, eqb-true}
-use Rattle.std.specs.Prelude.{Bool, ℕ, zero, suc, ◌+◌, ◌*◌, ◌^◌, ◌≤◌, ◌<◌, eqb, length}
+use Rattle.std.specs.Prelude.{Bool, ℕ, zero, suc, ◌+◌, ◌-◌, ◌^◌, ◌≤◌, ◌<◌, eqb, length}
 use Rattle.std.proofs.Math.Bool.{true, false}
 use mathlib.Core.List.{List, [], ◌∷◌}
 use Rattle.std.proofs.Math.Logic.{inr}
@@ -139,14 +139,17 @@ module _ (edges also : List ℕ) where
       above : (i : ℕ) → (i ≡ k → ⊥) → k ≤ i → k + 1 ≤ i
       above i d a = let l : k < i = lt_of_le-ne a (λ e. d (sym e)) in omega arith
 
-  -- two edges at once, i pairs being before them
-  pub passed_up_two : {s₀ s s' s'' : List ℕ} {b b' b'' : Bool} (i : ℕ) → 2 * i + 1 < length edges → Passed edges also s₀ s b 0 (2 * i)
-      → Put (edge_at edges also (2 * i)) s s' b b' → Put (edge_at edges also (2 * i + 1)) s' s'' b' b'' → Passed edges also s₀ s'' b'' 0 (2 * (i + 1))
-  passed_up_two i h p q r = passed_as refl (omega arith) (passed_up (2 * i + 1) h (passed_up (2 * i) (omega arith) p q) r)
+  -- two edges at once
+  pub passed_up_two : {s₀ s s' s'' : List ℕ} {b b' b'' : Bool} (k : ℕ) → k + 1 < length edges → Passed edges also s₀ s b 0 k
+      → Put (edge_at edges also k) s s' b b' → Put (edge_at edges also (k + 1)) s' s'' b' b'' → Passed edges also s₀ s'' b'' 0 (k + 2)
+  passed_up_two k h p q r = passed_as refl (omega arith) (passed_up (k + 1) h (passed_up k (omega arith) p q) r)
 
-  pub passed_down_two : {s₀ s s' s'' : List ℕ} {b b' b'' : Bool} (i : ℕ) {m : ℕ} → 2 * i + 1 < length edges → Passed edges also s₀ s b (2 * (i + 1)) m
-      → Put (edge_at edges also (2 * i + 1)) s s' b b' → Put (edge_at edges also (2 * i)) s' s'' b' b'' → Passed edges also s₀ s'' b'' (2 * i) m
-  passed_down_two i h p q r = passed_down (2 * i) (omega arith) (passed_down (2 * i + 1) h (passed_as (omega arith) refl p) q) r
+  pub passed_down_two : {s₀ s s' s'' : List ℕ} {b b' b'' : Bool} (k : ℕ) {m : ℕ} → 1 < k → k ≤ length edges → Passed edges also s₀ s b k m
+      → Put (edge_at edges also (k - 1)) s s' b b' → Put (edge_at edges also (k - 2)) s' s'' b' b'' → Passed edges also s₀ s'' b'' (k - 2) m
+  passed_down_two {s₀} {s} {s'} {s''} {b} {b'} {b''} k {m} z h p q r =
+      let e : k ≡ k - 1 + 1 = omega arith in
+      let e₂ : k - 1 ≡ k - 2 + 1 = omega arith in
+      passed_down (k - 2) (omega arith) (passed_as e₂ refl (passed_down (k - 1) (omega arith) (passed_as e refl p) q)) r
 
   -- ---- passes until nothing changes
 

@@ -2,7 +2,9 @@
 // Passes over the edges of a list of sets: an edge puts what is in both sets that it comes from into the set that it leads to. Its ends are one
 // number: 65,536 times the place that it comes from, and the place that it leads to. A second list has the place whose set is met; past its end an edge
 // is plain, and puts the whole set that it comes from.
-ghost use Rattle.std.specs.Prelude.{◌≡◌, ◌<◌, false, length};
+// Casts are by `as` where `From` has no way and `TryFrom` would answer with a `Result` that cannot fail.
+// Times below are of `bench/solver/run`; the bar is that no list of its tables takes longer than in the old form.
+ghost use Rattle.std.specs.Prelude.{◌≡◌, ◌<◌, false, length, get_or};
 ghost use Rattle.sets.specs.Least.{edge_of};
 ghost use Rattle.sets.specs.LeastLaws.{edge_at};
 ghost use Rattle.passes.specs.Pass.{Put, Passed};
@@ -43,6 +45,13 @@ pub fn to_of(edge: u32) -> usize
     (edge % 65536) as usize
 }
 
+// The place whose set edge `k` meets, which comes from `f`.
+pub fn also_of(also: &[u16], k: usize, f: usize) -> usize
+    ensures { result ≡ get_or also.now k f }
+{
+    also.get(k).map_or(f, |p| lists::wide(*p))
+}
+
 // The edges of a list of sets.
 #[derive(Clone, Copy)]
 pub struct Edges<'a> {
@@ -59,59 +68,27 @@ impl Edges<'_> {
     {
         self.ends.len()
     }
-
-    // Where edge `k` comes from.
-    #[tactic(auto, unfolding(sets::specs::LeastLaws::edge_at))]
-    pub fn from(self, k: usize) -> usize
-        requires { k < length self.ends.now }
-        ensures { result ≡ (edge_at self.entry.ends.now self.entry.also.now k).from }
-    {
-        from_of(self.ends[k])
-    }
-
-    // The place whose set edge `k` meets.
-    #[tactic(auto, unfolding(sets::specs::LeastLaws::edge_at))]
-    pub fn also(self, k: usize) -> usize
-        requires { k < length self.ends.now }
-        ensures { result ≡ (edge_at self.entry.ends.now self.entry.also.now k).also }
-    {
-        match self.also.get(k) {
-            Some(p) => lists::wide(*p),
-            None => self.from(k),
-        }
-    }
-
-    // Where edge `k` leads to.
-    #[tactic(auto, unfolding(sets::specs::LeastLaws::edge_at))]
-    pub fn to(self, k: usize) -> usize
-        requires { k < length self.ends.now }
-        ensures { result ≡ (edge_at self.entry.ends.now self.entry.also.now k).to }
-    {
-        to_of(self.ends[k])
-    }
 }
 
-// Marks place p, one bit in 16 words. Nothing is promised of marks: they only say where to look first.
+// Marks place p, one bit in 16 words of fixed memory. Nothing is promised of marks: they only say where to look first.
+// Sets and marks stay two parameters: of a struct of lent lists each contract would have to say too that they are the same lists.
 fn mark(marks: &mut [u64; 16], p: usize) {
     let i = p % 1024 / 64;
     marks[i] = sets::with_element(marks[i], p % 64);
 }
 
-// Goes along edge `k`: puts what is in both sets that it comes from into the set that it leads to. Marks that place if this changed anything, and returns
-// whether it did or something had changed before: with `|=` behind the call, 16,000 edges take 237 us in place of 212.
-pub fn put_edge(
+// Puts what is in the sets at f and at a into the set at t, marks t if that changed anything, and returns whether it did or something had changed
+// before: with `|=` behind the call, 16,000 edges take 237 us in place of 212.
+pub fn put_along(
     sets: &mut [u64],
     marks: &mut [u64; 16],
-    edges: Edges<'_>,
-    k: usize,
+    f: usize,
+    a: usize,
+    t: usize,
     changed: bool,
 ) -> bool
-    requires { k < length edges.ends.now }
-    ensures { Put (edge_at edges.entry.ends.now edges.entry.also.now k) sets.old sets.new changed result }
+    ensures { Put (record { from = f; also = a; to = t }) sets.old sets.new changed result }
 {
-    let f = edges.from(k);
-    let a = edges.also(k);
-    let t = edges.to(k);
     if t < sets.len() {
         let old = sets[t];
         if f < sets.len() && a < sets.len() {
@@ -124,6 +101,22 @@ pub fn put_edge(
         }
     }
     changed
+}
+
+// Goes along edge `k`, and returns as put_along does.
+pub fn put_edge(
+    sets: &mut [u64],
+    marks: &mut [u64; 16],
+    edges: Edges<'_>,
+    k: usize,
+    changed: bool,
+) -> bool
+    requires { k < length edges.ends.now }
+    ensures { Put (edge_at edges.entry.ends.now edges.entry.also.now k) sets.old sets.new changed result }
+{
+    let f = from_of(edges.ends[k]);
+    let t = to_of(edges.ends[k]);
+    put_along(sets, marks, f, also_of(edges.also, k, f), t, changed)
 }
 
 // Goes along every edge once, from the first to the last, and returns as `pass` does. A loop for each order, two edges a turn: with one for both, an edge
@@ -159,7 +152,8 @@ fn pass_down(sets: &mut [u64], marks: &mut [u64; 16], edges: Edges<'_>) -> bool
     changed
 }
 
-// Goes along every edge once, in the order, marks the places that changed, and returns whether any did.
+// Goes along every edge once, in the order, marks the places that changed, and returns whether any did. The order is a value that the solver turns round
+// from pass to pass, so it is matched, here alone.
 pub fn pass(sets: &mut [u64], marks: &mut [u64; 16], edges: Edges<'_>, order: Order) -> bool
     ensures { Passed edges.entry.ends.now edges.entry.also.now sets.old sets.new result 0 (length edges.entry.ends.now) }
 {

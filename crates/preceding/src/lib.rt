@@ -1,6 +1,9 @@
 #![tactic(auto)]
 // C-13: the routines that hold a START or reach one by CALLs, the statements that a START can precede, and the held sets with the others left out. `edges`
 // lends the room for the edges, four a statement; what stands in it before does not matter, and what is left in it says nothing.
+// The room is lent from above, since there is no heap, and lent on in parts, so each function says how much it needs: of a struct
+// of program and room each contract would have to say too that they are the same lists.
+// `reach_sets` and `preceded_sets` differ in the edges and the order, and each has an equation of its own.
 ghost use Rattle.std.specs.Prelude.{◌≡◌, cond, ◌||◌, ◌+◌, ◌-◌, ◌*◌, ◌≤◌, ◌<◌, length, get_or, take, drop};
 ghost use Rattle.table.specs.Header.{routines, statements};
 ghost use Rattle.table.specs.Table.{table_of};

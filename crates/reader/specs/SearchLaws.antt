@@ -1,7 +1,9 @@
 -- The search through the routines for the lowest bad statement, a routine at a time. Assumes nothing.
-use Rattle.std.specs.Prelude.{◌≡◌, List, ℕ, suc, ◌+◌, ◌-◌, ◌≤◌, ◌<◌, ℤ, get_or, Option, Some, None}
+use Rattle.std.specs.Prelude.{◌≡◌, refl, List, ℕ, suc, ◌+◌, ◌-◌, ◌≤◌, ◌<◌, ℤ, get_or, Option, Some, None}
 use Rattle.std.proofs.Common.{sym, ap, ap₂, ◌∙◌, arith, le_refl, lt-ltb, le-ltb, ltb-true, ltb-false}
 use Rattle.std.proofs.Math.Nat.{sub-zero}
+use Rattle.sets.specs.Set.{has}
+use Rattle.table.specs.Naming.{gather, is_named}
 use Rattle.table.specs.Until.{until}
 use Rattle.table.specs.Found.{below}
 use Rattle.table.proofs.FoundLaws.{below_is, below_not, below_some, below_none}
@@ -42,6 +44,15 @@ unfolding bad_statement
 searching_done f count r s h =
     let e : count ≡ r = omega (arith, s.few) in ap (first_statement f) e ∙ sym (ap (bad_statement f r) (none_left count r h)) ∙ s.whole
 
+-- what a search of one routine's statements by its two ends gives
+pub searched : (f : List ℤ) (r from end s : ℕ) → s ≡ until (statement_ok f r) from (end - from) → from ≡ first_statement f r → end ≡ first_statement f (r + 1) → s ≡ bad_in f r
+searched f r from end s e a b = e ∙ ap₂ (λ (p q : ℕ). until (statement_ok f r) p (q - p)) a b
+
+-- "is named" by the set of all that are named
+pub named_by_all : (names : List ℕ) (all n : ℕ) → all ≡ gather (λ (k : ℕ). get_or names k 0) 0 0 32 → until (has all) 1 n ≡ until (is_named names) 1 n
+unfolding is_named
+named_by_all names all n e = ap (λ (s : ℕ). until (has s) 1 n) e
+
 -- ---- what a turn finds, by the list of the first statements
 
 module _ {f : List ℤ} {first : List ℕ} (b : StatementsBegin f first) (count : ℕ) (n : count ≡ routines f) where
@@ -50,7 +61,7 @@ module _ {f : List ℤ} {first : List ℕ} (b : StatementsBegin f first) (count 
     end_is = q ∙ statements_begin b (r + 1) (omega arith)
 
     place_is : until (statement_ok f r) from (end - from) ≡ bad_in f r
-    place_is = ap₂ (λ (x y : ℕ). until (statement_ok f r) x (y - x)) (p ∙ statements_begin b r (omega arith)) end_is
+    place_is = searched f r from end _ refl (p ∙ statements_begin b r (omega arith)) end_is
 
     pub stopped_there : (i : ℕ) → Some i ≡ below (until (statement_ok f r) from (end - from)) end → Some i ≡ below (bad_statement f 0 (routines f)) (statements f)
     stopped_there i e =

@@ -3,7 +3,6 @@ ghost use Rattle.std.specs.Prelude.{◌≡◌, ◌-◌};
 ghost use Rattle.table.specs.Found.{below};
 ghost use Rattle.table.specs.Header.{routines, statements};
 ghost use Rattle.table.specs.HeaderLaws.{Sized};
-ghost use Rattle.table.specs.Lists.{StatementsBegin, HandlesBegin, ParametersCounted};
 ghost use Rattle.table.specs.Naming.{names_in, is_named, is_acyclic};
 ghost use Rattle.naming.specs.GatherLaws.{Ended};
 ghost use Rattle.table.specs.Until.{until};
@@ -12,6 +11,7 @@ ghost use Rattle.table.specs.Verdict.{naming_verdict, statement_verdict, declara
 
 use declarations::handles::bad_handle;
 use declarations::header::{bad_leading, header_ok, length_ok};
+use declarations::outline::{Extents, Outline};
 use declarations::routines::bad_routine;
 use lists::value_at;
 use naming::is_acyclic;
@@ -51,22 +51,15 @@ fn naming_verdict(numbers: &[i32], names: &[u64]) -> Result<(), Refusal>
 }
 
 // The lowest statement that breaks refusal 9's rule.
-fn bad_statement(
-    numbers: &[i32],
-    first: &[usize],
-    handle: &[usize],
-    counts: &[usize],
-) -> Option<usize>
-    requires statements_begin { StatementsBegin numbers.now first.now }
-    requires handles_begin { HandlesBegin numbers.now handle.now }
-    requires parameters_counted { ParametersCounted numbers.now counts.now }
-    ensures { result ≡ below (bad_statement numbers.now 0 (routines numbers.now)) (statements numbers.now) }
+fn bad_statement(outline: &Outline<'_>) -> Option<usize>
+    ensures { result ≡ below (bad_statement outline.now.numbers.now 0 (routines outline.now.numbers.now)) (statements outline.now.numbers.now) }
 {
-    let count = field_of(numbers, 0, 4);
+    let first = &outline.extents.first;
+    let count = field_of(outline.numbers, 0, 4);
     for r in 0..count {
         let from = value_at(first, r, 0);
         let end = value_at(first, r + 1, 0);
-        if let Some(s) = bad_among(numbers, first, handle, counts, r, from, end) {
+        if let Some(s) = bad_among(outline, r, from, end) {
             return Some(s);
         }
     }
@@ -74,44 +67,26 @@ fn bad_statement(
 }
 
 // The lowest routine that breaks refusal 10's rule.
-fn running_on(numbers: &[i32], first: &[usize]) -> Option<usize>
-    requires { StatementsBegin numbers.now first.now }
-    ensures { result ≡ below (until (end_ok numbers.now) 0 (routines numbers.now)) (routines numbers.now) }
+fn running_on(outline: &Outline<'_>) -> Option<usize>
+    ensures { result ≡ below (until (end_ok outline.now.numbers.now) 0 (routines outline.now.numbers.now)) (routines outline.now.numbers.now) }
 {
-    first_failing(0, field_of(numbers, 0, 4), |r| end_ok(numbers, first, r))
-}
-
-// Refusals 9 to 12, by the lists that the rules are tested with.
-fn statement_checks(
-    numbers: &[i32],
-    first: &[usize],
-    handle: &[usize],
-    counts: &[usize],
-) -> Result<(), Refusal>
-    requires statements_begin { StatementsBegin numbers.now first.now }
-    requires handles_begin { HandlesBegin numbers.now handle.now }
-    requires parameters_counted { ParametersCounted numbers.now counts.now }
-    ensures { result ≡ statement_verdict numbers.now }
-{
-    if let Some(s) = bad_statement(numbers, first, handle, counts) {
-        return Err(Refusal::StatementLine(first_line(numbers) + s));
-    }
-    if let Some(r) = running_on(numbers, first) {
-        let last = statements::last_of(first, r);
-        return Err(Refusal::RoutineEnd(first_line(numbers) + last));
-    }
-    let names = naming::names_in(numbers, first);
-    naming_verdict(numbers, &names[..])
+    first_failing(0, field_of(outline.numbers, 0, 4), |r| end_ok(outline, r))
 }
 
 // Refusals 9 to 12.
-fn statement_verdict(numbers: &[i32], first: &[usize]) -> Result<(), Refusal>
-    requires { StatementsBegin numbers.now first.now }
-    ensures { result ≡ statement_verdict numbers.now }
+fn statement_verdict(outline: &Outline<'_>) -> Result<(), Refusal>
+    ensures { result ≡ statement_verdict outline.now.numbers.now }
 {
-    let handle = declarations::first_handles(numbers);
-    let counts = declarations::parameter_counts(numbers, &handle[..]);
-    statement_checks(numbers, first, &handle[..], &counts[..])
+    let numbers = outline.numbers;
+    if let Some(s) = bad_statement(outline) {
+        return Err(Refusal::StatementLine(first_line(numbers) + s));
+    }
+    if let Some(r) = running_on(outline) {
+        let last = statements::last_of(&outline.extents.first, r);
+        return Err(Refusal::RoutineEnd(first_line(numbers) + last));
+    }
+    let names = naming::names_in(outline);
+    naming_verdict(numbers, &names[..])
 }
 
 // Refusals 6 to 12.
@@ -125,11 +100,11 @@ fn declaration_verdict(numbers: &[i32]) -> Result<(), Refusal>
     if let Some(r) = bad_routine(numbers) {
         return Err(Refusal::RoutineLine(1 + field_of(numbers, 0, 3) + r));
     }
-    let first = declarations::first_statements(numbers);
-    if !declarations::sum_ok(numbers, &first[..]) {
+    let extents = Extents::of(numbers);
+    if !declarations::sum_ok(numbers, &extents.first) {
         return Err(Refusal::Sum);
     }
-    statement_verdict(numbers, &first[..])
+    statement_verdict(&Outline { numbers, extents })
 }
 
 // Refusals 3 to 12, for a text of so many lines.

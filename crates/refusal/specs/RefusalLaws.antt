@@ -7,7 +7,7 @@ use mathlib.Core.List.{List, [], ◌∷◌, map}
 use native.Mathlib.Omega.{arith}
 use Rattle.std.proofs.Math.Dec.{leb}
 use Rattle.std.proofs.Math.IntN.{pos}
-use borrow.Author.Tests.{lt-ltb, le-ltb, le-leb, ltb-true, ltb-false, leb-true}
+use borrow.Author.Tests.{lt-ltb, le-ltb, le-leb, lt-leb, ltb-true, ltb-false, leb-true}
 use Rattle.lines.specs.Line.{all_in_field}
 use Rattle.lines.proofs.LineLaws.{all_none, all_good, all_bad, line_text_length}
 use Rattle.line_printer.specs.Print.{print_answer, printed_at}
@@ -47,6 +47,15 @@ module _ (number line : ℕ) where
       go : (b : Bool) → cond (b && false && leb 49 room) (refusal_text number line) [] ≡ []
       go true = refl
       go false = refl
+
+  pub no_room : (room : ℕ) → room < 49 → refusal_in number line room ≡ []
+  unfolding refusal_in
+  no_room room h = rw (lt-leb 49 room h) (go (ltb number 1000000) (ltb line 1000000))
+    where
+      go : (b c : Bool) → cond (b && c && false) (refusal_text number line) [] ≡ []
+      go true true = refl
+      go true false = refl
+      go false c = refl
 
   -- its numbers are in the range of a field where the number and the line are
   fields_are : all_in_field (map pos (refusal_line number line)) ≡ (ltb number 1000000 && ltb line 1000000)

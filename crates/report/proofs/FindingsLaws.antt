@@ -8,7 +8,7 @@ use Rattle.std.proofs.Math.Logic.{inl, inr}
 use mathlib.Core.List.{Memᴰ}
 use Rattle.std.specs.Int.Count.{count_trailing_zeros}
 use Rattle.std.proofs.Math.ListN.{get_or}
-use Rattle.std.proofs.lemmas.Bool.{not-false}
+use Rattle.std.proofs.lemmas.Bool.{not-false, and_parts, or_cases, and_from, or_left, or_right}
 use Rattle.sets.specs.Set.{has, subset, is_empty, is_single, count}
 use Rattle.sets.proofs.SetLaws.{has_beyond, below_of_has, firsts_below, subset_has, has_subset, single_is_one, has_one, lowest_some, lowest_is}
 use Rattle.table.specs.Table.{Table, statement}
@@ -17,7 +17,7 @@ use Rattle.table.proofs.ViewLaws.{nothing_to, write_alone, test_is}
 use Rattle.table.specs.Accepted.{Accepted}
 use Rattle.table.specs.declared.Statement.{Statement}
 use Rattle.report.specs.Over.{union_at}
-use Rattle.report.proofs.OverLaws.{never, none_in, both_true, true_both, either, either_left, either_right, not_has, inter_at, inter_inside, inter_has, union_at_has, union_at_from, below_within, within_below}
+use Rattle.report.proofs.OverLaws.{never, none_in, not_has, inter_at, inter_inside, inter_has, union_at_has, union_at_from, below_within, within_below}
 use Rattle.report.specs.Layout.{Layout}
 use Rattle.report.specs.Fits.{Fits, StatementPlaced, copies_of}
 use Rattle.report.specs.Operations.{accessed, reading, writing}
@@ -83,13 +83,13 @@ module _ (t : Table) (k : Layout) (acc : Accepted t) (fits : Fits t k) where
     where
       go : (w : Bool) → has (accessed w (flow_at k the_sets.flow c) (statement t s)) x ≡ true
           → (has (accessed reading (flow_at k the_sets.flow c) (statement t s)) x || has (accessed writing (flow_at k the_sets.flow c) (statement t s)) x) ≡ true
-      go true h = either_right (has (accessed reading (flow_at k the_sets.flow c) (statement t s)) x) h
-      go false h = either_left (has (accessed writing (flow_at k the_sets.flow c) (statement t s)) x) h
+      go true h = or_right (has (accessed reading (flow_at k the_sets.flow c) (statement t s)) x) _ h
+      go false h = or_left _ (has (accessed writing (flow_at k the_sets.flow c) (statement t s)) x) h
 
   touch_accesses : (p x : ℕ) → touches_at t k the_sets x p ≡ true
       → (w : Bool) × Accesses (copies_of fits) (families t k).flow (k.statement_copy p) (statement t (k.statement_at p)) w x
   unfolding touches_at own_access
-  touch_accesses p x h = go (either _ _ h)
+  touch_accesses p x h = go (or_cases _ _ h)
     where
       go : (has (own_access t k the_sets reading p) x ≡ true) ⊎ (has (own_access t k the_sets writing p) x ≡ true)
           → (w : Bool) × Accesses (copies_of fits) (families t k).flow (k.statement_copy p) (statement t (k.statement_at p)) w x
@@ -118,7 +118,7 @@ module _ (t : Table) (k : Layout) (acc : Accepted t) (fits : Fits t k) where
     where
       go : (p : ℕ) → p < k.statements → (b : Bool) → counted_at t k the_sets x p ≡ b → has (cond b (own_held t k the_sets p) (all_locks t)) l ≡ true
       go p m true e =
-          let b = both_true (touches_at t k the_sets x p) (is_preceded k the_sets.preceded p) e in
+          let b = and_parts (touches_at t k the_sets x p) (is_preceded k the_sets.preceded p) e in
           let r = touch_accesses p x b.0 in
           let back : k.statement_place (k.statement_copy p) (k.statement_at p) ≡ p = (fits.statement_there p m).back in
           ap (λ (y : ℕ). has y l) (held_by_way p r.0 x r.1)
@@ -133,7 +133,7 @@ module _ (t : Table) (k : Layout) (acc : Accepted t) (fits : Fits t k) where
     inter_inside (all_locks t) 0 k.statements _ l h,
     λ c s w v a g.
         ap (λ (y : ℕ). has y l) (sym (held_by_way (k.statement_place c s) w x (here c s w v a)))
-        ∙ ap (λ (b : Bool). has (cond b (own_held t k the_sets (k.statement_place c s)) (all_locks t)) l) (sym (true_both (accesses_touch c s w x v a) g))
+        ∙ ap (λ (b : Bool). has (cond b (own_held t k the_sets (k.statement_place c s)) (all_locks t)) l) (sym (and_from _ _ (accesses_touch c s w x v a) g))
         ∙ inter_at (all_locks t) 0 k.statements _ (k.statement_place c s) l (below_within (placed t k fits c s v).there) h,
   )
     where
@@ -153,14 +153,14 @@ module _ (t : Table) (k : Layout) (acc : Accepted t) (fits : Fits t k) where
       → (families t k).shared x × ((l : ℕ) → has (all_locks t) l ≡ true → Common (copies_of fits) (families t k).flow (families t k).held (families t k).preceded x l → ⊥)
   unfolding is_unguarded
   unguarded_is x h =
-      let b = both_true (has (shared_cells t k the_sets) x) (is_empty (common_locks t k the_sets x)) h in
+      let b = and_parts (has (shared_cells t k the_sets) x) (is_empty (common_locks t k the_sets x)) h in
       (b.0, λ l a c. empty_has (common_locks t k the_sets x) l b.1 (common_has x l a c))
 
   pub unguarded_if : (x : ℕ) → (families t k).shared x
       → ((l : ℕ) → has (all_locks t) l ≡ true → Common (copies_of fits) (families t k).flow (families t k).held (families t k).preceded x l → ⊥)
       → is_unguarded (shared_cells t k the_sets) (common_locks t k the_sets x) x ≡ true
   unfolding is_unguarded
-  unguarded_if x s n = true_both s (go (is_empty (common_locks t k the_sets x)) refl)
+  unguarded_if x s n = and_from _ _ s (go (is_empty (common_locks t k the_sets x)) refl)
     where
       go : (b : Bool) → is_empty (common_locks t k the_sets x) ≡ b → is_empty (common_locks t k the_sets x) ≡ true
       go true e = e
@@ -177,7 +177,7 @@ module _ (t : Table) (k : Layout) (acc : Accepted t) (fits : Fits t k) where
     where
       go : (b : Bool) → is_empty (common_locks t k the_sets x) ≡ b
           → ((families t k).shared x → ⊥) ⊎ ((l : ℕ) × Common (copies_of fits) (families t k).flow (families t k).held (families t k).preceded x l)
-      go true e = inl (λ s. never (sym (true_both s e) ∙ h))
+      go true e = inl (λ s. never (sym (and_from _ _ s e) ∙ h))
       go false e =
           let r = some_element (common_locks t k the_sets x) (common_below x) e in
           inr (r.0, (common_from x r.0 r.1).1)
@@ -185,7 +185,7 @@ module _ (t : Table) (k : Layout) (acc : Accepted t) (fits : Fits t k) where
   -- ---- stray: exactly the GIVEs that are not sound
 
   not_both : (a b : Bool) → not (a && b) ≡ false → (a ≡ true) × (b ≡ true)
-  not_both a b h = both_true a b (not-false (a && b) h)
+  not_both a b h = and_parts a b (not-false (a && b) h)
 
   -- the test of a GIVE through handle h, where `locks` are held
   abbrev stray_through : ℕ → ℕ → ℕ → Bool

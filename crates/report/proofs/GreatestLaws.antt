@@ -1,4 +1,5 @@
 -- The greatest sets: each is inside what every way into its place brings, and every family that is so is inside them. Assumes nothing.
+use Rattle.std.proofs.lemmas.Bool.{and_parts, and_from}
 use Prim.Native.Nat.{ℕ, ◌^◌, ◌<◌}
 use Rattle.std.specs.Prelude.{◌≡◌, Bool, false, not, ◌&&◌, length, get_or, replicate}
 use Rattle.std.proofs.Math.Path.{refl, ap, subst}
@@ -13,7 +14,7 @@ use Rattle.sets.proofs.Rules.{put_length, put_cases, still_put, put_steady, same
 use Rattle.sets.proofs.Settled.{settled_sets, settled_closed, settled_induction}
 use Rattle.table.proofs.TabulateLaws.{get_d_tabulate, zeros_at}
 use Rattle.report.specs.Greatest.{Way, leaving, narrow, narrow_all, left_out, greatest}
-use Rattle.report.proofs.OverLaws.{never, none_in, both_true, true_both, tabulate_from_lem}
+use Rattle.report.proofs.OverLaws.{never, none_in, tabulate_from_lem}
 
 -- a way brings no less out of more
 pub record Monotone (w : Way) : Type 0 where
@@ -26,11 +27,11 @@ minus_has all s x a d = has_minus all s x ∙ go (has s x) refl
   where
     go : (b : Bool) → has s x ≡ b → (has all x && not b) ≡ true
     go true e = absurd (d e)
-    go false e = true_both a refl
+    go false e = and_from _ _ a refl
 
 pub minus_from : (all s x : ℕ) → has (minus all s) x ≡ true → (has all x ≡ true) × (has s x ≡ true → ⊥)
 minus_from all s x h =
-    let b : (has all x ≡ true) × (not (has s x) ≡ true) = both_true (has all x) (not (has s x)) (sym (has_minus all s x) ∙ h) in
+    let b : (has all x ≡ true) × (not (has s x) ≡ true) = and_parts (has all x) (not (has s x)) (sym (has_minus all s x) ∙ h) in
     (b.0, λ e. never (sym b.1 ∙ ap not e))
 
 module _ (all : ℕ) (small : all < 2 ^ 64) where

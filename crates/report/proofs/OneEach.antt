@@ -5,7 +5,7 @@ use Rattle.std.proofs.Common.{sym, ap, ◌∙◌, arith, leb-true, ltb-true, le-
 use mathlib.Core.List.Memᴰ
 use mathlib.Core.List.{[], ◌∷◌, Memᴰ}
 use Rattle.std.proofs.Math.ListN.{length}
-use Rattle.std.proofs.lemmas.Bool.{not-false}
+use Rattle.std.proofs.lemmas.Bool.{not-false, and_parts, and_from}
 use Rattle.table.specs.Table.{Table, routine, statement, InRoutine}
 use Rattle.table.specs.View.{view}
 use Rattle.table.proofs.ViewLaws.{set_is}
@@ -14,7 +14,7 @@ use Rattle.table.proofs.TabulateLaws.{get_d_tabulate}
 use Rattle.table.specs.Until.{until}
 use Rattle.table.proofs.UntilLaws.{until_step}
 use Rattle.table.specs.declared.Statement.{Statement}
-use Rattle.report.proofs.OverLaws.{never, both_true, true_both}
+use Rattle.report.proofs.OverLaws.{never}
 use Rattle.report.specs.Layout.{named, is_in, owner_of, one_each}
 use Rattle.report.specs.Fits.{Fits}
 
@@ -45,13 +45,13 @@ until_finds good from (suc n) i l h e =
 
 in_true : (t : Table) (r s : ℕ) → InRoutine t r s → is_in t s r ≡ true
 unfolding is_in
-in_true t r s i = true_both (le-leb _ _ i.low) (lt-ltb _ _ i.high)
+in_true t r s i = and_from _ _ (le-leb _ _ i.low) (lt-ltb _ _ i.high)
 
 true_in : (t : Table) (r s : ℕ) → is_in t s r ≡ true → InRoutine t r s
 unfolding is_in
 true_in t r s e =
     let b : (leb (routine t r).first s ≡ true) × (ltb s ((routine t r).first + (routine t r).count) ≡ true) =
-    both_true (leb (routine t r).first s) (ltb s ((routine t r).first + (routine t r).count)) e in
+    and_parts (leb (routine t r).first s) (ltb s ((routine t r).first + (routine t r).count)) e in
     record { low = leb-true _ _ b.0; high = ltb-true _ _ b.1 }
 
 -- the owner that is found is the routine of the statement

@@ -1,12 +1,12 @@
 -- What lists, sets and counts over a range of numbers have in them. Assumes nothing.
 use Prim.Native.Nat.{ℕ, zero, suc, ◌+◌, ◌^◌, ◌≤◌, ◌<◌}
-use Rattle.std.specs.Prelude.{◌≡◌, refl, Bool, true, false, ◌&&◌, ◌||◌, ◌⊎◌, eqb, ltb, length, get_or}
+use Rattle.std.specs.Prelude.{◌≡◌, refl, Bool, true, false, ◌⊎◌, eqb, ltb, length, get_or}
 use Rattle.std.proofs.Math.Path.{sym, ap, ap₂}
 use Rattle.std.proofs.Common.{◌∙◌, subst, inl, inr, add-zero, zero-add, suc-add, le_refl, add-one, eqb-true, ltb-true, ltb-false}
 use mathlib.Core.List.{List, [], ◌∷◌, ◌++◌, Memᴰ, append-nil, append_assoc}
 use native.Mathlib.Omega.{arith}
 use Rattle.std.proofs.Math.ListN.{get_or-eq_default}
-use Rattle.std.proofs.lemmas.Bool.{eqb-false}
+use Rattle.std.proofs.lemmas.Bool.{eqb-false, and_parts, and_from}
 use Rattle.sets.specs.Set.{has}
 use Rattle.sets.proofs.SetLaws.{has_union_left, has_union_right, union_cases, union_below, has_inter, has_empty}
 use Rattle.sets.specs.Least.{SetList}
@@ -18,25 +18,6 @@ use Rattle.report.specs.Over.{joined_from, union_from, inter_from, union_at}
 
 pub never {ℓ} : {C : Type ℓ} → true ≡ false → C
 never e = let z : ◌≡◌ {A = ℕ} 0 1 = cc in absurd (omega arith)
-
-pub both_true : (a b : Bool) → (a && b) ≡ true → (a ≡ true) × (b ≡ true)
-both_true true true h = (refl, refl)
-both_true true false h = (refl, h)
-both_true false b h = (h, never (sym h))
-
-pub true_both : {a b : Bool} → a ≡ true → b ≡ true → (a && b) ≡ true
-true_both p q = rw (p, q)
-
-pub either : (a b : Bool) → (a || b) ≡ true → (a ≡ true) ⊎ (b ≡ true)
-either true b h = inl refl
-either false b h = inr h
-
-pub either_left : {a : Bool} (b : Bool) → a ≡ true → (a || b) ≡ true
-either_left b e = rw e
-
-pub either_right : (a : Bool) {b : Bool} → b ≡ true → (a || b) ≡ true
-either_right true e = refl
-either_right false e = e
 
 pub not_has : (s x : ℕ) → (has s x ≡ true → ⊥) → has s x ≡ false
 not_has s x d = go (has s x) refl
@@ -182,7 +163,7 @@ unfolding inter_from
 inter_at all from zero f i x w h = nothing_within w
 inter_at all from (suc n) f i x w h =
     let b : (has (f from) x ≡ true) × (has (inter_from all (from + 1) n f) x ≡ true) =
-    both_true (has (f from) x) (has (inter_from all (from + 1) n f) x) (sym (has_inter (f from) (inter_from all (from + 1) n f) x) ∙ h) in
+    and_parts (has (f from) x) (has (inter_from all (from + 1) n f) x) (sym (has_inter (f from) (inter_from all (from + 1) n f) x) ∙ h) in
     let ih : Within (from + 1) n i → has (f i) x ≡ true = λ v. inter_at all (from + 1) n f i x v b.1 in
     first_or w (λ e. subst (λ (j : ℕ). has (f j) x ≡ true) (sym e) b.0) ih
 
@@ -191,14 +172,14 @@ unfolding inter_from
 inter_inside all from zero f x h = h
 inter_inside all from (suc n) f x h =
     inter_inside all (from + 1) n f x
-    (both_true (has (f from) x) (has (inter_from all (from + 1) n f) x) (sym (has_inter (f from) (inter_from all (from + 1) n f) x) ∙ h)).1
+    (and_parts (has (f from) x) (has (inter_from all (from + 1) n f) x) (sym (has_inter (f from) (inter_from all (from + 1) n f) x) ∙ h)).1
 
 pub inter_has : (all from n : ℕ) (f : ℕ → ℕ) (x : ℕ) → has all x ≡ true → ((i : ℕ) → Within from n i → has (f i) x ≡ true)
     → has (inter_from all from n f) x ≡ true
 unfolding inter_from
 inter_has all from zero f x a h = a
 inter_has all from (suc n) f x a h =
-    has_inter (f from) (inter_from all (from + 1) n f) x ∙ true_both (h from here) (inter_has all (from + 1) n f x a (λ i w. h i (later w)))
+    has_inter (f from) (inter_from all (from + 1) n f) x ∙ and_from _ _ (h from here) (inter_has all (from + 1) n f x a (λ i w. h i (later w)))
 
 pub union_at_has : (ps : List ℕ) (f : ℕ → ℕ) (p x : ℕ) → Memᴰ p ps → has (f p) x ≡ true → has (union_at ps f) x ≡ true
 unfolding union_at

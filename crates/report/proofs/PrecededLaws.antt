@@ -1,5 +1,6 @@
 -- The copies that reach a START, and the statements that a START can precede, satisfy their rules, and are inside any that do; and these are document 02's
 -- sentence. Assumes nothing.
+use Rattle.std.proofs.lemmas.Bool.{or_cases, or_left, or_right}
 use Prim.Native.Nat.{ℕ, ◌+◌, ◌^◌, ◌<◌}
 use Rattle.std.specs.Prelude.{◌≡◌, Bool, cond, ◌⊎◌, ◌↔◌, get_or, Option, Some, None}
 use Rattle.std.proofs.Math.Path.{refl, subst}
@@ -19,7 +20,7 @@ use Rattle.table.specs.View.{view, On, test_on, list_on, calls, starts}
 use Rattle.table.proofs.ViewLaws.{list_has, list_from, test_is, calls_names}
 use Rattle.table.specs.Accepted.{Accepted}
 use Rattle.table.specs.declared.Statement.{Statement}
-use Rattle.report.proofs.OverLaws.{never, none_in, either, either_left, either_right, tabulate_sets, tabulate_has, tabulate_from_lem}
+use Rattle.report.proofs.OverLaws.{never, none_in, tabulate_sets, tabulate_has, tabulate_from_lem}
 use Rattle.report.specs.Layout.{Layout}
 use Rattle.report.specs.Fits.{Fits, copies_of}
 use Rattle.report.specs.Operations.{nexts}
@@ -151,15 +152,15 @@ module _ (t : Table) (k : Layout) (acc : Accepted t) (fits : Fits t k) (reach : 
 
   brings_is : (c s : ℕ) (σ : Statement) → Brings (copies_of fits) (Reaches reach) c s σ → brings_start k reach c s σ ≡ true
   unfolding brings_start
-  brings_is c s σ (inl (q, e, u)) = either_left (test_on (calls (view σ)) (λ r. is_marked reach (k.leads c s))) (test_is (starts (view σ)) (λ r. true) e)
-  brings_is c s σ (inr (q, e, h)) = either_right (test_on (starts (view σ)) (λ r. true)) (test_is (calls (view σ)) (λ r. is_marked reach (k.leads c s)) e ∙ h)
+  brings_is c s σ (inl (q, e, u)) = or_left _ (test_on (calls (view σ)) (λ r. is_marked reach (k.leads c s))) (test_is (starts (view σ)) (λ r. true) e)
+  brings_is c s σ (inr (q, e, h)) = or_right (test_on (starts (view σ)) (λ r. true)) _ (test_is (calls (view σ)) (λ r. is_marked reach (k.leads c s)) e ∙ h)
 
   is_brings : (c s : ℕ) (σ : Statement) → brings_start k reach c s σ ≡ true → Brings (copies_of fits) (Reaches reach) c s σ
   unfolding brings_start
   is_brings c s σ h =
       ⊎_elim (λ a. inl (let o = test_from (starts (view σ)) (λ r. true) a in (o.0, o.1, tt)))
       (λ b. inr (test_from (calls (view σ)) (λ r. is_marked reach (k.leads c s)) b))
-      (either (test_on (starts (view σ)) (λ r. true)) (test_on (calls (view σ)) (λ r. is_marked reach (k.leads c s))) h)
+      (or_cases (test_on (starts (view σ)) (λ r. true)) (test_on (calls (view σ)) (λ r. is_marked reach (k.leads c s))) h)
 
   -- ---- the edges of a statement, in three parts
 
@@ -194,19 +195,19 @@ module _ (t : Table) (k : Layout) (acc : Accepted t) (fits : Fits t k) (reach : 
 
   of_own : (c s : ℕ) → is_marked sets (k.statement_place c s) ≡ true → Preceded k sets c s
   unfolding is_preceded
-  of_own c s h = either_left (is_marked sets (entered k (k.statement_copy (k.statement_place c s)))) h
+  of_own c s h = or_left _ (is_marked sets (entered k (k.statement_copy (k.statement_place c s)))) h
 
   of_entered : (c s : ℕ) → Place (copies_of fits) c s → is_marked sets (entered k c) ≡ true → Preceded k sets c s
   unfolding is_preceded
   of_entered c s v h =
-      either_right (is_marked sets (k.statement_place c s)) (ap (λ (d : ℕ). is_marked sets (entered k d)) (placed t k fits c s v).copy ∙ h)
+      or_right (is_marked sets (k.statement_place c s)) _ (ap (λ (d : ℕ). is_marked sets (entered k d)) (placed t k fits c s v).copy ∙ h)
 
   own_or_entered : (c s : ℕ) → Place (copies_of fits) c s → Preceded k sets c s
       → (is_marked sets (k.statement_place c s) ≡ true) ⊎ (is_marked sets (entered k c) ≡ true)
   unfolding is_preceded
   own_or_entered c s v h =
       ⊎_elim (λ a. inl a) (λ b. inr (ap (λ (d : ℕ). is_marked sets (entered k d)) (sym (placed t k fits c s v).copy) ∙ b))
-      (either (is_marked sets (k.statement_place c s)) (is_marked sets (entered k (k.statement_copy (k.statement_place c s)))) h)
+      (or_cases (is_marked sets (k.statement_place c s)) (is_marked sets (entered k (k.statement_copy (k.statement_place c s)))) h)
 
   -- ---- the rules
 

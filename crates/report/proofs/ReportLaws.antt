@@ -1,5 +1,6 @@
 -- The lines of the report: the totals of line 59 are the counts of unguarded cells and of stray GIVEs, and where both are 0 the report is clean.
 -- Assumes nothing.
+use Rattle.std.proofs.lemmas.List.{map-append}
 use Prim.Native.Nat.{ℕ, zero, suc, ◌+◌}
 use Rattle.std.specs.Prelude.{◌≡◌, Bool, List, [], ◌∷◌, ◌++◌, map, ℤ, pos, length, get_or}
 use Rattle.std.proofs.Math.Path.{refl, ap}
@@ -144,15 +145,11 @@ last_of_lem [] l = refl
 last_of_lem (a ∷ []) l = refl
 last_of_lem (a ∷ b ∷ ls) l = last_of_lem (b ∷ ls) l
 
-map_append : (f : List ℕ → List ℤ) (a b : List (List ℕ)) → map f (a ++ b) ≡ map f a ++ map f b
-map_append f [] b = refl
-map_append f (x ∷ a) b = ap {B = List (List ℤ)} (λ r. f x ∷ r) (map_append f a b)
-
 -- the last line is line 59 with the two totals
 pub last_line_lem : (t : Table) → last_line (report_lines t) ≡ map pos (total_line (finding_lines t (one_each t)))
 unfolding report_lines lines_for
 last_line_lem t =
-    ap last_line (map_append (map pos) (finding_lines t (one_each t)) (total_line (finding_lines t (one_each t)) ∷ []))
+    ap last_line (map-append (map pos) (finding_lines t (one_each t)) (total_line (finding_lines t (one_each t)) ∷ []))
     ∙ last_of_lem (map (map pos) (finding_lines t (one_each t))) (map pos (total_line (finding_lines t (one_each t))))
 
 pub unguarded_total_lem : (t : Table) → unguarded_total t ≡ pos (count_from 0 t.cells (unguarded_cell t (one_each t)))

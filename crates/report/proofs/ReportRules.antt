@@ -1,5 +1,6 @@
 -- The sets of a table that is accepted satisfy all rules of the report, and what the report says of a cell and of a GIVE is what the rules say.
 -- Assumes nothing.
+use Rattle.std.proofs.lemmas.Bool.{and_parts, and_from}
 use Prim.Native.Nat.{ℕ, ◌^◌, ◌<◌}
 use Rattle.std.specs.Prelude.{◌≡◌, Bool, cond, ◌⊎◌, Some}
 use Rattle.std.proofs.Math.Path.{refl, subst, fun_ext}
@@ -14,7 +15,7 @@ use Rattle.table.specs.Table.{Table, statement}
 use Rattle.table.specs.View.{view, On, set_on, starts}
 use Rattle.table.proofs.ViewLaws.{set_has, set_from}
 use Rattle.table.specs.Accepted.{Accepted}
-use Rattle.report.proofs.OverLaws.{both_true, true_both, union_has, union_from_lem, below_within, within_below}
+use Rattle.report.proofs.OverLaws.{union_has, union_from_lem, below_within, within_below}
 use Rattle.report.specs.Layout.{Layout}
 use Rattle.report.specs.Fits.{Fits, copies_of}
 use Rattle.report.specs.Flow.{flow_sets}
@@ -57,10 +58,10 @@ families t k = record {
 -- ---- shared
 
 both_in : (a b x : ℕ) → has (inter a b) x ≡ true → (has a x ≡ true) × (has b x ≡ true)
-both_in a b x h = both_true (has a x) (has b x) (sym (has_inter a b x) ∙ h)
+both_in a b x h = and_parts (has a x) (has b x) (sym (has_inter a b x) ∙ h)
 
 in_both : (a b x : ℕ) → has a x ≡ true → has b x ≡ true → has (inter a b) x ≡ true
-in_both a b x p q = has_inter a b x ∙ true_both p q
+in_both a b x p q = has_inter a b x ∙ and_from _ _ p q
 
 -- sets of reads (false) and writes (true)
 module _ (one : Bool → ℕ) (x : ℕ) where

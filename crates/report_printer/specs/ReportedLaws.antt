@@ -120,6 +120,28 @@ module _ (f : List ℤ) {flow held : List ℕ} {shared : ℕ} {noted : Noted} (i
         room = subst (λ (x : List ℕ). length x ≤ length out) (sym report_is) h;
       }
 
+-- what the counts say: `n` cells, so many of them unguarded, and so many stray GIVEs
+pub record Counted (f : List ℤ) (flow held : List ℕ) (shared : ℕ) (noted : Noted) (n unguarded strays : ℕ) : Type 0 where
+  pub count : n ≡ cells f
+  pub clean : (eqb unguarded 0 && eqb strays 0) ≡ counts_nothing (table_of f)
+  pub bytes : 49 * (n + strays + 1) ≡ length (report_text (table_of f))
+  pub report : report_by f flow held shared noted unguarded strays ≡ report_text (table_of f)
+  pub room : {out : List ℕ} → 49 * (n + strays + 1) ≤ length out → RoomForAll f flow held shared noted unguarded strays out
+
+pub counted : {f : List ℤ} {flow held : List ℕ} {shared : ℕ} {noted : Noted} → Found f flow held shared noted → {n unguarded strays : ℕ} → n ≡ cells f
+    → unguarded ≡ count_from 0 n (unguarded_in shared noted.common) → strays ≡ count_from 0 (statements f) (stray_in f flow held) → Accepted (table_of f)
+    → Counted f flow held shared noted n unguarded strays
+counted {f} {shared = shared} {noted} is {n} {unguarded} {strays} e u z acc =
+    let v : unguarded ≡ count_from 0 (cells f) (unguarded_in shared noted.common) = u ∙ ap (λ (m : ℕ). count_from 0 m (unguarded_in shared noted.common)) e in
+    let bytes : 49 * (n + strays + 1) ≡ length (report_text (table_of f)) = ap (λ (m : ℕ). 49 * (m + strays + 1)) e ∙ report_bytes f is unguarded strays v z acc in
+    record {
+      count = e;
+      clean = totals_are f is unguarded strays v z;
+      bytes = bytes;
+      report = report_is f is unguarded strays v z;
+      room = λ {out} h. room_for_all f is unguarded strays v z acc out (omega (arith, bytes, h));
+    }
+
 -- ---- a buffer that has room, or not
 
 pub no_room : (report out : List ℕ) → length out < length report → (None ≡ bytes_in report (length out)) × (out ≡ printed_over report out)

@@ -1,5 +1,6 @@
 #![tactic(auto)]
 // The report's lines, written one behind the other into a lent buffer, from what is found of a table.
+// Casts are by `as`: a report's numbers are below 1,000,000, and `TryFrom` would answer with a `Result` that cannot fail.
 ghost use Rattle.std.specs.Prelude.{◌≡◌, true, map, ◌+◌, ◌≤◌, pos, length};
 ghost use Rattle.lines.specs.Line.{all_in_field, line_text};
 ghost use Rattle.table.specs.Header.{statements};
@@ -115,7 +116,7 @@ pub fn print_report(
 {
     let cells = table::field_of(program.numbers, 0, 1);
     let strays = findings::stray_count(program, flow, held);
-    let unguarded = findings::unguarded_count(shared, noted, cells);
+    let unguarded = findings::unguarded_count(shared, &noted.common, cells);
     let clean = (unguarded == 0) & (strays == 0);
     let bytes = 49 * (cells + strays + 1);
     if out.len() < bytes {

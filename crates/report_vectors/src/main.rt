@@ -1,9 +1,8 @@
 // Prints the report of each table text that an argument names, line 50 for a refused one, one behind the other.
 #![tactic(auto)]
 
-use std::env::FillError;
 use std::io;
-use std::rt::{Env, Files};
+use std::rt::Files;
 
 // One argument: the report of the file that it names.
 fn try_argument(rt: &(impl Files + Print + Eprint), path: &[u8]) -> io::Result<()> {
@@ -17,15 +16,6 @@ fn try_argument(rt: &(impl Files + Print + Eprint), path: &[u8]) -> io::Result<(
     rt.write_all(&out[..bytes])
 }
 
-// A name that is longer than the buffer counts as empty.
 fn main(rt: HostRuntime) -> io::Result<()> {
-    let mut path = [0u8; 4096];
-    for i in 1..usize::MAX {
-        match rt.arg(i, &mut path) {
-            Ok(n) => try_argument(&rt, &path[..n])?,
-            Err(FillError::TooLong) => try_argument(&rt, b"")?,
-            Err(FillError::NotPresent) => break,
-        }
-    }
-    Ok(())
+    run_printer::each_argument(&rt, |path| try_argument(&rt, path))
 }

@@ -1,4 +1,5 @@
 -- What putting a text leaves, loops that put the texts of a list from the last to the first, and the digits of a number. Assumes nothing.
+use Rattle.std.proofs.lemmas.List.{set_past}
 use Rattle.std.specs.Prelude.{◌≡◌, refl, true, false, List, [], ◌∷◌, ◌++◌, ℤ, pos, negsuc, nat_abs, get_or, take, drop, set}
 use Rattle.std.proofs.Common.{sym, ◌∙◌, add-one, append-nil, ltb-true, length-set, drop_of_length-le, drop-cons, take_all}
 use Rattle.std.proofs.Math.Path.{ap}
@@ -10,6 +11,8 @@ use Rattle.std.proofs.Math.ListN.{length}
 use Rattle.fields.specs.Field.{decimal_text}
 use Rattle.fields.specs.FieldLaws.{text_last, text_more}
 use Rattle.run_printer.specs.Words.{Ending, ending, put_at, put, puts, texts_from, word_text, cell_text, cells_text}
+use Rattle.run_printer.specs.PutBefore.{PutBefore, ended}
+use Rattle.run_printer.specs.declared.Tail.{Tail}
 
 -- ---- one byte
 
@@ -21,12 +24,6 @@ pub put_one : (b : ℕ) (l : List ℕ) (s : ℕ) → 0 < s → ending (set l (s 
 unfolding put put_at
 put_one b l zero h = absurd (omega arith)
 put_one b l (suc s) h = let e : suc s - 1 ≡ s = omega arith in rw e
-
--- a store past the end changes nothing
-set_past : (l : List ℕ) (i b : ℕ) → length l ≤ i → set l i b ≡ l
-set_past [] i b h = refl
-set_past (x ∷ l) zero b h = absurd (omega arith)
-set_past (x ∷ l) (suc i) b h = ap (λ (k : List ℕ). x ∷ k) (set_past l i b (omega arith))
 
 pub put_past : (b : ℕ) (l : List ℕ) (s : ℕ) → 0 < s → length l ≤ s - 1 → ending l (s - 1) ≡ put b (ending l s)
 put_past b l s p h = ap (λ (k : List ℕ). ending k (s - 1)) (sym (set_past l (s - 1) b h)) ∙ put_one b l s p
@@ -67,6 +64,10 @@ starts_within (b ∷ t) e = omega (arith, put_within b (puts t e).bytes (puts t 
 
 pub puts_within : (t : List ℕ) (e e' : Ending) → e' ≡ puts t e → e'.start ≤ e.start
 puts_within t e e' p = omega (arith, ap (λ (d : Ending). d.start) p, starts_within t e)
+
+-- a text put in the same buffer
+pub put_before : {a b : Tail} {t : List ℕ} → b.out.ghost_name ≡ a.out.ghost_name → ended b ≡ puts t (ended a) → PutBefore a b t
+put_before {a} {b} {t} same is = record { same = same; is = is; within = puts_within t (ended a) (ended b) is }
 
 -- ---- loops over a list from its last element to its first
 

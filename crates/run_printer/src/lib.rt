@@ -1,114 +1,121 @@
-// For the programs that run tables: numbers, answers and cells as words at the end of a lent buffer, and the bytes of a file. A text is put before the one that
-// begins at `start`, and the answer is where the whole then begins; what has no room before it is lost.
+// For the programs that run tables: numbers, answers and cells as words at the end of a lent buffer, and the bytes of a file.
 #![tactic(auto)]
+// Bytes by hand and not by `Display`: each byte is promised. `say_refusal` takes a number and a line, and no `table::Refusal`, since `table` stands above.
+// Casts are by `as` where `From` has no way and `TryFrom` would answer with a `Result` that cannot fail.
 
-ghost use Rattle.std.specs.Prelude.{◌≡◌, ◌<◌, ◌≤◌, IfOk, IfSome, OnOk, length, take};
+ghost use Rattle.std.specs.Prelude.{◌≡◌, ◌<◌, ◌≤◌, [], ◌∷◌, ℕ, List, Err, IfOk, IfErr, IfSome, OnOk, length, take, drop};
 ghost use Rattle.fields.specs.Field.{decimal_text};
-ghost use Rattle.run_printer.specs.Words.{ending, put, puts, word_text, answers_text, values_text, cell_text, cells_text};
+ghost use Rattle.run_printer.specs.Words.{word_text, answers_text, values_text, cell_text, cells_text};
+ghost use Rattle.run_printer.specs.PutBefore.{PutBefore};
 ghost use Rattle.std.specs.Io.{ReadsAtMost};
 ghost use Rattle.refusal.specs.Refusal.{refusal_in};
 ghost use Rattle.std.specs.Io.KnownBytes.{Appends, Consumes, IsAtEnd};
 ghost use Rattle.std.specs.Str.{IsUtf8};
+ghost use Rattle.std.specs.Fn.{FnReturnsAt};
 
+use std::env::FillError;
 use std::io::{Read, Write};
-use std::rt::Files;
+use std::rt::{Env, Files};
 use std::{fs, io};
 
-// One byte.
-fn put_byte(out: &mut [u8], start: usize, byte: u8) -> usize
-    ensures { ending out.new result ≡ put byte (ending out.old start) }
-{
-    if start == 0 {
-        return start;
-    }
-    let place = start - 1;
-    if place < out.len() {
-        out[place] = byte;
-    }
-    place
+// A lent buffer, and where the text at its end begins. What is put stands before that text, and what has no room there is lost.
+#[derive(Drop)]
+pub struct Tail<'a> {
+    pub out: &'a mut [u8],
+    pub start: usize,
 }
 
-// The bytes of a text. This loop and the three below are not one function that takes a closure: of a closure that takes `&mut`
-// rattle's check said "a bug in rattle keeps any answer from counting".
-pub fn put_text(out: &mut [u8], start: usize, text: &[u8]) -> usize
-    ensures is { ending out.new result ≡ puts text.now (ending out.old start) }
-    ensures within { result ≤ start }
-{
-    let mut at = start;
-    for i in (0..text.len()).rev() {
-        at = put_byte(out, at, text[i]);
+impl<'a> Tail<'a> {
+    // The text so far; none where it begins past the buffer's end.
+    pub fn text(&self) -> &[u8]
+        ensures { result.now ≡ drop self.now.start self.now.out.now }
+    {
+        self.out.get(self.start..).unwrap_or(&[])
     }
-    at
-}
 
-// The digits of a number.
-fn put_digits(out: &mut [u8], start: usize, n: u64) -> usize
-    ensures { ending out.new result ≡ puts (decimal_text 20 n) (ending out.old start) }
-{
-    let mut at = start;
-    let mut m = n;
-    while 10 <= m {
-        at = put_byte(out, at, b'0' + (m % 10) as u8);
-        m = m / 10;
+    // Puts one byte.
+    fn put_byte(&mut self, byte: u8)
+        ensures { PutBefore self.old self.new (byte ∷ []) }
+    {
+        let Some(place) = self.start.checked_sub(1) else {
+            return;
+        };
+        if place < self.out.len() {
+            self.out[place] = byte;
+        }
+        self.start = place;
     }
-    put_byte(out, at, b'0' + m as u8)
-}
 
-// A space and the number.
-fn put_number(out: &mut [u8], start: usize, x: i32) -> usize
-    ensures { ending out.new result ≡ puts (word_text x) (ending out.old start) }
-{
-    let at = put_digits(out, start, x.unsigned_abs() as u64);
-    if x < 0 {
-        return put_text(out, at, b" -");
+    // Puts the bytes of a text. This loop and the three below are one call each: a function that takes the call as a closure is no plainer.
+    pub fn put_text(&mut self, text: &[u8])
+        ensures { PutBefore self.old self.new text.now }
+    {
+        for i in (0..text.len()).rev() {
+            self.put_byte(text[i]);
+        }
     }
-    put_byte(out, at, b' ')
-}
 
-// The answers to steps, a space before each.
-pub fn put_answers(out: &mut [u8], start: usize, answers: &[u8]) -> usize
-    ensures is { ending out.new result ≡ puts (answers_text answers.now) (ending out.old start) }
-    ensures within { result ≤ start }
-{
-    let mut at = start;
-    for i in (0..answers.len()).rev() {
-        at = put_number(out, at, lists::wide_byte(answers[i]) as i32);
+    // Puts the digits of a number. No loop over an index: it divides the number until one digit is left.
+    fn put_digits(&mut self, n: u64)
+        ensures { PutBefore self.old self.new (decimal_text 20 n) }
+    {
+        let mut m = n;
+        while 10 <= m {
+            self.put_byte(b'0' + (m % 10) as u8);
+            m = m / 10;
+        }
+        self.put_byte(b'0' + m as u8);
     }
-    at
-}
 
-// The values of cells, a space before each.
-pub fn put_values(out: &mut [u8], start: usize, cells: &[i32]) -> usize
-    ensures is { ending out.new result ≡ puts (values_text cells.now) (ending out.old start) }
-    ensures within { result ≤ start }
-{
-    let mut at = start;
-    for i in (0..cells.len()).rev() {
-        at = put_number(out, at, cells[i]);
+    // Puts a space and the number.
+    fn put_number(&mut self, x: i32)
+        ensures { PutBefore self.old self.new (word_text x) }
+    {
+        self.put_digits(u64::from(x.unsigned_abs()));
+        if x < 0 {
+            self.put_text(b" -");
+        } else {
+            self.put_byte(b' ');
+        }
     }
-    at
-}
 
-// A cell and its value: `cell K V` and a line feed.
-fn put_cell(out: &mut [u8], start: usize, cell: usize, value: i32) -> usize
-    ensures { ending out.new result ≡ puts (cell_text cell value) (ending out.old start) }
-{
-    let end = put_byte(out, start, b'\n');
-    let word = put_number(out, end, value);
-    let digits = put_digits(out, word, cell as u64);
-    put_text(out, digits, b"cell ")
-}
-
-// A line for each cell, from cell 0 on.
-pub fn put_cells(out: &mut [u8], start: usize, cells: &[i32]) -> usize
-    ensures is { ending out.new result ≡ puts (cells_text cells.now) (ending out.old start) }
-    ensures within { result ≤ start }
-{
-    let mut at = start;
-    for i in (0..cells.len()).rev() {
-        at = put_cell(out, at, i, cells[i]);
+    // Puts the answers to steps, a space before each.
+    pub fn put_answers(&mut self, answers: &[u8])
+        ensures { PutBefore self.old self.new (answers_text answers.now) }
+    {
+        for i in (0..answers.len()).rev() {
+            self.put_number(i32::from(answers[i]));
+        }
     }
-    at
+
+    // Puts the values of cells, a space before each.
+    pub fn put_values(&mut self, values: &[i32])
+        ensures { PutBefore self.old self.new (values_text values.now) }
+    {
+        for i in (0..values.len()).rev() {
+            self.put_number(values[i]);
+        }
+    }
+
+    // Puts a cell and its value: `cell K V` and a line feed.
+    fn put_cell(&mut self, cell: usize, value: i32)
+        ensures { PutBefore self.old self.new (cell_text cell value) }
+    {
+        self.put_byte(b'\n');
+        self.put_number(value);
+        // By `as`: std has no `u64::from` of a usize, and `try_from` has an error that cannot come.
+        self.put_digits(cell as u64);
+        self.put_text(b"cell ");
+    }
+
+    // Puts a line for each cell, from cell 0 on.
+    pub fn put_cells(&mut self, cells: &[i32])
+        ensures { PutBefore self.old self.new (cells_text cells.now) }
+    {
+        for i in (0..cells.len()).rev() {
+            self.put_cell(i, cells[i]);
+        }
+    }
 }
 
 // Writes line 50: the number and the line of a refusal; nothing where one of them is no field of a line.
@@ -170,4 +177,22 @@ pub fn load<R: Files + Eprint>(rt: &R, path: &[u8], buffer: &mut [u8]) -> io::Re
         Some(mut file) => read_full(&mut file, buffer),
         None => Ok(0),
     }
+}
+
+// Hands each argument in turn to `each`, until a call fails. One that is longer than the buffer counts as empty. That none is left out is not said: what the
+// arguments are no contract of std's says.
+pub fn each_argument<R: Env, F: Fn(&[u8]) -> io::Result<()>>(rt: &R, each: F) -> io::Result<()>
+    requires { F.IsAlwaysCallable each }
+    ensures { IfErr result (λ e. (argument : List ℕ) × FnReturnsAt F.Fn each argument (Err e)) }
+{
+    let mut argument = [0u8; 4096];
+    for i in 1..usize::MAX {
+        let n = match rt.arg(i, &mut argument) {
+            Ok(n) => n,
+            Err(FillError::TooLong) => 0,
+            Err(FillError::NotPresent) => break,
+        };
+        each(&argument[..n])?;
+    }
+    Ok(())
 }

@@ -10,7 +10,7 @@ use Rattle.machine.specs.State.{State, Frame, Thread, Holder, writer, readers, f
 use Rattle.machine.specs.Engine.{frame_slots}
 use Rattle.machine.proofs.FrameLaws.{Bounded}
 use Rattle.run_state.specs.declared.Sizes.{Sizes}
-use Rattle.run_state.specs.declared.Program.{Program}
+use Rattle.run_state.specs.declared.Loaded.{Loaded}
 use Rattle.run_state.specs.declared.State as Run
 use Rattle.run_state.specs.Lists.{locks_in, cells_in}
 
@@ -113,7 +113,7 @@ pub record Sized (numbers : List ℤ) (sizes : Sizes) : Type 0 where
   pub locks_are : sizes.locks ≡ (table_of numbers).locks
 
 -- what a run never changes: the numbers of an accepted text, the two lists that CALL and START look routines up in, and the sizes
-pub record Fixed (p : Program) : Type 0 where
+pub record Fixed (p : Loaded) : Type 0 where
   pub accepted : Accepted (table_of p.numbers.now)
   pub long : length p.numbers.now ≡ 8 * statement_line p.numbers.now (statements p.numbers.now)
   pub first_is : p.first ≡ first_statements p.numbers.now
@@ -121,7 +121,7 @@ pub record Fixed (p : Program) : Type 0 where
   pub sized : Sized p.numbers.now p.sizes
 
 -- a state of a run that shows some state of the machine
-pub record Standing (p : Program) (s : Run.State) : Type 0 where
+pub record Standing (p : Loaded) (s : Run.State) : Type 0 where
   pub fixed : Fixed p
   pub state : State
   pub shows : ListsShow (table_of p.numbers.now) s state
@@ -155,7 +155,7 @@ pub record Entered (t : Table) (values new : List ℕ) (slot caller from end : �
   pub kept_above : (i : ℕ) → slot * 8 + 8 ≤ i → get_or new i 0 ≡ get_or values i 0
 
 -- what CALL and START ask of the routine that they name
-pub record Naming (p : Program) (routine : ℕ) : Type 0 where
+pub record Naming (p : Loaded) (routine : ℕ) : Type 0 where
   pub accepted : Accepted (table_of p.numbers.now)
   pub low : routine < 32
   pub first_low : get_or p.first routine 0 < 512

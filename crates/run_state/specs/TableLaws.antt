@@ -12,7 +12,7 @@ use Rattle.table.proofs.LookupLaws.{routines_length}
 use Rattle.table.proofs.UntilLaws.{until_range}
 use Rattle.table.specs.Table.{Table, table_of, declaration, routine, statement, declaration_of, routine_at, statement_of}
 use Rattle.table.specs.Accepted.{Accepted, HandleFacts}
-use Rattle.run_state.specs.declared.Program.{Program}
+use Rattle.run_state.specs.declared.Loaded.{Loaded}
 use Rattle.run_state.specs.Shown.{HandlesThere, Naming, value_place, entry_value}
 
 pub declaration_read : (f : List ℤ) (h : ℕ) → h < length (table_of f).handles → declaration (table_of f) h ≡ declaration_of f h
@@ -81,7 +81,7 @@ looked_up f first handle r accepted a b l =
     }
 
 -- what CALL and START ask
-pub naming : (p : Program) (r : ℕ) → Accepted (table_of p.numbers.now) → r < length (table_of p.numbers.now).routines → LookedUp (table_of p.numbers.now) p.first p.handle r
+pub naming : (p : Loaded) (r : ℕ) → Accepted (table_of p.numbers.now) → r < length (table_of p.numbers.now).routines → LookedUp (table_of p.numbers.now) p.first p.handle r
     → Naming p r
 naming p r accepted l u =
     let facts = accepted.routine_facts r l in

@@ -2,7 +2,7 @@
 // The state of a run, which the caller of a step holds, and what a run is of. Places past the table's locks and cells are never read.
 pub mod frames;
 
-ghost use Rattle.std.specs.Prelude.{◌≡◌, ◌*◌, ◌<◌, ◌≤◌, get_or, length, pos, take};
+ghost use Rattle.std.specs.Prelude.{◌≡◌, ◌*◌, ◌<◌, ◌≤◌, get_or, length, pos, set, take};
 ghost use Rattle.table.specs.Header.{statements, statement_line};
 ghost use Rattle.table.specs.Table.{table_of};
 ghost use Rattle.table.specs.Extents.{first_handles};
@@ -35,24 +35,37 @@ pub fn sizes_of(numbers: &[i32]) -> Sizes
 
 // What a run never changes: the numbers of an accepted text, each routine's first statement and first handle, and the sizes. That they are so (`Fixed`) is
 // no ghost field: `Accepted` gives each routine a rank, so it has more than one proof, and a truncated one cannot be taken apart where the rank is used.
+// (`declarations::program::Program` lends its lists, which `engine::program_of` has nowhere to keep, and has no sizes.)
 #[derive(Clone, Copy)]
-pub struct Program<'a> {
+pub struct Loaded<'a> {
     pub numbers: &'a [i32],
     pub first: [usize; 33],
     pub handle: [usize; 33],
     pub sizes: Sizes,
 }
 
-// The state of a run: how many threads are started, each thread's frame count and accumulator, each slot's next statement and handle values, each lock's word, the cells.
+// The state of a run: how many threads are started (with 32 bits a step of `bench/run` took a sixth longer; the bar is that none takes longer), each slot's
+// next statement and handle values, each thread's frame count and accumulator, each lock's word, the cells. Between `u32` and `usize`, and from `u64`, goes
+// `as`: `From` has no way, and `TryFrom` answers with a `Result` that could not fail. Arrays of fixed size, one a field: there is no heap, and a step touches
+// a place or two of each.
 #[derive(Clone, Copy)]
 pub struct State {
     pub started: usize,
     pub nexts: [u32; 512],
     pub values: [u8; 4096],
-    pub counts: [usize; 16],
+    pub counts: [u32; 16],
     pub accumulators: [i32; 16],
-    pub locks: [u64; 16],
+    pub locks: [u32; 16],
     pub cells: [i32; 64],
+}
+
+// Stores `value` in place `i` of a part of a list; nothing past it. (The library's `get_mut` does not say how the list ends.)
+fn put<T: Copy>(part: &mut [T], i: usize, value: T)
+    ensures { part.new ≡ set part.old i value }
+{
+    if i < part.len() {
+        part[i] = value;
+    }
 }
 
 impl State {
@@ -74,40 +87,35 @@ impl State {
     // The word of lock `k` of so many locks: who holds it. 0 past them.
     pub fn lock(&self, locks: usize, k: usize) -> u64
         requires { locks ≤ 16 }
-        ensures { result ≡ get_or (locks_in locks self.now) k 0 }
+        ensures { (result ≡ get_or (locks_in locks self.now) k 0) × (result < 4294967296) }
     {
-        if k < locks { self.locks[k] } else { 0 }
+        u64::from(lists::value_at(&self.locks[..locks], k, 0))
     }
 
-    #[tactic(auto, unfolding(crate::specs::Lists::put))]
+    #[tactic(auto, using(crate::specs::ListLaws::put_part))]
     // Stores the word of lock `k` of so many locks; nothing past them.
     pub fn put_lock(&mut self, locks: usize, k: usize, word: u64)
-        requires { locks ≤ 16 }
+        requires { (locks ≤ 16) × (word < 4294967296) }
         ensures { self.new ≡ put_lock locks self.old k word }
     {
-        if k < locks {
-            self.locks[k] = word;
-        }
+        put(&mut self.locks[..locks], k, word as u32);
     }
 
-    // Beside `lock` and `put_lock`: a generic one would take the list that it reads as a parameter, and say no more.
     // The value of cell `x` of so many cells; 0 past them.
     pub fn cell(&self, cells: usize, x: usize) -> i32
         requires { cells ≤ 64 }
         ensures { result ≡ get_or (cells_in cells self.now) x (pos 0) }
     {
-        if x < cells { self.cells[x] } else { 0 }
+        lists::value_at(&self.cells[..cells], x, 0)
     }
 
-    #[tactic(auto, unfolding(crate::specs::Lists::put))]
+    #[tactic(auto, using(crate::specs::ListLaws::put_part))]
     // Stores `v` in cell `x` of so many cells; nothing past them.
     pub fn put_cell(&mut self, cells: usize, x: usize, v: i32)
         requires { cells ≤ 64 }
         ensures { self.new ≡ put_cell cells self.old x v }
     {
-        if x < cells {
-            self.cells[x] = v;
-        }
+        put(&mut self.cells[..cells], x, v);
     }
 
     // Copies the cells' values out.
@@ -120,7 +128,7 @@ impl State {
 }
 
 // Makes the state show where a run begins: thread 0 alone, in routine 0, cells zero and locks free.
-pub fn begin(program: &Program<'_>, state: &mut State)
+pub fn begin(program: &Loaded<'_>, state: &mut State)
     requires { Accepted (table_of program.now.numbers.now) × (program.now.handle ≡ first_handles program.now.numbers.now) × (length program.now.numbers.now ≡ 8 * statement_line program.now.numbers.now (statements program.now.numbers.now)) }
     ensures { ListsShow (table_of program.now.numbers.now) state.new (start (table_of program.now.numbers.now)) }
 {

@@ -1,4 +1,5 @@
 -- Lists of sets by inclusion: an order, and lists that grow have less room. Assumes nothing.
+use Rattle.std.proofs.lemmas.Bool.{and_parts}
 use Rattle.std.specs.Prelude.{◌≡◌, refl, Bool, true, false, ◌&&◌, List, [], ◌∷◌, ℕ, suc, ◌^◌, ◌≤◌, ◌<◌, eqb, leb, length, get_or}
 use Rattle.std.proofs.Common.{sym, ap, ◌∙◌, le_refl, arith, ext_get_or, eqb-true, eq-eqb, leb-true, leb-false}
 use Rattle.std.proofs.Math.Nat.{suc_inj}
@@ -21,18 +22,13 @@ inside_at {s} {t} a i = inside_le (get_or s i 0) (get_or t i 0) (a.at i)
 
 -- ---- the test for equal lists
 
-both_true : (a b : Bool) → (a && b) ≡ true → (a ≡ true) × (b ≡ true)
-both_true true true h = (refl, refl)
-both_true true false h = (refl, h)
-both_true false b h = (h, cc)
-
 pub same_true : (s t : List ℕ) → same s t ≡ true → s ≡ t
 unfolding same
 same_true [] [] h = refl
 same_true [] (y ∷ t) h = cc
 same_true (x ∷ s) [] h = cc
 same_true (x ∷ s) (y ∷ t) h =
-    let b : (eqb x y ≡ true) × (same s t ≡ true) = both_true (eqb x y) (same s t) h in
+    let b : (eqb x y ≡ true) × (same s t ≡ true) = and_parts (eqb x y) (same s t) h in
     let p : x ≡ y = eqb-true x y b.0 in
     let q : s ≡ t = same_true s t b.1 in
     cc

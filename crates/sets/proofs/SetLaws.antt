@@ -1,5 +1,6 @@
 -- The laws of sets: what the operations do to membership, when two sets are equal, what is inside what, and how many elements there are.
 -- Each is over any sets and elements. Assumes nothing.
+use Rattle.std.proofs.lemmas.Bool.{and_parts}
 use Rattle.std.specs.Prelude.{◌≡◌, refl, Bool, true, false, Some, None, not, ◌&&◌, ◌||◌, ℕ, zero, suc, ◌+◌, ◌-◌, ◌*◌, ◌/◌, ◌%◌, ◌^◌, ◌≤◌, ◌<◌, min, ltb}
 use Rattle.std.proofs.Common.{sym, ◌∙◌, subst, zero-le, suc-le-suc, le_trans, le_of_eq, le_of_suc-le-suc, add-le-add, zero-add, mod-lt, pow-suc, zero-lt-suc, lt_of_lt_of_le, lt_of_le_of_lt, arith, pow_pos, pow_mono, shr-shr, eqb-true, eq-eqb, ne_eqb, ltb-true, ltb-false, lt-ltb, le-ltb}
 use Rattle.std.proofs.Math.Path.{ap}
@@ -242,19 +243,11 @@ union_cases {C = C} a b i f g e = go (has a i) refl (sym (has_union a b i) ∙ e
 
 -- ---- what is in both
 
-both_left : (a b : Bool) → (a && b) ≡ true → a ≡ true
-both_left true b h = refl
-both_left false b h = h
-
-both_right : (a b : Bool) → (a && b) ≡ true → b ≡ true
-both_right true b h = h
-both_right false b h = cc
-
 pub inter_left : (a b i : ℕ) → has (inter a b) i ≡ true → has a i ≡ true
-inter_left a b i h = both_left (has a i) (has b i) (sym (has_inter a b i) ∙ h)
+inter_left a b i h = (and_parts (has a i) (has b i) (sym (has_inter a b i) ∙ h)).0
 
 pub inter_right : (a b i : ℕ) → has (inter a b) i ≡ true → has b i ≡ true
-inter_right a b i h = both_right (has a i) (has b i) (sym (has_inter a b i) ∙ h)
+inter_right a b i h = (and_parts (has a i) (has b i) (sym (has_inter a b i) ∙ h)).1
 
 pub in_both : (a b i : ℕ) → has a i ≡ true → has b i ≡ true → has (inter a b) i ≡ true
 in_both a b i p q = has_inter a b i ∙ rw (p, q)

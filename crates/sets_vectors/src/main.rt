@@ -2,23 +2,24 @@
 #![tactic(auto)]
 
 use solver::Order;
+use std::fmt::Display;
 use std::io;
 
 // Prints the label, the number and a line feed.
-fn number(rt: &impl Print, label: &[u8], n: u64) -> io::Result<()> {
+fn number(rt: &impl Print, label: &[u8], n: impl Display + Drop) -> io::Result<()> {
     rt.write_all(label)?;
     println!(rt; "{n}")
 }
 
 // Prints the label, 1 or 0, and a line feed.
 fn truth(rt: &impl Print, label: &[u8], b: bool) -> io::Result<()> {
-    number(rt, label, u64::from(b))
+    number(rt, label, u8::from(b))
 }
 
 // Prints the label, the element or the word nothing, and a line feed.
 fn which(rt: &impl Print, label: &[u8], w: Option<usize>) -> io::Result<()> {
     match w {
-        Some(i) => number(rt, label, i as u64),
+        Some(i) => number(rt, label, i),
         None => {
             rt.write_all(label)?;
             rt.write_all(b"nothing\n")
@@ -86,9 +87,9 @@ fn inclusions(rt: &impl Print) -> io::Result<()> {
 }
 
 fn counts(rt: &impl Print) -> io::Result<()> {
-    number(rt, b"count 0: ", sets::count(0) as u64)?;
-    number(rt, b"count 2^63: ", sets::count(1 << 63) as u64)?;
-    number(rt, b"count all: ", sets::count(u64::MAX) as u64)?;
+    number(rt, b"count 0: ", sets::count(0))?;
+    number(rt, b"count 2^63: ", sets::count(1 << 63))?;
+    number(rt, b"count all: ", sets::count(u64::MAX))?;
     truth(rt, b"is_single 0: ", sets::is_single(0))?;
     truth(rt, b"is_single 4: ", sets::is_single(4))?;
     truth(rt, b"is_single 6: ", sets::is_single(6))
@@ -121,25 +122,19 @@ fn no_edges(rt: &impl Print, order: Order) -> io::Result<()> {
     solved(rt, b"no edges:", &mut s, &edges, order)
 }
 
-fn cycle(rt: &impl Print, order: Order) -> io::Result<()> {
+// Four places with one element each, by these edges.
+fn four_places(rt: &impl Print, label: &[u8], edges: &[u32], order: Order) -> io::Result<()> {
     let mut s = [1u64, 2, 4, 8];
+    solved(rt, label, &mut s, edges, order)
+}
+
+fn cycle_and_chains(rt: &impl Print, order: Order) -> io::Result<()> {
     // 0 to 1, 1 to 2, 2 to 0
-    let edges = [1u32, 65538, 131072];
-    solved(rt, b"a cycle:", &mut s, &edges, order)
-}
-
-fn backwards(rt: &impl Print, order: Order) -> io::Result<()> {
-    let mut s = [1u64, 2, 4, 8];
+    four_places(rt, b"a cycle:", &[1, 65538, 131072], order)?;
     // 2 to 3, 1 to 2, 0 to 1
-    let edges = [131075u32, 65538, 1];
-    solved(rt, b"a chain listed backwards:", &mut s, &edges, order)
-}
-
-fn forwards(rt: &impl Print, order: Order) -> io::Result<()> {
-    let mut s = [1u64, 2, 4, 8];
+    four_places(rt, b"a chain listed backwards:", &[131075, 65538, 1], order)?;
     // 0 to 1, 1 to 2, 2 to 3
-    let edges = [1u32, 65538, 131075];
-    solved(rt, b"a chain listed forwards:", &mut s, &edges, order)
+    four_places(rt, b"a chain listed forwards:", &[1, 65538, 131075], order)
 }
 
 fn to_itself(rt: &impl Print, order: Order) -> io::Result<()> {
@@ -165,9 +160,7 @@ fn into_one(rt: &impl Print, order: Order) -> io::Result<()> {
 
 fn solver(rt: &impl Print, order: Order) -> io::Result<()> {
     no_edges(rt, order)?;
-    cycle(rt, order)?;
-    backwards(rt, order)?;
-    forwards(rt, order)?;
+    cycle_and_chains(rt, order)?;
     to_itself(rt, order)?;
     past_the_end(rt, order)?;
     into_one(rt, order)

@@ -11,36 +11,30 @@ use crate::worklist::follow;
 use passes::Edges;
 pub use passes::Order;
 
-// The order of a pass: every other one turns round where places have many edges, since then one of the two ways is mostly right.
-fn way(order: Order, many: bool, turn: usize) -> Order {
-    if many && turn % 2 == 1 {
-        order.reversed()
-    } else {
-        order
-    }
-}
-
-// After which pass, counted from 0, the worklist goes on: the second, or the fourth where places have many edges, since then to link these takes longer.
-fn last_turn(many: bool) -> usize {
-    if many { 3 } else { 1 }
-}
-
 // One pass; if it is the last before the worklist and changed anything, the worklist goes on from there, in the other order. Returns whether anything may
-// be left to put.
+// be left to put. Where places have many edges, every other pass turns round, since then one of the two ways is mostly right, and the worklist waits for
+// the fourth pass in place of the second, since to link these edges takes longer.
 fn step(sets: &mut [u64], edges: Edges<'_>, order: Order, turn: usize) -> bool
     ensures { Stepped edges.entry.ends.now edges.entry.also.now sets.old sets.new result }
 {
     let many = sets.len() < edges.len() / 2;
+    let way = if many && turn % 2 == 1 {
+        order.reversed()
+    } else {
+        order
+    };
+    let last = if many { 3 } else { 1 };
     let mut marks = [0u64; 16];
-    let changed = passes::pass(sets, &mut marks, edges, way(order, many, turn));
-    if changed && turn == last_turn(many) {
+    let changed = passes::pass(sets, &mut marks, edges, way);
+    if changed && turn == last {
         follow(sets, &mut marks, edges, order.reversed());
     }
     changed
 }
 
 // Makes the sets the least ones that hold them and in which, for every edge, what is in both sets that it comes from is in the
-// set that it leads to. An edge from or to a place past the end does nothing. The order changes nothing but the time.
+// set that it leads to. An edge from or to a place past the end does nothing. The order changes nothing but the time. Ends and places are two lists, as the
+// public signature has them; `turn` counts passes round and is no index.
 pub fn solve(sets: &mut [u64], edges: &[u32], also: &[u16], order: Order)
     ensures { sets.new ≡ least (edges_of edges.now also.now) sets.old }
 {

@@ -1,5 +1,7 @@
-// The worklist: the places whose sets changed, one bit each in 16 words. Nothing is promised of its contents: it only ever puts along edges that
-// are there, and a pass finds out whether anything is left to put.
+// The worklist: the places whose sets changed, one bit each in 16 words. That is fixed memory, since the project uses no heap, and counting zeros finds the
+// next place. Nothing is promised of its contents: it only ever puts along edges that are there, and a pass finds out whether anything is left to put.
+// The order is a value that the solver turns round, so it is matched where it says which place is next; a closure would be chosen by the same match.
+// Sets, worklist and edges stay parameters: of a struct of lent lists each contract would have to say too that they are the same lists.
 ghost use Rattle.std.specs.Prelude.{true, IfSome, ◌<◌, ◌≤◌, length};
 ghost use Rattle.passes.specs.Pass.{Solving};
 
@@ -13,7 +15,7 @@ fn link_edges(edges: Edges<'_>, links: &mut [u16; 2176])
     requires { length edges.ends.now ≤ 2176 }
 {
     for k in (0..edges.len()).rev() {
-        let p = edges.from(k) % 1024;
+        let p = passes::from_of(edges.ends[k]) % 1024;
         links[k] = links[2175 - p];
         links[2175 - p] = (k + 1) as u16;
     }

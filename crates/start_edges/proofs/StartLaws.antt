@@ -101,14 +101,14 @@ module _ (f : List ℤ) (s : ℕ) {v : View} (is : v ≡ view (statement (table_
 
   -- ---- the edges into the routine that is named
 
-  pub entering_parts : (end last : ℕ) → end ≡ statements f → last ≡ statements f + routines f → {started : Option ℕ} → started ≡ starts v
-      → (list_on started (λ (q : ℕ). edge last (end + q) ∷ []) ++ edges_at Callers t s) ≡ entering_edges (statements f) (statements f + routines f) (owner_of t s) s σ
+  pub entering_parts : (end last : ℕ) → end ≡ statements f → {started : Option ℕ} → started ≡ starts v
+      → (list_on started (λ (q : ℕ). edge last (end + q) ∷ []) ++ edges_at Callers t s) ≡ entering_edges (statements f) last (owner_of t s) s σ
   unfolding entering_edges edges_at call_edges named
-  entering_parts end last e l p = rw (← l)
-      (ap₂ {C = List Edge} (λ (x y : List Edge). x ++ y)
+  entering_parts end last e p =
+      ap₂ {C = List Edge} (λ (x y : List Edge). x ++ y)
       (ap₂ {C = List Edge} (λ (x : ℕ) (y : Option ℕ). list_on y (λ (q : ℕ). edge last (x + q) ∷ [])) e (p ∙ ap starts is)
       ∙ sym (on_started (view σ) (λ (q : ℕ). edge last (statements f + q) ∷ []) []))
-      (ap {B = List Edge} (λ (x : ℕ). call_edges x s σ ++ call_edges x (x + owner_of t s) σ) (statements_length f)))
+      (ap {B = List Edge} (λ (x : ℕ). call_edges x s σ ++ call_edges x (x + owner_of t s) σ) (statements_length f))
 
 -- both together
 pub preceding_parts : (f : List ℤ) (reach : List ℕ) (s : ℕ) {origin last : ℕ} → origin ≡ origin_of (table_of f) reach s → last ≡ statements f + routines f

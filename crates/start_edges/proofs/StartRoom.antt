@@ -1,13 +1,13 @@
 -- A list of four places a statement has room for the edges of both equations: at most four a statement, and every number small. Assumes nothing.
 use Prim.Native.Nat.{ℕ, ◌+◌, ◌*◌, ◌≤◌, ◌<◌}
-use Rattle.std.specs.Prelude.{◌≡◌, Bool, ℤ, None, take, map}
-use Rattle.std.proofs.Common.{sym, ap, ◌∙◌}
+use Rattle.std.specs.Prelude.{◌≡◌, Bool, ℤ, None}
+use Rattle.std.proofs.Common.{sym}
 use Rattle.std.proofs.Math.Path.{subst}
 use Rattle.std.proofs.Math.Bool.{true, false, cond}
 use mathlib.Core.List.{List, [], ◌∷◌, ◌++◌}
 use native.Mathlib.Omega.{arith}
 use Rattle.std.proofs.Math.ListN.{length}
-use Rattle.sets.specs.Least.{Edge, edge_of}
+use Rattle.sets.specs.Least.{Edge}
 use Rattle.sets.proofs.AppendLaws.{Room, room_none, room_both, room_more}
 use Rattle.table.specs.Header.{statements}
 use Rattle.table.specs.Table.{Table, table_of, statement, InRoutine}
@@ -22,7 +22,7 @@ use Rattle.report.specs.Layout.{named, owner_of, one_each}
 use Rattle.report.specs.Preceded.{brings_start, reach_edges}
 use Rattle.edges.specs.Equations.{edge, call_edges}
 use Rattle.edges.specs.declared.list.EdgeList.{EdgeList}
-use Rattle.edges.specs.Grown.{Grown, filled}
+use Rattle.edges.specs.Grown.{Grown, Filled, filled}
 use Rattle.edges.specs.RoomLaws.{room_edge, room_joined, room_on, room_when, named_small, owner_small, target_small}
 use Rattle.start_edges.specs.StartEdges.{reach_at, reach_for, following_edges, entering_edges, last_of, origin_of, preceding_at, preceding_for}
 use Rattle.start_edges.proofs.StartEdges.{both_on}
@@ -92,18 +92,17 @@ module _ (t : Table) (acc : Accepted t) (s : ℕ) (below : s < length t.statemen
       room_both {m = 2} {n = 2} (following_edges (origin_of t reach s) s σ) _ (following_room (origin_of t reach s) (origin_there reach)) entering_room
 
 -- so a list with that much room holds the edges of an equation, whatever stood in it before
-module _ (f : List ℤ) (acc : Accepted (table_of f)) {a b : EdgeList} (room : 4 * statements f ≤ length a.room.now) (e : a.used ≡ 0) where
+module _ (f : List ℤ) (acc : Accepted (table_of f)) {a b : EdgeList} (e : a.used ≡ 0) (room : 4 * statements f ≤ length a.room.now) where
   all_are : (part : ℕ → List Edge) → ((s : ℕ) → s < length (table_of f).statements → Room 4 (part s)) → Grown a b (joined_from 0 (length (table_of f).statements) part)
-      → {l : List ℕ} → l ≡ take b.used b.room.now → map edge_of l ≡ joined_from 0 (length (table_of f).statements) part
-  all_are part fits g p =
+      → Filled b (joined_from 0 (length (table_of f).statements) part)
+  all_are part fits g =
       let all = room_joined 4 0 (length (table_of f).statements) part (λ s w. fits s (within_below w)) in
-      ap {B = List Edge} (λ (l : List ℕ). map edge_of l) p ∙ filled e g (room_more (length a.room.now) (omega (arith, statements_length f)) all)
+      filled e g (room_more (length a.room.now) (omega (arith, statements_length f)) all)
 
-  pub reach_are : Grown a b (reach_for (table_of f)) → {l : List ℕ} → l ≡ take b.used b.room.now → map edge_of l ≡ reach_for (table_of f)
+  pub reach_are : Grown a b (reach_for (table_of f)) → Filled b (reach_for (table_of f))
   unfolding reach_for
   reach_are = all_are (reach_at (table_of f)) (reach_room (table_of f) acc)
 
-  pub preceding_are : (reach : List ℕ) → Grown a b (preceding_for (table_of f) reach) → {l : List ℕ} → l ≡ take b.used b.room.now
-      → map edge_of l ≡ preceding_for (table_of f) reach
+  pub preceding_are : (reach : List ℕ) → Grown a b (preceding_for (table_of f) reach) → Filled b (preceding_for (table_of f) reach)
   unfolding preceding_for
   preceding_are reach = all_are (preceding_at (table_of f) reach) (λ s l. preceding_room (table_of f) acc s l reach)

@@ -2,14 +2,14 @@
 // The edges by which C-13's two equations go, in the order of their definitions: which routines hold a START or reach one by CALLs, and which statements a
 // START can precede. A set has the element 0 where it is so, and nothing elsewhere. With one copy of each routine, the place of a routine is its number in the
 // first equation, and in the second that behind the statements; last stands "a START". Four places a statement are room enough for the edges.
-ghost use Rattle.std.specs.Prelude.{◌≡◌, true, ◌||◌, ◌<◌, ◌+◌};
+ghost use Rattle.std.specs.Prelude.{◌≡◌, true, ◌||◌, ◌<◌, ◌≤◌, ◌+◌, ◌*◌, length};
 ghost use Rattle.table.specs.Header.{routines, statements};
 ghost use Rattle.table.specs.Table.{table_of, statement};
 ghost use Rattle.table.specs.Accepted.{Accepted};
 ghost use Rattle.table.specs.View.{test_on};
 ghost use Rattle.report.specs.Layout.{owner_of};
 ghost use Rattle.report.specs.Preceded.{is_marked};
-ghost use Rattle.edges.specs.Grown.{Grown};
+ghost use Rattle.edges.specs.Grown.{Grown, Filled};
 ghost use Rattle.start_edges.specs.StartEdges.{reach_at, reach_for, following_edges, entering_edges, origin_of, preceding_at, preceding_for};
 
 use declarations::program::Program;
@@ -37,6 +37,7 @@ fn append_reach(program: &Program<'_>, s: usize, c: usize, list: &mut EdgeList<'
 pub fn fill_reach(program: &Program<'_>, list: &mut EdgeList<'_>)
     ensures accepted { Accepted (table_of program.now) }
     ensures grown { Grown list.old list.new (reach_for (table_of program.now)) }
+    ensures ready { list.old.used ≡ 0 → 4 * statements program.now ≤ length list.old.room.now → Filled list.new (reach_for (table_of program.now)) }
 {
     edges::append_each(
         program,
@@ -81,10 +82,11 @@ fn append_entering(program: &Program<'_>, s: usize, c: usize, list: &mut EdgeLis
     requires { (s < statements program.now) × (c ≡ owner_of (table_of program.now) s) }
     ensures { Grown list.old list.new (entering_edges (statements program.now) (statements program.now + routines program.now) (owner_of (table_of program.now) s) s (statement (table_of program.now) s)) }
 {
+    let line = program.line_of(s);
     let end = program.statements();
-    let started = attributes::starts_at(program.numbers, program.line_of(s));
+    let started = attributes::starts_at(program.numbers, line);
     list.push_to(end + program.routines(), end, started);
-    edges::append_callers(program, s, c, list);
+    edges::append_callers(program.numbers, line, s, end, c, list);
 }
 
 // Appends the edges of statement `s` of routine `c` by which a START precedes others.
@@ -106,6 +108,7 @@ fn append_preceding(
 pub fn fill_preceding(program: &Program<'_>, reach: &[u64], list: &mut EdgeList<'_>)
     ensures accepted { Accepted (table_of program.now) }
     ensures grown { Grown list.old list.new (preceding_for (table_of program.now) reach.now) }
+    ensures ready { list.old.used ≡ 0 → 4 * statements program.now ≤ length list.old.room.now → Filled list.new (preceding_for (table_of program.now) reach.now) }
 {
     edges::append_each(
         program,

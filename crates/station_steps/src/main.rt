@@ -2,6 +2,7 @@
 // table text, the second a file with the schedule, each byte a thread number.
 #![tactic(auto)]
 
+use run_printer::Tail;
 use std::io;
 use std::rt::{Env, Files};
 
@@ -26,8 +27,12 @@ fn print_steps(rt: &impl Print, schedule: &[u8], answers: &[u8]) -> io::Result<(
 // The lines of cells, 20 bytes each at most.
 fn print_cells(rt: &impl Print, cells: &[i32]) -> io::Result<()> {
     let mut out = [0u8; 2048];
-    let start = run_printer::put_cells(&mut out, 2048, cells);
-    rt.write_all(&out[start..])
+    let mut tail = Tail {
+        out: &mut out,
+        start: 2048,
+    };
+    tail.put_cells(cells);
+    rt.write_all(tail.text())
 }
 
 // The cells of an accepted text: as many as its header says.

@@ -21,21 +21,21 @@ use Rattle.table.specs.declared.Statement.TheVariants.{Read, Write, Set, Add, Ta
 use Rattle.machine.specs.State.{State}
 use Rattle.machine.specs.Step.{saturate, is_zero}
 use Rattle.machine.specs.Engine.{frame_slots}
-use Rattle.run_state.specs.declared.Program.{Program}
+use Rattle.run_state.specs.declared.Loaded.{Loaded}
 use Rattle.run_state.specs.declared.State as Run
 use Rattle.run_state.specs.Lists.{locks_in, cells_in, put_cell}
 use Rattle.run_state.specs.ListLaws.{parts_lock, parts_cell}
 use Rattle.run_state.specs.Shown.{Arrays, arrays, parts_of, value_place, ShowsBounded, Fixed, Standing, HandlesThere, Naming}
 use Rattle.run_state.specs.TableLaws.{statement_read, handles_there, LookedUp, looked_up, naming}
-use Rattle.operations.specs.declared.Place.{Place}
+use Rattle.operations.specs.declared.place.Place.{Place}
 use Rattle.operations.specs.declared.Stop.{Stop}
 use Rattle.operations.specs.declared.Stop.TheVariants.{Full}
-use Rattle.operations.specs.declared.Refusal.TheVariants.{Stopped}
+use Rattle.operations.specs.declared.TurnedDown.TheVariants.{Stopped}
 use Rattle.operations.specs.Step.{Step}
-use Rattle.operations.specs.Operation.{Move, Placed, on, Called, Started}
+use Rattle.operations.specs.Operation.{Move, on, Called, Started}
 use Rattle.locks.specs.Turns.{LockTurn, taking_word, reading_word, giving_word, Handed, Turned}
 use Rattle.steps.specs.Stepped.{Stepped, Here, stored, Storable, answer_by, Operated}
-use Rattle.steps.specs.StepLaws.{Top, top, placed, read_step, write_step, set_step, add_step, jump_step, jump_zero_step, return_step, AtLock, take_step, take_read_step, give_step, point_step, call_room, call_step, start_refused, start_step}
+use Rattle.steps.specs.StepLaws.{Top, top, Placed, placed, read_step, write_step, set_step, add_step, jump_step, jump_zero_step, return_step, AtLock, take_step, take_read_step, give_step, point_step, call_room, call_step, start_refused, start_step}
 
 -- the statement of a line is the table's
 line_said : (numbers : List ℤ) (base next : ℕ) (σ : Statement) → base ≡ statement_line numbers 0
@@ -53,7 +53,7 @@ pub record Lined (numbers : List ℤ) (line : ℕ) : Type 0 where
   pub there : line * 8 + 8 ≤ length numbers
 
 -- a thread that is started and has a frame open
-module _ (program : Program) (run : Run.State) (n count : ℕ) (s : Standing program run) (inside : n < run.started)
+module _ (program : Loaded) (run : Run.State) (n count : ℕ) (s : Standing program run) (inside : n < run.started)
     (count_is : count ≡ get_or run.counts n 0) (some : count ≡ 0 → ⊥) where
   -- its newest frame's slot
   pub newest_low : n * 32 + count - 1 < 512
@@ -84,10 +84,18 @@ module _ (program : Program) (run : Run.State) (n count : ℕ) (s : Standing pro
         there = omega (arith, s.fixed.long);
       }
 
-  pub here_at : (next : ℕ) (σ : Statement) → next ≡ get_or run.nexts (n * 32 + count - 1) 0
+  pub placed_there : (next : ℕ) → next ≡ get_or run.nexts (n * 32 + count - 1) 0 → Placed n (n * 32 + count - 1) next
+  placed_there next q =
+      let t = table_of program.numbers.now in
+      let slot = n * 32 + count - 1 in
+      let p = top t (parts_of t run) s.state n slot s.shows inside some_open newest_is in
+      subst (Placed n slot) (sym (q ∙ p.shown.next_is)) (placed t s.fixed.accepted (parts_of t run) s.state n slot s.shows inside p)
+
+  pub here_at : (next : ℕ) (σ : Statement) (thread_low : n < 16) (slot_low : n * 32 + count - 1 < 512) (next_low : next < 512)
+      → next ≡ get_or run.nexts (n * 32 + count - 1) 0
       → σ ≡ statement_in program.numbers.now (program.sizes.base + next) (field program.numbers.now (program.sizes.base + next) 1)
-      → Here program run (record { thread = n; slot = n * 32 + count - 1; next = next }) σ
-  here_at next σ q e =
+      → Here program run (record { thread = n; slot = n * 32 + count - 1; next = next; thread_low = thread_low; slot_low = slot_low; next_low = next_low }) σ
+  here_at next σ thread_low slot_low next_low q e =
       record {
         standing = s;
         low = inside;
@@ -98,7 +106,7 @@ module _ (program : Program) (run : Run.State) (n count : ℕ) (s : Standing pro
 
 -- ---- at the statement
 
-module _ (program : Program) (run : Run.State) (at : Place) (σ : Statement) (here : Here program run at σ) where
+module _ (program : Loaded) (run : Run.State) (at : Place) (σ : Statement) (here : Here program run at σ) where
   abbrev t : Table
   t = table_of program.numbers.now
 
@@ -135,11 +143,6 @@ module _ (program : Program) (run : Run.State) (at : Place) (σ : Statement) (he
 
   abbrev stands : Top (table_of program.numbers.now) (parts_of (table_of program.numbers.now) run) here.standing.state at.thread at.slot
   stands = p here.standing.state shown_here
-
-  pub placed_here : Placed at
-  placed_here =
-      let q = placed t accepted a here.standing.state at.thread at.slot shown_here here.low stands in
-      record { thread_low = q.thread_low; slot_low = q.slot_low; next_low = subst (λ (i : ℕ). i < 512) (sym (stands_at here.standing.state shown_here)) q.next_low }
 
   pub cells_few : program.sizes.cells ≤ 64
   cells_few = omega (arith, fixed.sized.cells_are, accepted.cells_most)
@@ -198,7 +201,7 @@ module _ (program : Program) (run : Run.State) (at : Place) (σ : Statement) (he
       (ap Ok e) did
 
   next_small : at.next + 1 < 4294967296
-  next_small = omega (arith, placed_here.next_low)
+  next_small = omega (arith, at.next_low)
 
   went_on : (run' : Run.State) (r : Move) (new : Arrays) (τ : Statement) → σ ≡ τ → r ≡ on at
       → parts_of (table_of program.numbers.now) run' ≡ new

@@ -1,101 +1,41 @@
 -- A schedule's steps one after another: the answers written so far and the rest give the whole. Assumes nothing.
-use Rattle.std.specs.Prelude.{ℕ, ◌+◌, ◌<◌, ◌≤◌, ◌≡◌, refl, Bool, true, false, cond, eqb, ltb, leb, ℤ, get_or, set, Ok, Err}
+use Rattle.std.specs.Prelude.{ℕ, ◌+◌, ◌<◌, ◌≤◌, ◌≡◌, refl, Bool, true, false, cond, eqb, get_or, set}
 use Rattle.std.proofs.Math.Path.{sym, ap, ap₂, subst}
-use Rattle.std.proofs.Common.{◌∙◌, arith, add-one, take-append-drop, eqb-true, ltb-false}
-use Rattle.std.proofs.lemmas.Bool.{eqb-false}
+use Rattle.std.proofs.Common.{◌∙◌, arith, add-one, take-append-drop, eqb-true}
 use mathlib.Core.List.{List, [], ◌∷◌, ◌++◌, append_assoc, append-nil}
-use Rattle.std.proofs.Math.ListN.{length, take, drop, length-set, drop_of_length-le, get_or-eq_default}
+use Rattle.std.proofs.Math.ListN.{length, take, drop, length-set, drop_of_length-le}
 use Rattle.std.proofs.Math.Seq.{drop-cons, take-suc-set, drop-set-lt, drop-drop}
 use Rattle.table.specs.Table.{Table, table_of, statement}
-use Rattle.table.specs.View.{view, starts}
-use Rattle.table.proofs.ViewLaws.{on_or_lem}
-use Rattle.table.specs.declared.Statement.{Statement}
-use Rattle.table.specs.declared.Statement.TheVariants.{Read, Write, Set, Add, Take, Give, Point, Call, Start, Jump, JumpZero, Return, TakeRead}
-use Rattle.machine.specs.State.{State, Thread, Frame, ended, thread}
-use Rattle.machine.specs.Step.{Answer, moved, refused, Turn, passes, stops, turned, operate, stepped, step, after}
-use Rattle.machine.specs.Engine.{limit, limit_of, engine_step, answer, engine_run, answers}
-use Rattle.machine.proofs.LockLaws.{Stops, taking_stops, reading_stops, giving_stops}
-use Rattle.operations.specs.declared.Refusal.TheVariants.{Stopped}
-use Rattle.operations.specs.Step.{Step, stop_number, stop_of, number_of, answered_at, case_of, step_of}
-use Rattle.run_state.specs.declared.Program.{Program}
+use Rattle.machine.specs.State.{State, Frame, thread}
+use Rattle.machine.specs.Step.{after}
+use Rattle.machine.specs.Engine.{engine_step, answer, engine_run, answers}
+use Rattle.machine.proofs.EngineLaws.{step_answered}
+use Rattle.operations.specs.Step.{Step, Ran, Refused, numbered, number_of, case_of, step_of}
+use Rattle.run_state.specs.declared.Loaded.{Loaded}
 use Rattle.run_state.specs.declared.State as Run
 use Rattle.run_state.specs.Shown.{ListsShow, Standing}
 use Rattle.steps.specs.Stepped.{Steps, Follows}
 
 -- ---- the number of a step's answer is the engine's answer
 
--- a refusal's number is that of a stop
-abbrev Named : Answer → Type 0
-Named (moved new) = Unit {0}
-Named (refused number) = stop_number (stop_of number) ≡ number
-
-turn_named : (t : Table) (state : State) (n : ℕ) (a : ℤ) (f : Frame) (older : List Frame) (k number : ℕ) → stop_number (stop_of number) ≡ number
-    → (x : Turn) → Stops number x → Named (turned t state n a f older k x)
-turn_named t state n a f older k number e (passes new) s = tt
-turn_named t state n a f older k number e (stops other) s = rw s e
-
-operate_named : (t : Table) (state : State) (n : ℕ) (a : ℤ) (f : Frame) (older : List Frame) (σ : Statement) → Named (operate t state n a f older σ)
-unfolding operate
-operate_named t state n a f older (Read h) = tt
-operate_named t state n a f older (Write h) = tt
-operate_named t state n a f older (Set number) = tt
-operate_named t state n a f older (Add number) = tt
-operate_named t state n a f older (Take h) = turn_named t state n a f older _ 16 refl _ (taking_stops n _)
-operate_named t state n a f older (Give h) = turn_named t state n a f older _ 17 refl _ (giving_stops n _)
-operate_named t state n a f older (Point h g) = tt
-operate_named t state n a f older (Call q arguments) = tt
-operate_named t state n a f older (Start q arguments) = tt
-operate_named t state n a f older (Jump target) = tt
-operate_named t state n a f older (JumpZero target) = tt
-operate_named t state n a f older Return = tt
-operate_named t state n a f older (TakeRead h) = turn_named t state n a f older _ 16 refl _ (reading_stops n _)
-
--- the answer at a statement has the number that it was made from
-number_at : (σ : Statement) (x : Answer) → Named x → number_of (answered_at (answer x) σ) ≡ answer x
-number_at σ (moved new) e = refl
-number_at σ (refused number) e = go (eqb number 0) refl
+number_at : (number : ℕ) (t : Table) (fs : List Frame) → number_of (case_of t number fs) ≡ number
+number_at number t [] = refl
+number_at number t (f ∷ fs) = go (eqb number 0) refl
   where
-    go : (b : Bool) → eqb number 0 ≡ b → number_of (cond b (Ok σ) (Err (Stopped σ (stop_of number)))) ≡ number
-    go true q = sym (eqb-true number 0 q)
-    go false q = e
+    go : (b : Bool) → eqb number 0 ≡ b → number_of (cond b (Ran (statement t f.next)) (Refused number (statement t f.next))) ≡ number
+    go true e = sym (eqb-true number 0 e)
+    go false e = refl
 
 pub step_number : (t : Table) (state : State) (n : ℕ) → number_of (step_of t state n) ≡ answer (engine_step t state n)
-unfolding step_of engine_step step stepped
-step_number t state n = at (thread state n).frames (ltb n (length state.threads)) refl ended_past
-  where
-    accumulator : ℤ
-    accumulator = (thread state n).accumulator
+unfolding step_of
+step_number t state n = number_at (answer (engine_step t state n)) t (thread state n).frames
 
-    ended_past : ltb n (length state.threads) ≡ false → (thread state n).frames ≡ []
-    ended_past e = ap (λ (th : Thread). th.frames) (get_or-eq_default state.threads ended {n = n} (ltb-false n (length state.threads) e))
-
-    limited : (σ : Statement) → eqb (limit (length state.threads) σ) 0 ≡ false → Named (refused (limit (length state.threads) σ))
-    limited σ = on_or_lem (λ (k : ℕ). eqb k 0 ≡ false → stop_number (stop_of k) ≡ k) (starts (view σ)) _ _ (λ q e. go (leb 16 (length state.threads))) none
-      where
-        none : eqb 0 0 ≡ false → stop_number (stop_of 0) ≡ 0
-        none e = absurd (eqb-false 0 0 e refl)
-
-        go : (b : Bool) → eqb (cond b 18 0) 0 ≡ false → stop_number (stop_of (cond b 18 0)) ≡ cond b 18 0
-        go true e = refl
-        go false e = none e
-
-    at : (fs : List Frame) (b : Bool) → ltb n (length state.threads) ≡ b → (b ≡ false → fs ≡ [])
-        → let over = limit_of t (length state.threads) fs in
-        let x = cond (eqb over 0) (cond b (stepped t state n accumulator fs) (refused 14)) (refused over) in
-        number_of (case_of t (answer x) fs) ≡ answer x
-    at [] true e none = refl
-    at [] false e none = refl
-    at (f ∷ older) false e none = let z = ap length (none refl) in absurd (omega arith)
-    at (f ∷ older) true e none = go (eqb (limit (length state.threads) σ) 0) refl
-      where
-        σ : Statement
-        σ = statement t f.next
-
-        go : (b : Bool) → eqb (limit (length state.threads) σ) 0 ≡ b
-            → let x = cond b (operate t state n accumulator f older σ) (refused (limit (length state.threads) σ)) in
-            number_of (answered_at (answer x) σ) ≡ answer x
-        go true q = number_at σ (operate t state n accumulator f older σ) (operate_named t state n accumulator f older σ)
-        go false q = number_at σ (refused (limit (length state.threads) σ)) (limited σ q)
+-- and fits a byte
+pub steps_small : (p : Loaded) (s : Run.State) → Standing p s
+    → (s' : Run.State) (n : ℕ) (r : Step) → Steps (table_of p.numbers.now) s s' n r → number_of (numbered r) < 256
+steps_small p s standing s' n r did =
+    let t = table_of p.numbers.now in
+    omega (arith, ap number_of (did standing.state standing.shows).answered ∙ step_number t standing.state n, (step_answered t standing.state n).most)
 
 -- ---- a schedule
 
@@ -106,7 +46,7 @@ pub record Reached (t : Table) (s : Run.State) (schedule lent : List ℕ) (i : �
   pub rest : engine_run t state (drop i schedule) ≡ engine_run t begun schedule
   pub written : take i lent ++ answers t state (drop i schedule) ≡ answers t begun schedule
 
-pub record Following (p : Program) (schedule answers₀ : List ℕ) (s₀ : Run.State) (lent : List ℕ) (s : Run.State) (i : ℕ) : Type 0 where
+pub record Following (p : Loaded) (schedule answers₀ : List ℕ) (s₀ : Run.State) (lent : List ℕ) (s : Run.State) (i : ℕ) : Type 0 where
   pub standing : Standing p s₀
   pub low : i ≤ length schedule
   pub room : length schedule ≤ length answers₀
@@ -114,7 +54,7 @@ pub record Following (p : Program) (schedule answers₀ : List ℕ) (s₀ : Run.
   pub behind : drop i lent ≡ drop i answers₀
   pub reached : (state : State) → ListsShow (table_of p.numbers.now) s₀ state → Reached (table_of p.numbers.now) s schedule lent i state
 
-module _ (p : Program) (schedule answers₀ : List ℕ) (s₀ : Run.State) where
+module _ (p : Loaded) (schedule answers₀ : List ℕ) (s₀ : Run.State) where
   pub following_start : Standing p s₀ → length schedule ≤ length answers₀
       → Following p schedule answers₀ s₀ answers₀ s₀ 0
   following_start started l =
@@ -136,7 +76,7 @@ module _ (p : Program) (schedule answers₀ : List ℕ) (s₀ : Run.State) where
         record { fixed = f.standing.fixed; state = r.state; shows = r.shows }
 
     pub following_next : (s' : Run.State) (n v : ℕ) (r : Step) → i < length schedule → n ≡ get_or schedule i 0
-        → Steps (table_of p.numbers.now) s s' n r → v ≡ number_of r
+        → Steps (table_of p.numbers.now) s s' n r → v ≡ number_of (numbered r)
         → Following p schedule answers₀ s₀ (set lent i v) s' (i + 1)
     unfolding engine_run answers
     following_next s' n v r l e stepped w =

@@ -11,6 +11,7 @@ use Rattle.std.proofs.Math.IntN.{pos}
 use Rattle.std.proofs.Math.ListN.{length, get_or, set, length-set, get_or-eq_default}
 use Rattle.std.proofs.Math.Seq.{get_or-set_same, get_or-set_other}
 use Rattle.std.proofs.lemmas.List.{set_comm}
+use Rattle.std.proofs.lemmas.Result.{MatchResult-at_ok, MatchResult-at_err}
 use Rattle.table.specs.Table.{Table, routine, statement, passed, OwnHandle}
 use Rattle.table.specs.Accepted.{Accepted, Operands, Passes}
 use Rattle.table.specs.View.{view, calls}
@@ -24,13 +25,13 @@ use Rattle.machine.specs.Step.{moved, refused, Turn, passes, stops, saturate, is
 use Rattle.machine.specs.Engine.{frame_slots, limit, engine_step}
 use Rattle.machine.proofs.LockLaws.{OnPass, Stops}
 use Rattle.machine.proofs.FrameLaws.{CallNext, Room, Rooms, call_has_room, engine_step_bounded}
+use Rattle.operations.specs.declared.Stop.{Stop}
 use Rattle.operations.specs.declared.Stop.TheVariants.{Full}
-use Rattle.operations.specs.declared.Refusal.TheVariants.{NotStarted, Ended, Stopped}
-use Rattle.operations.specs.Step.{stop_of, step_of}
-use Rattle.operations.specs.Operation.{Placed}
+use Rattle.operations.specs.declared.TurnedDown.TheVariants.{NotStarted, Ended, Stopped}
+use Rattle.operations.specs.Step.{stop_number, step_of}
 use Rattle.locks.specs.Turns.{LockTurn, taking_word, reading_word, giving_word}
-use Rattle.locks.specs.TurnLaws.{turn_word, InWords, take_in_words, read_in_words, give_in_words}
-use Rattle.run_state.specs.Shown.{Arrays, arrays, value_place, Low, ShowsFrame, ShowsFrames, Lengths, ShowsLocks, Shows, ShowsBounded, Entered}
+use Rattle.locks.specs.TurnLaws.{turn_word, by_number, InWords, take_in_words, read_in_words, give_in_words}
+use Rattle.run_state.specs.Shown.{Arrays, arrays, value_place, word_of, Low, ShowsFrame, ShowsFrames, Lengths, ShowsLocks, Shows, ShowsBounded, Entered}
 use Rattle.run_state.specs.ShownLaws.{Kept, kept_both, kept_next, kept_value, kept_entered, frame_kept, frames_kept, one_thread, added, own_apart, opened_shown}
 use Rattle.run_state.specs.LockWordLaws.{word_at, locks_set}
 use Rattle.steps.specs.Stepped.{Stepped}
@@ -73,6 +74,12 @@ top t a state n slot s low some e = go (thread state n).frames refl
           accumulator_is = th.accumulator_is;
         }
 
+-- a thread, a slot and a statement within the limits of a run, as a `Place` has them
+pub record Placed (thread slot next : ℕ) : Type 0 where
+  pub thread_low : thread < 16
+  pub slot_low : slot < 512
+  pub next_low : next < 512
+
 -- ---- 14 and 15
 
 pub not_started : (t : Table) (a : Arrays) (state : State) (n : ℕ) → ShowsBounded t a state → a.started ≤ n → Stepped t a state n (Err NotStarted)
@@ -109,7 +116,7 @@ module _ (t : Table) (accepted : Accepted t) (a : Arrays) (state : State) (n slo
   abbrev s : Shows t a state
   s = whole.shows
 
-  pub placed : Placed (record { thread = n; slot = slot; next = p.f.next })
+  pub placed : Placed n slot p.f.next
   placed =
       let facts = accepted.routine_facts p.f.routine p.room.there in
       record {
@@ -132,10 +139,10 @@ module _ (t : Table) (accepted : Accepted t) (a : Arrays) (state : State) (n slo
       let w : engine_step t state n ≡ moved new_state = by_operation σ e l ∙ m in
       record { answered = rw (w, p.is, e); shows = record { shows = rw w shows; bounded = engine_step_bounded accepted state whole.bounded n } }
 
-  turned_down_lem : (σ : Statement) (number : ℕ) → statement t p.f.next ≡ σ → engine_step t state n ≡ refused number → eqb number 0 ≡ false
-      → Stepped t a state n (Err (Stopped σ (stop_of number)))
+  turned_down_lem : (σ : Statement) (number : ℕ) (why : Stop) → stop_number why ≡ number → statement t p.f.next ≡ σ → engine_step t state n ≡ refused number
+      → eqb number 0 ≡ false → Stepped t a state n (Err (Stopped σ why))
   unfolding step_of
-  turned_down_lem σ number e w some = record { answered = rw (w, p.is, e, some); shows = rw w whole }
+  turned_down_lem σ number why q e w some = record { answered = rw (w, p.is, e, some, q); shows = rw w whole }
 
   -- ---- the thread goes to statement x
 
@@ -332,18 +339,21 @@ module _ (t : Table) (accepted : Accepted t) (a : Arrays) (state : State) (n slo
         let low16 : n < 16 = omega (arith, s.most) in
         let k = refers p.f h in
         let who = holder state k in
-        rw (own_value h own, word_at a.locks state.locks s.locks_are k, w.shown n who low16 (s.locks_are.low k))
-        (by (turn n who) does (w.refusal n who) (w.low n who low16 (s.locks_are.low k)))
+        rw (own_value h own, word_at a.locks state.locks s.locks_are k)
+        (by (turn n who) (word n (word_of who)) (w.shown n who low16 (s.locks_are.low k)) does (w.refusal n who) (w.low n who low16 (s.locks_are.low k)))
       where
-        by : (x : Turn)
+        by : (x : Turn) (y : LockTurn) → by_number y ≡ turn_word x
             → operate t state n (thread state n).accumulator p.f p.older σ ≡ turned t state n (thread state n).accumulator p.f p.older (refers p.f h) x
-            → Stops number x → OnPass x Low → AtLock t a state n slot next (refers p.f h) σ (turn_word x)
-        by (passes new) o r l =
-            rw on
+            → Stops number x → OnPass x Low → AtLock t a state n slot next (refers p.f h) σ y
+        by (passes new) (Ok made) q o r l =
+            rw (on, MatchResult-at_ok (λ v. made ≡ v) (λ v. Unit {0}) _ q refl)
             (ran _ σ _ e free o
             (goes (p.f.next + 1) _ a.accumulators _ a.cells state.cells _ accumulated_same refl s.cells_are
             (locks_set a.locks state.locks s.locks_are (refers p.f h) new l)))
-        by (stops m) o r l = turned_down_lem σ m e (by_operation σ e free ∙ o) (rw r some)
+        by (passes new) (Err why) q o r l = absurd (MatchResult-at_ok (λ v. ⊥) (λ v. Unit {0}) _ q tt)
+        by (stops m) (Ok made) q o r l = absurd (MatchResult-at_err (λ v. Unit {0}) (λ v. ⊥) _ q tt)
+        by (stops m) (Err why) q o r l =
+            turned_down_lem σ m why (MatchResult-at_err (λ v. Unit {0}) (λ v. stop_number why ≡ v) _ q refl) e (by_operation σ e free ∙ o) (rw r some)
 
     module _ (h : Handle) where
       abbrev lock : ℕ
@@ -520,7 +530,7 @@ module _ (t : Table) (accepted : Accepted t) (a : Arrays) (state : State) (n slo
 
       pub start_refused : statement t p.f.next ≡ Start q arguments → 16 ≤ a.started → Stepped t a state n (Err (Stopped (Start q arguments) Full))
       start_refused e w =
-          turned_down_lem (Start q arguments) 18 e (limited (Start q arguments) 18 e (rw (le-leb 16 (length state.threads) (omega (arith, w, s.started_is)))) refl) refl
+          turned_down_lem (Start q arguments) 18 Full refl e (limited (Start q arguments) 18 e (rw (le-leb 16 (length state.threads) (omega (arith, w, s.started_is)))) refl) refl
 
       pub start_step : (values : List ℕ) → statement t p.f.next ≡ Start q arguments → a.started < 16 → Entered t a.values values (a.started * 32) slot from end arguments
           → Stepped t

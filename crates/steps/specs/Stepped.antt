@@ -5,17 +5,17 @@ use Rattle.table.specs.declared.Statement.{Statement}
 use Rattle.machine.specs.State.{State}
 use Rattle.machine.specs.Step.{after}
 use Rattle.machine.specs.Engine.{engine_step, engine_run, answers}
-use Rattle.run_state.specs.declared.Program.{Program}
+use Rattle.run_state.specs.declared.Loaded.{Loaded}
 use Rattle.run_state.specs.declared.State as Run
 use Rattle.run_state.specs.Shown.{Arrays, parts_of, user, ShowsBounded, ListsShow, Standing}
-use Rattle.operations.specs.declared.Place.{Place}
-use Rattle.operations.specs.declared.Refusal.TheVariants.{Stopped}
+use Rattle.operations.specs.declared.place.Place.{Place}
+use Rattle.operations.specs.declared.TurnedDown.TheVariants.{Stopped}
 use Rattle.operations.specs.Operation.{Newest, Move}
-use Rattle.operations.specs.Step.{Step, step_of}
+use Rattle.operations.specs.Step.{Step, numbered, step_of}
 
 -- a step of thread n: the answer and the state after it are the engine's
 pub record Stepped (t : Table) (new : Arrays) (state : State) (n : ℕ) (step : Step) : Type 0 where
-  pub answered : step ≡ step_of t state (user n)
+  pub answered : numbered step ≡ step_of t state (user n)
   pub shows : ShowsBounded t new (after state (engine_step t state (user n)))
 
 -- of every state that a run's state shows before, what a step of thread n leaves
@@ -32,7 +32,7 @@ abbrev pub Follows : Table → Run.State → Run.State → List ℕ → List ℕ
 Follows t s s' schedule lent lent' = (state : State) → ListsShow t s state → Followed t s' schedule lent lent' state
 
 -- a thread that is at a statement of its newest frame
-pub record Here (p : Program) (s : Run.State) (at : Place) (σ : Statement) : Type 0 where
+pub record Here (p : Loaded) (s : Run.State) (at : Place) (σ : Statement) : Type 0 where
   pub standing : Standing p s
   pub low : at.thread < s.started
   pub newest : Newest at (get_or s.counts at.thread 0)

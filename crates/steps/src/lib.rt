@@ -3,16 +3,16 @@
 ghost use Rattle.std.specs.Prelude.{◌≡◌, ◌≤◌, length};
 ghost use Rattle.table.specs.Table.{table_of};
 ghost use Rattle.run_state.specs.Shown.{Standing};
-ghost use Rattle.operations.specs.Step.{number_of};
+ghost use Rattle.operations.specs.Step.{number_of, numbered};
 ghost use Rattle.steps.specs.Stepped.{Steps, Follows, Here, Operated};
 
-use operations::{Move, Place, Refusal, Step};
-use run_state::{Program, State};
+use operations::{Move, Place, Step, TurnedDown};
+use run_state::{Loaded, State};
 use table::Statement;
 
 // The byte that answers a step: 0 where it ran, else the refusal's number.
 pub fn answer_byte(answer: Step) -> u8
-    ensures { result ≡ number_of answer }
+    ensures { result ≡ number_of (numbered answer) }
 {
     match answer {
         Ok(_) => 0,
@@ -21,7 +21,7 @@ pub fn answer_byte(answer: Step) -> u8
 }
 
 // Runs a thread's next statement once, by its operation; the frame's next statement is left to be stored.
-fn operate(program: &Program<'_>, statement: Statement, at: Place, state: &mut State) -> Move
+fn operate(program: &Loaded<'_>, statement: Statement, at: Place, state: &mut State) -> Move
     requires { Here program.now state.old at statement }
     ensures { Operated (table_of program.now.numbers.now) state.old state.new at statement result }
 {
@@ -50,16 +50,17 @@ fn operate(program: &Program<'_>, statement: Statement, at: Place, state: &mut S
 
 // One step of thread `n`: its next statement, once; an error where it has none. The state shows some state of the machine; of every such state it shows
 // afterwards the one after the step.
-pub fn step(program: &Program<'_>, n: usize, state: &mut State) -> Step
+pub fn step(program: &Loaded<'_>, n: usize, state: &mut State) -> Step
     requires { Standing program.now state.old }
     ensures { Steps (table_of program.now.numbers.now) state.old state.new n result }
 {
     if state.started <= n {
-        return Err(Refusal::NotStarted);
+        return Err(TurnedDown::NotStarted);
     }
-    let count = state.counts[n];
+    // `as`, here and below: see `State`
+    let count = state.counts[n] as usize;
     if count == 0 {
-        return Err(Refusal::Ended);
+        return Err(TurnedDown::Ended);
     }
     let slot = n * 32 + count - 1;
     let next = state.nexts[slot] as usize;
@@ -69,7 +70,7 @@ pub fn step(program: &Program<'_>, n: usize, state: &mut State) -> Step
         slot,
         next,
     };
-    let after = operate(program, statement, at, state).map_err(|why| Refusal::Stopped {
+    let after = operate(program, statement, at, state).map_err(|why| TurnedDown::Stopped {
         statement,
         why,
     })?;
@@ -80,7 +81,7 @@ pub fn step(program: &Program<'_>, n: usize, state: &mut State) -> Step
 }
 
 // The steps of a schedule, each byte a thread number, in order, with one answer for each in the first places of `answers`.
-pub fn follow(program: &Program<'_>, schedule: &[u8], answers: &mut [u8], state: &mut State)
+pub fn follow(program: &Loaded<'_>, schedule: &[u8], answers: &mut [u8], state: &mut State)
     requires { Standing program.now state.old × (length schedule.now ≤ length answers.old) }
     ensures { Follows (table_of program.now.numbers.now) state.old state.new schedule.now answers.old answers.new }
 {

@@ -9,8 +9,8 @@ ghost use Rattle.table.specs.Table.{table_of};
 ghost use Rattle.table.specs.Accepted.{Accepted};
 ghost use Rattle.run_state.specs.Shown.{Standing};
 
-use run_printer::load;
-use run_state::{Program, State};
+use run_printer::{Tail, load};
+use run_state::{Loaded, State};
 use std::io;
 use std::rt::Files;
 
@@ -21,8 +21,12 @@ fn say(rt: &impl Print, text: &[u8]) -> io::Result<()> {
 // Numbers, a space before each.
 fn say_numbers(rt: &impl Print, numbers: &[u8]) -> io::Result<()> {
     let mut out = [0u8; 2048];
-    let start = run_printer::put_answers(&mut out, 2048, numbers);
-    say(rt, &out[start..])
+    let mut tail = Tail {
+        out: &mut out,
+        start: 2048,
+    };
+    tail.put_answers(numbers);
+    say(rt, tail.text())
 }
 
 // The first numbers, so many; none if there are fewer.
@@ -42,14 +46,18 @@ fn say_first(rt: &impl Print, answers: &[u8; 300], count: usize) -> io::Result<(
 // `, cells` and the values of the cells, a space before each; a line feed.
 fn say_left(rt: &impl Print, cells: &[i32]) -> io::Result<()> {
     let mut out = [0u8; 2048];
-    let end = run_printer::put_text(&mut out, 2048, b"\n");
-    let words = run_printer::put_values(&mut out, end, cells);
-    let start = run_printer::put_text(&mut out, words, b", cells");
-    say(rt, &out[start..])
+    let mut tail = Tail {
+        out: &mut out,
+        start: 2048,
+    };
+    tail.put_text(b"\n");
+    tail.put_values(cells);
+    tail.put_text(b", cells");
+    say(rt, tail.text())
 }
 
 // The cells of a run.
-fn show_left(rt: &impl Print, program: &Program<'_>, state: &State) -> io::Result<()>
+fn show_left(rt: &impl Print, program: &Loaded<'_>, state: &State) -> io::Result<()>
     requires { program.now.sizes.cells ≤ 64 }
 {
     let mut cells = [0i32; 64];
@@ -59,7 +67,7 @@ fn show_left(rt: &impl Print, program: &Program<'_>, state: &State) -> io::Resul
 }
 
 // Step `i` of a schedule, by the byte that answers it; 0 past the schedule's end.
-fn step_at(program: &Program<'_>, schedule: &[u8], i: usize, state: &mut State) -> u8
+fn step_at(program: &Loaded<'_>, schedule: &[u8], i: usize, state: &mut State) -> u8
     requires { Standing program.now state.old }
     ensures { Standing program.now state.new }
 {

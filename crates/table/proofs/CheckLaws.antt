@@ -1,4 +1,5 @@
 -- What the verdict "accepted" says of each check: it fails nowhere. Assumes nothing.
+use Rattle.std.proofs.lemmas.Bool.{and_parts}
 use Rattle.std.specs.Prelude.{◌≡◌, refl, List, Bool, true, false, cond, ◌&&◌, ℕ, ◌+◌, ◌-◌, ◌*◌, ◌/◌, ◌%◌, ◌≤◌, ◌<◌, ltb, leb, eqb, length, ℤ, Ok, Err}
 use Rattle.std.proofs.Common.{◌∙◌, zero-le, arith, ltb-false, leb-true, eqb-true}
 use Rattle.std.proofs.Math.Option.{Option, none, some}
@@ -9,7 +10,7 @@ use Rattle.lines.proofs.LowestLaws.{none_all_good, some_lowest}
 use Rattle.table.specs.Until.{until, or_else}
 use Rattle.table.specs.Header.{header_ok, length_ok, leading_ok, handles, routines, statements, statement_line}
 use Rattle.table.specs.HeaderLaws.{Sized}
-use Rattle.table.proofs.HeaderLaws.{header_sized, both}
+use Rattle.table.proofs.HeaderLaws.{header_sized}
 use Rattle.table.specs.Handles.{handle_ok}
 use Rattle.table.specs.Routines.{routine_ok, sum_ok, first_statement}
 use Rattle.table.specs.Statements.{bad_statement, end_ok}
@@ -137,7 +138,7 @@ lines_are f lines e = eqb-true _ _ (passes (length_ok f lines) _ _ (passes (head
 
 text_short : (n : ℕ) → text_ok n ≡ true → n ≤ 32977
 unfolding text_ok
-text_short n e = leb-true n 32977 (both (ltb 0 n && eqb (n % 49) 0) (leb n 32977) e).1
+text_short n e = leb-true n 32977 (and_parts (ltb 0 n && eqb (n % 49) 0) (leb n 32977) e).1
 
 pub text_long : (text : List ℕ) → verdict text ≡ Ok tt → length (numbers_of text) ≡ 8 * statement_line (numbers_of text) (statements (numbers_of text))
 unfolding verdict

@@ -1,6 +1,7 @@
 -- What a search for the lowest failing place finds is `until`, below its end. Assumes nothing.
-use Rattle.std.specs.Prelude.{◌≡◌, refl, ℕ, zero, suc, ◌+◌, ◌-◌, ◌≤◌, ◌<◌, Bool, true, false, cond, ltb, max, Option, Some, None, is_some, unwrap_or}
+use Rattle.std.specs.Prelude.{◌≡◌, refl, ℕ, zero, suc, ◌+◌, ◌-◌, ◌≤◌, ◌<◌, Bool, true, false, cond, ltb, max, Option, Some, None, is_some, unwrap_or, leb, not}
 use Rattle.std.proofs.Common.{sym, ap, ◌∙◌, arith, le_refl, add-zero, lt-ltb, le-ltb, ltb-true, ltb-false}
+use Rattle.std.proofs.lemmas.Bool.{le-leb, lt-leb}
 use Rattle.std.proofs.Math.Nat.{sub-zero}
 use Rattle.table.specs.Until.{until}
 use Rattle.table.specs.Found.{below, FirstFailing}
@@ -38,6 +39,16 @@ below_none u end e = go (ltb u end) refl e
 pub none_found : (u end : ℕ) (o : Option ℕ) → o ≡ below u end → false ≡ is_some o → None ≡ below u end
 none_found u end None e i = e
 none_found u end (Some x) e i = let z : ◌≡◌ {A = ℕ} 0 1 = cc in absurd (omega arith)
+
+-- a search that finds nothing has gone past the end
+pub none_below : (u end : ℕ) {o : Option ℕ} (b : Bool) → o ≡ below u end → is_some o ≡ not b → b ≡ leb end u
+none_below u end b e n = go (ltb u end) refl b (sym n ∙ ap is_some e)
+  where
+    go : (c : Bool) → ltb u end ≡ c → (b : Bool) → not b ≡ is_some (cond c (Some u) None) → b ≡ leb end u
+    go true t false n = sym (lt-leb end u (ltb-true u end t))
+    go false t true n = sym (le-leb end u (ltb-false u end t))
+    go true t true n = let z : ◌≡◌ {A = ℕ} 0 1 = cc in absurd (omega arith)
+    go false t false n = let z : ◌≡◌ {A = ℕ} 0 1 = cc in absurd (omega arith)
 
 -- ---- the search
 

@@ -1,6 +1,7 @@
 -- The first places of a list, of zeros too, filled anew; and places in the middle of a list. Assumes nothing.
-use Rattle.std.specs.Prelude.{ℕ, zero, suc, ◌+◌, ◌≤◌, ◌≡◌, refl, List, [], ◌∷◌, ◌++◌, length, take, drop, replicate}
-use Rattle.std.proofs.Common.{sym, ap, ◌∙◌, le_of_suc-le-suc, arith, length-append, length-take, length-drop, take_at, length-take-le}
+use Rattle.std.proofs.lemmas.List.{take-append-le}
+use Rattle.std.specs.Prelude.{ℕ, ◌+◌, ◌≤◌, ◌≡◌, List, ◌++◌, length, take, drop, replicate}
+use Rattle.std.proofs.Common.{sym, ap, ◌∙◌, arith, length-append, length-take, length-drop, take_at, length-take-le}
 use borrow.Rule.Slice.PartMut.{put_mid, take_put}
 use Rattle.table.proofs.CutLaws.{take_replicate}
 
@@ -35,11 +36,6 @@ zeros_front n work z h = ap (take n) z ∙ take_replicate n (length work) 0 h
 
 -- ---- the first m places of a list, filled anew
 
-take_inside : (n : ℕ) (a b : List ℕ) → n ≤ length a → take n (a ++ b) ≡ take n a
-take_inside zero a b h = refl
-take_inside (suc n) [] b h = absurd (omega arith)
-take_inside (suc n) (x ∷ a) b h = ap (λ (l : List ℕ). x ∷ l) (take_inside n a b (le_of_suc-le-suc h))
-
 module _ (m : ℕ) (work out : List ℕ) (fits : m ≤ length work) (e : length out ≡ length (take m work)) where
   out_long : length out ≡ m
   out_long = e ∙ length-take m work ∙ omega arith
@@ -48,4 +44,4 @@ module _ (m : ℕ) (work out : List ℕ) (fits : m ≤ length work) (e : length 
   all_long = length-append out (drop m work) ∙ omega (arith, out_long, length-drop m work)
 
   pub first_kept : (i : ℕ) → i ≤ m → take i (out ++ drop m work) ≡ take i out
-  first_kept i h = take_inside i out (drop m work) (omega (arith, out_long))
+  first_kept i h = take-append-le i out (drop m work) (omega (arith, out_long))

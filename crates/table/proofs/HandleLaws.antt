@@ -1,4 +1,5 @@
 -- Where the handles of a routine stand, when every handle line keeps its rule: together, parameters first, at most eight and at most four. Assumes nothing.
+use Rattle.std.proofs.lemmas.Bool.{and_parts, or_cases}
 use Rattle.std.specs.Prelude.{◌≡◌, refl, List, ◌⊎◌, Bool, true, false, not, ◌&&◌, ◌||◌, eqb, leb, ltb, ℤ}
 use Rattle.std.proofs.Common.{sym, ◌∙◌, subst, inl, inr, arith}
 use Prim.Native.Nat.{ℕ, zero, suc, ◌+◌, ◌-◌, ◌≤◌, ◌<◌, zero-le}
@@ -9,16 +10,11 @@ use Rattle.table.specs.Fields.{unused}
 use Rattle.table.proofs.UntilLaws.{until_range}
 use Rattle.table.proofs.CheckLaws.{until_before, until_at}
 use Rattle.table.specs.Header.{handles, routines, within, handle_line}
-use Rattle.table.proofs.HeaderLaws.{both, between}
+use Rattle.table.proofs.HeaderLaws.{between}
 use Rattle.table.specs.Handles.{routine_of, kind_of, origin_of, start_of, things, handle_fields_ok, same_above, handle_order_ok, parameter_ok, handle_ok, handles_from, parameters}
 use Rattle.table.proofs.ExtentLaws.{handles_next, handles_from_most}
 
 -- ---- the rule of one handle line, in its parts
-
--- one of two tests passes
-pub either : (a b : Bool) → (a || b) ≡ true → (a ≡ true) ⊎ (b ≡ true)
-either true b e = inl refl
-either false b e = inr e
 
 pub record HandleRule (f : List ℤ) (h : ℕ) : Type 0 where
   pub routine_there : routine_of f h < routines f
@@ -47,7 +43,7 @@ record ParameterRule (f : List ℤ) (h : ℕ) : Type 0 where
 
 parameter_rule : (f : List ℤ) (h : ℕ) → parameter_ok f h ≡ true → origin_of f h ≡ 0 → ParameterRule f h
 unfolding parameter_ok
-parameter_rule f h e o = go (either (eqb (origin_of f h) 1) _ e)
+parameter_rule f h e o = go (or_cases (eqb (origin_of f h) 1) _ e)
   where
     first : Bool
     first = eqb (routine_of f h) 0
@@ -58,8 +54,8 @@ parameter_rule f h e o = go (either (eqb (origin_of f h) 1) _ e)
     go : (eqb (origin_of f h) 1 ≡ true) ⊎ ((not first && not behind && not (same_above f h 4)) ≡ true) → ParameterRule f h
     go (inl p) = let q = eqb-true (origin_of f h) 1 p in absurd (omega arith)
     go (inr p) =
-        let q = both (not first && not behind) (not (same_above f h 4)) p in
-        let r = both (not first) (not behind) q.0 in
+        let q = and_parts (not first && not behind) (not (same_above f h 4)) p in
+        let r = and_parts (not first) (not behind) q.0 in
         record { not_first = not-true first r.0; not_behind = not-true behind r.1; not_fifth = not-true (same_above f h 4) q.1 }
 
 -- the origin, with the start that it allows
@@ -69,30 +65,30 @@ record OriginRule (f : List ℤ) (h : ℕ) : Type 0 where
 
 origin_rule : (f : List ℤ) (h : ℕ)
     → (eqb (origin_of f h) 0 && eqb (start_of f h) 0 || eqb (origin_of f h) 1 && ltb (start_of f h) (things f (kind_of f h))) ≡ true → OriginRule f h
-origin_rule f h e = go (either (eqb (origin_of f h) 0 && eqb (start_of f h) 0) _ e)
+origin_rule f h e = go (or_cases (eqb (origin_of f h) 0 && eqb (start_of f h) 0) _ e)
   where
     go : ((eqb (origin_of f h) 0 && eqb (start_of f h) 0) ≡ true) ⊎ ((eqb (origin_of f h) 1 && ltb (start_of f h) (things f (kind_of f h))) ≡ true) → OriginRule f h
     go (inl p) =
-        let o = eqb-true (origin_of f h) 0 (both (eqb (origin_of f h) 0) (eqb (start_of f h) 0) p).0 in
+        let o = eqb-true (origin_of f h) 0 (and_parts (eqb (origin_of f h) 0) (eqb (start_of f h) 0) p).0 in
         record { known = inl o; start = λ l. absurd (omega arith) }
     go (inr p) =
-        let q = both (eqb (origin_of f h) 1) (ltb (start_of f h) (things f (kind_of f h))) p in
+        let q = and_parts (eqb (origin_of f h) 1) (ltb (start_of f h) (things f (kind_of f h))) p in
         record { known = inr (eqb-true (origin_of f h) 1 q.0); start = λ l. ltb-true (start_of f h) (things f (kind_of f h)) q.1 }
 
 pub handle_rule : (f : List ℤ) (h : ℕ) → handle_ok f h ≡ true → HandleRule f h
 unfolding handle_ok handle_fields_ok handle_order_ok
 handle_rule f h e =
-    let ok = both (handle_fields_ok f h && handle_order_ok f h) (parameter_ok f h) e in
-    let two = both (handle_fields_ok f h) (handle_order_ok f h) ok.0 in
+    let ok = and_parts (handle_fields_ok f h && handle_order_ok f h) (parameter_ok f h) e in
+    let two = and_parts (handle_fields_ok f h) (handle_order_ok f h) ok.0 in
     let there = ltb (routine_of f h) (routines f) in
     let kind = within 1 2 (kind_of f h) in
     let start = eqb (origin_of f h) 0 && eqb (start_of f h) 0 || eqb (origin_of f h) 1 && ltb (start_of f h) (things f (kind_of f h)) in
-    let p = both (there && kind && start) (unused f (handle_line h) 5) two.0 in
-    let q = both (there && kind) start p.0 in
-    let s = both there kind q.0 in
+    let p = and_parts (there && kind && start) (unused f (handle_line h) 5) two.0 in
+    let q = and_parts (there && kind) start p.0 in
+    let s = and_parts there kind q.0 in
     let k = between 1 2 (kind_of f h) s.1 in
     let o = origin_rule f h q.1 in
-    let d = both (leb (routine_of f (h - 1)) (routine_of f h)) (not (same_above f h 8)) two.1 in
+    let d = and_parts (leb (routine_of f (h - 1)) (routine_of f h)) (not (same_above f h 8)) two.1 in
     let rule = parameter_rule f h ok.1 in
     record {
       routine_there = ltb-true (routine_of f h) (routines f) s.0;

@@ -1,5 +1,6 @@
 -- What the walk down the named routines reaches: a set that is closed under naming, and the least such. So where no routine reaches itself, the number of
 -- routines reached falls along naming, and is below the number of routines. Assumes nothing.
+use Rattle.std.proofs.lemmas.Bool.{and_parts}
 use Rattle.std.specs.Prelude.{Option, Some, None, ◌≡◌, List, Bool, true, false, not, ◌||◌, eqb, ltb, get_or}
 use Rattle.std.proofs.Math.Path.{refl}
 use Rattle.std.proofs.Common.{sym, ◌∙◌, subst}
@@ -9,7 +10,6 @@ use borrow.Author.Tests.{ltb-true, ltb-false, lt-ltb, le-ltb, eqb-true, not-true
 use Rattle.sets.specs.Set.{has, firsts, union, minus, with, lowest, count}
 use Rattle.sets.proofs.SetLaws.{has_union_left, has_union_right, union_cases, has_minus, has_with, has_empty, has_beyond, has_firsts, below_of_has, union_below, minus_below, count_with, count_below, count_inside_less, lowest_is, lowest_nothing}
 use Rattle.table.specs.Naming.{walk, reached, is_acyclic, on_which}
-use Rattle.table.proofs.HeaderLaws.{both}
 
 -- i is in the set s
 abbrev pub In : ℕ → ℕ → Type 0
@@ -58,7 +58,7 @@ minus_in : (a b i : ℕ) → In a i → has b i ≡ false → In (minus a b) i
 minus_in a b i h k = has_minus a b i ∙ rw (h, k)
 
 minus_out : (a b i : ℕ) → In (minus a b) i → (In a i) × (has b i ≡ false)
-minus_out a b i h = let p = both (has a i) (not (has b i)) (sym (has_minus a b i) ∙ h) in (p.0, not-true (has b i) p.1)
+minus_out a b i h = let p = and_parts (has a i) (not (has b i)) (sym (has_minus a b i) ∙ h) in (p.0, not-true (has b i) p.1)
 
 -- what is in a is in b or in what is left of a without b
 parted : (a b i : ℕ) → In a i → In (union b (minus a b)) i

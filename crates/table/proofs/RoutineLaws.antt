@@ -1,22 +1,22 @@
 -- Where the statements of a routine stand, when every routine line keeps its rule and the counts add up: each statement in exactly one routine; and
 -- that each keeps its rule there, when none is found bad. Assumes nothing.
+use Rattle.std.proofs.lemmas.Bool.{and_parts, or_cases}
 use Rattle.std.specs.Prelude.{◌≡◌, refl, List, ◌⊎◌, Bool, true, false, cond, ◌||◌, ℕ, zero, suc, ◌+◌, ◌-◌, ◌≤◌, ◌<◌, eqb, ltb, ℤ}
 use Rattle.std.proofs.Common.{subst, inl, inr, zero-le, arith, ltb-true, ltb-false, eqb-true}
 use Rattle.std.proofs.Math.Decide.{dec_lt}
 use Rattle.table.specs.Fields.{unused}
 use Rattle.table.specs.Header.{routines, statements, routine_line, within}
-use Rattle.table.proofs.HeaderLaws.{both, between}
+use Rattle.table.proofs.HeaderLaws.{between}
 use Rattle.table.specs.Routines.{count_of, routine_ok, first_statement}
 use Rattle.table.proofs.ExtentLaws.{first_next}
 use Rattle.table.specs.Statements.{operation, statement_ok, bad_statement, end_ok, last_of}
 use Rattle.table.specs.Until.{until}
 use Rattle.table.proofs.CheckLaws.{Passed, until_before}
-use Rattle.table.proofs.HandleLaws.{either}
 
 pub some_statement : (f : List ℤ) (r : ℕ) → routine_ok f r ≡ true → 1 ≤ count_of f r
 unfolding routine_ok
 some_statement f r e =
-    (between 1 (statements f) (count_of f r) (both (within 1 (statements f) (count_of f r)) (unused f (routine_line f r) 2) e).0).0
+    (between 1 (statements f) (count_of f r) (and_parts (within 1 (statements f) (count_of f r)) (unused f (routine_line f r) 2) e).0).0
 
 -- a later routine's statements begin no earlier
 pub first_grows : (f : List ℤ) (r n : ℕ) → first_statement f r ≤ first_statement f (r + n)
@@ -102,7 +102,7 @@ not_last f r s e b jump return = go (dec_lt (s + 1) (first_statement f (r + 1)))
     last : last_of f r ≡ s → ⊥
     last k =
         let at = subst (λ (x : ℕ). (eqb (operation f x) 10 || eqb (operation f x) 12) ≡ true) k e in
-        by (either (eqb (operation f s) 10) (eqb (operation f s) 12) at)
+        by (or_cases (eqb (operation f s) 10) (eqb (operation f s) 12) at)
       where
         by : (eqb (operation f s) 10 ≡ true) ⊎ (eqb (operation f s) 12 ≡ true) → ⊥
         by (inl t) = jump (eqb-true (operation f s) 10 t)

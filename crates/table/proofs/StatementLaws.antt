@@ -1,16 +1,15 @@
 -- A statement that keeps its rule, by its operation: its operands, what it names, and where it goes on. Assumes nothing.
 use Rattle.std.specs.Prelude.{◌≡◌, List, Bool, true, false, cond, not, ◌&&◌, ◌||◌, ◌⊎◌, leb, ltb, get_or, ℤ, Option, Some}
 use Rattle.std.proofs.Math.Path.{refl}
-use Rattle.std.proofs.Common.{sym, ap, ◌∙◌, subst, inl, inr, ⊎_elim, arith, ltb-true, lt-ltb, leb-true, eqb-true, eq-eqb, ne_eqb}
+use Rattle.std.proofs.Common.{sym, ap, ◌∙◌, subst, ⊎_elim, arith, ltb-true, lt-ltb, leb-true, eqb-true, eq-eqb, ne_eqb}
 use Prim.Native.Nat.{ℕ, zero, suc, ◌+◌, ◌≤◌, ◌<◌}
 use Rattle.std.proofs.Math.Decide.{dec_lt}
 use Rattle.std.proofs.Math.Dec.{eqb}
-use Rattle.std.proofs.lemmas.Bool.{eqb-false, not-true}
+use Rattle.std.proofs.lemmas.Bool.{eqb-false, not-true, and_parts, or_cases}
 use Rattle.sets.specs.Set.{one}
 use Rattle.sets.proofs.SetLaws.{has_one}
 use Rattle.table.specs.Fields.{unused}
 use Rattle.table.specs.Header.{handles, routines, statement_line}
-use Rattle.table.proofs.HeaderLaws.{both}
 use Rattle.table.specs.Handles.{routine_of, kind_of, handles_from, parameters}
 use Rattle.table.specs.Routines.{first_statement}
 use Rattle.table.specs.Statements.{operation, operand, own_handle, own_of_kind, own_statement, argument_ok, arguments_ok, naming_ok, point_ok, operation_ok, statement_ok}
@@ -74,10 +73,6 @@ refers : (f : List ℤ) (s : ℕ) (attribute : View → Option ℕ) (b : Bool) �
     → {n : ℕ} → attribute (view (statement_of f s)) ≡ Some n → (b ≡ true) × (operand f s 0 ≡ n)
 refers f s attribute b is e = to_if b (operand f s 0) (sym is ∙ sym (ap attribute (said f s)) ∙ e)
 
-either_of : (a b : Bool) → (a || b) ≡ true → (a ≡ true) ⊎ (b ≡ true)
-either_of true b e = inl refl
-either_of false b e = inr e
-
 -- ---- what a statement names
 
 -- a CALL or START keeps its rule, and names its first operand
@@ -85,13 +80,13 @@ naming : (f : List ℤ) (r s q : ℕ) → statement_ok f r s ≡ true → Names 
 unfolding operation_ok
 naming f r s q ok n =
     let p = refers f s (λ v. v.names) (eqb (operation f s) 8 || eqb (operation f s) 9) refl n in
-    (⊎_elim (rule_of f r s ok 8) (rule_of f r s ok 9) (either_of (eqb (operation f s) 8) (eqb (operation f s) 9) p.0), p.1)
+    (⊎_elim (rule_of f r s ok 8) (rule_of f r s ok 9) (or_cases (eqb (operation f s) 8) (eqb (operation f s) 9) p.0), p.1)
 
 -- the routine that a CALL or START names is there
 named_there : (f : List ℤ) (r s : ℕ) → naming_ok f r (statement_line f s) ≡ true → operand f s 0 < routines f
 unfolding naming_ok
 named_there f r s e =
-    ltb-true (operand f s 0) (routines f) (both (ltb (operand f s 0) (routines f)) (arguments_ok f r (operand f s 0) (statement_line f s)) e).0
+    ltb-true (operand f s 0) (routines f) (and_parts (ltb (operand f s 0) (routines f)) (arguments_ok f r (operand f s 0) (statement_line f s)) e).0
 
 pub names_there : (f : List ℤ) (r s q : ℕ) → statement_ok f r s ≡ true → Names (statement_of f s) q → q < routines f
 names_there f r s q ok n = let p = naming f r s q ok n in let l = named_there f r s p.0 in omega arith
@@ -116,12 +111,12 @@ pub goes_on : (f : List ℤ) (r s : ℕ) → statement_ok f r s ≡ true
     → ((operation f s ≡ 10 → ⊥) → (operation f s ≡ 12 → ⊥) → InRoutine (table_of f) r (s + 1)) → GoesOn (table_of f) r s (statement_of f s)
 goes_on f r s ok next on =
     let e : (keeps_frame (operation f s) && not (eqb (operation f s) 10)) ≡ true = sym (ap (λ v. v.onward) (said f s)) ∙ on in
-    let p = both (keeps_frame (operation f s)) (not (eqb (operation f s) 10)) e in
+    let p = and_parts (keeps_frame (operation f s)) (not (eqb (operation f s) 10)) e in
     next (eqb-false (operation f s) 10 (not-true (eqb (operation f s) 10) p.1))
-    (⊎_elim early late (either_of (ltb 0 (operation f s) && ltb (operation f s) 12) (eqb (operation f s) 13) p.0))
+    (⊎_elim early late (or_cases (ltb 0 (operation f s) && ltb (operation f s) 12) (eqb (operation f s) 13) p.0))
   where
     early : (ltb 0 (operation f s) && ltb (operation f s) 12) ≡ true → operation f s ≡ 12 → ⊥
-    early e is = omega (arith, ltb-true (operation f s) 12 (both (ltb 0 (operation f s)) (ltb (operation f s) 12) e).1)
+    early e is = omega (arith, ltb-true (operation f s) 12 (and_parts (ltb 0 (operation f s)) (ltb (operation f s) 12) e).1)
 
     late : eqb (operation f s) 13 ≡ true → operation f s ≡ 12 → ⊥
     late e is = omega (arith, eqb-true (operation f s) 13 e)
@@ -131,7 +126,7 @@ goes_on f r s ok next on =
 own_handle_lem : (f : List ℤ) (r x : ℕ) → own_handle f r x ≡ true → OwnHandle (table_of f) r x
 unfolding own_handle
 own_handle_lem f r x e =
-    let p = both (ltb x (handles f)) (eqb (routine_of f x) r) e in
+    let p = and_parts (ltb x (handles f)) (eqb (routine_of f x) r) e in
     let b = ltb-true x (handles f) p.0 in
     let l = handles_length f in
     record { there = omega arith; own = (declaration_says f x b).routine ∙ eqb-true (routine_of f x) r p.1 }
@@ -139,7 +134,7 @@ own_handle_lem f r x e =
 own_of_kind_lem : (f : List ℤ) (r kind x : ℕ) → own_of_kind f r kind x ≡ true → OwnOfKind (table_of f) r kind x
 unfolding own_of_kind
 own_of_kind_lem f r kind x e =
-    let p = both (own_handle f r x) (eqb (kind_of f x) kind) e in
+    let p = and_parts (own_handle f r x) (eqb (kind_of f x) kind) e in
     let own = own_handle_lem f r x p.0 in
     let there = own.there in
     let l = handles_length f in
@@ -171,11 +166,11 @@ arguments_rule f r s e =
     let a1 = argument_ok f r q 1 (operand f s 2) in
     let a2 = argument_ok f r q 2 (operand f s 3) in
     let a3 = argument_ok f r q 3 (operand f s 4) in
-    let p = both (ltb q (routines f)) (arguments_ok f r q line) e in
-    let p4 = both (a0 && a1 && a2 && a3) (unused f line 7) p.1 in
-    let p3 = both (a0 && a1 && a2) a3 p4.0 in
-    let p2 = both (a0 && a1) a2 p3.0 in
-    let p1 = both a0 a1 p2.0 in
+    let p = and_parts (ltb q (routines f)) (arguments_ok f r q line) e in
+    let p4 = and_parts (a0 && a1 && a2 && a3) (unused f line 7) p.1 in
+    let p3 = and_parts (a0 && a1 && a2) a3 p4.0 in
+    let p2 = and_parts (a0 && a1) a2 p3.0 in
+    let p1 = and_parts a0 a1 p2.0 in
     record { there = ltb-true q (routines f) p.0; zeroth = p1.0; first = p1.1; second = p2.1; third = p3.1 }
 
 module _ (f : List ℤ)
@@ -234,29 +229,29 @@ module _ (f : List ℤ)
       of_kind : (o kind h : ℕ) → (eqb op o ≡ true) × (x ≡ h)
           → (operation_ok f r line o ≡ true → (own_of_kind f r kind x && unused f line 3) ≡ true) → OwnOfKind (table_of f) r kind h
       of_kind o kind h (e, is) k =
-          subst (OwnOfKind (table_of f) r kind) is (own_of_kind_lem f r kind x (both (own_of_kind f r kind x) (unused f line 3) (k (rule_of f r s ok o e))).0)
+          subst (OwnOfKind (table_of f) r kind) is (own_of_kind_lem f r kind x (and_parts (own_of_kind f r kind x) (unused f line 3) (k (rule_of f r s ok o e))).0)
 
       taken : (h : ℕ) → ((eqb op 5 || eqb op 13) ≡ true) × (x ≡ h) → OwnOfKind (table_of f) r 2 h
-      taken h (e, is) = ⊎_elim (λ a. of_kind 5 2 h (a, is) (λ k. k)) (λ a. of_kind 13 2 h (a, is) (λ k. k)) (either_of (eqb op 5) (eqb op 13) e)
+      taken h (e, is) = ⊎_elim (λ a. of_kind 5 2 h (a, is) (λ k. k)) (λ a. of_kind 13 2 h (a, is) (λ k. k)) (or_cases (eqb op 5) (eqb op 13) e)
 
       inside : (own_statement f r x && unused f line 3) ≡ true → InRoutine (table_of f) r x
       inside k =
-          let p = (both (own_statement f r x) (unused f line 3) k).0 in
-          let q = both (leb (first_statement f r) x) (ltb x (first_statement f (r + 1))) p in
+          let p = (and_parts (own_statement f r x) (unused f line 3) k).0 in
+          let q = and_parts (leb (first_statement f r) x) (ltb x (first_statement f (r + 1))) p in
           in_routine_lem f r x b (leb-true (first_statement f r) x q.0) (ltb-true x (first_statement f (r + 1)) q.1)
 
       jump : (z : ℕ) → ((eqb op 10 || eqb op 11) ≡ true) × (x ≡ z) → InRoutine (table_of f) r z
       jump z (e, is) =
           subst (InRoutine (table_of f) r) is
-          (⊎_elim (λ a. inside (rule_of f r s ok 10 a)) (λ a. inside (rule_of f r s ok 11 a)) (either_of (eqb op 10) (eqb op 11) e))
+          (⊎_elim (λ a. inside (rule_of f r s ok 10 a)) (λ a. inside (rule_of f r s ok 11 a)) (or_cases (eqb op 10) (eqb op 11) e))
 
       point : (h : ℕ) → (eqb op 7 ≡ true) × (x ≡ h)
           → OwnHandle (table_of f) r h × OwnHandle (table_of f) r (view (statement_of f s)).source
           × ((declaration (table_of f) h).kind ≡ (declaration (table_of f) (view (statement_of f s)).source).kind)
       point h (e, is) =
           let k : point_ok f r line ≡ true = rule_of f r s ok 7 e in
-          let p = (both (own_handle f r x && own_of_kind f r (kind_of f x) (operand f s 1)) (unused f line 4) k).0 in
-          let q = both (own_handle f r x) (own_of_kind f r (kind_of f x) (operand f s 1)) p in
+          let p = (and_parts (own_handle f r x && own_of_kind f r (kind_of f x) (operand f s 1)) (unused f line 4) k).0 in
+          let q = and_parts (own_handle f r x) (own_of_kind f r (kind_of f x) (operand f s 1)) p in
           let own = own_handle_lem f r x q.0 in
           let g = own_of_kind_lem f r (kind_of f x) (operand f s 1) q.1 in
           let there = own.there in

@@ -173,13 +173,17 @@ pub struct Routine {
     pub parameters: usize,
 }
 
-// A number as the rules compare it: itself, or 1,000,000 for a negative one.
+// A number as the rules compare it: itself, or 1,000,000 for a negative one, which is above every bound, as the definition `plain` has it: one clause for each
+// sign, and so an `if`.
 fn plain_number(x: i32) -> usize
     ensures is { result ≡ plain x }
     ensures small { result < 2 ^ 31 }
 {
     if x < 0 { 1_000_000 } else { x as usize }
 }
+
+// The functions below take a list and an index, as `list[i]` does: a struct of the numbers and a line would be made anew for each line. `View` has flags and
+// values beside its Options, since the definitions ask for each attribute alone.
 
 // Field `j` of `line` as the rules compare it: its number, 1,000,000 for a negative one, 0 past the end.
 pub fn field_of(numbers: &[i32], line: usize, j: usize) -> usize
@@ -216,12 +220,7 @@ pub fn field_in(numbers: &[i32], line: usize, j: usize) -> usize
 pub fn is_unused(numbers: &[i32], line: usize, from: usize) -> bool
     ensures { result ≡ unused numbers.now line from }
 {
-    for j in from..8 {
-        if field_of(numbers, line, j) != 0 {
-            return false;
-        }
-    }
-    true
+    first_failing(from, 8, |j| field_of(numbers, line, j) == 0).is_none()
 }
 
 // The lowest number from `from` on, below `end`, of which a test says no.

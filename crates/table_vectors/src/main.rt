@@ -1,9 +1,8 @@
 // Reads each table text that an argument names, and prints its name and then line 50 of its refusal, or that it is accepted.
 #![tactic(auto)]
 
-use std::env::FillError;
 use std::io;
-use std::rt::{Env, Files};
+use std::rt::Files;
 
 fn print_verdict(rt: &impl Print, text: &[u8]) -> io::Result<()> {
     match reader::read(text) {
@@ -28,15 +27,6 @@ fn try_argument(rt: &(impl Files + Print + Eprint), path: &[u8]) -> io::Result<(
     print_verdict(rt, &text[..count])
 }
 
-// A name that is longer than the buffer counts as empty.
 fn main(rt: HostRuntime) -> io::Result<()> {
-    let mut path = [0u8; 4096];
-    for i in 1..usize::MAX {
-        match rt.arg(i, &mut path) {
-            Ok(n) => try_argument(&rt, &path[..n])?,
-            Err(FillError::TooLong) => try_argument(&rt, b"")?,
-            Err(FillError::NotPresent) => break,
-        }
-    }
-    Ok(())
+    run_printer::each_argument(&rt, |path| try_argument(&rt, path))
 }

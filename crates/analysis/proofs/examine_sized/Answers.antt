@@ -1,5 +1,4 @@
 -- `analysis::examine_sized` meets its contract. Assumes nothing.
-use native.Mathlib.Omega.{arith}
 use Rattle.analysis.specs.ReportedLaws.{lent_long}
 use Rattle.analysis.proofs.examine_sized.Goals as goal
 

@@ -11,7 +11,7 @@ returns-then-not-is_ascii_digit c =
 pub loop-c-preserved : goal.loop-c-preserved
 loop-c-preserved c =
     let d = c.if-not-is_ascii_digit.ensures.cases in
-    digits_next c.loop-c.invariant (search rules) d.0 d.1
+    rw c.from.ensures (digits_next c.loop-c.invariant (search rules) d.0 d.1)
 
 pub returns : goal.returns
 returns c = ap answer (sym (digits_done c.loop-c.invariant (search rules)))

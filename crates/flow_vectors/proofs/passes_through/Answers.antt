@@ -1,6 +1,6 @@
 -- `flow_vectors::passes_through` meets its contract. Assumes nothing.
 use mathlib.Core.Path.{sym, ◌∙◌}
-use Prim.Native.Nat.{ℕ, ◌*◌, ◌≤◌}
+use Prim.Native.Nat.{ℕ}
 use Rattle.table.proofs.CutLaws.{cut_long}
 use Rattle.flow_vectors.proofs.passes_through.Goals as goal
 

@@ -4,7 +4,7 @@ use Rattle.sets.proofs.AppendLaws.{appended_same}
 use Rattle.declarations.specs.Laid.{laid_for, few_routines, few_statements}
 use Rattle.held_edges.specs.TableEdges.{writing_alone, bases_of}
 use Rattle.held_edges.specs.GoingLaws.{going_start, going_next, going_as}
-use Rattle.held_edges.specs.RoutineEdgeLaws.{begins, first_grows, in_range, statement_there, fits_here, part_here, viewed, low_bases}
+use Rattle.held_edges.specs.RoutineEdgeLaws.{begins, first_grows, in_range, statement_there, view_fits, view_part, viewed, low_bases}
 use Rattle.held_edges.proofs.append_routine.Goals as goal
 
 pub loop-s-init : goal.loop-s-init
@@ -36,7 +36,7 @@ invariant_of-here-clause-fit c =
     let inside = in_range _ _ laid.accepted laid.firsts c.requires c.value_at-s.ensures c.value_at-s-end.ensures c.loop-s.auto.s c.loop-s-test.true in
     let there = statement_there _ _ laid.accepted laid.firsts c.args.c c.loop-s.s c.requires inside in
     let view_is = viewed c.program.view_is c.line_of.ensures there (writing_alone c.args.mode) (rw (← c.writing_alone-writing.ensures) c.view_at-view.ensures) in
-    fits_here _ _ laid.accepted laid.firsts c.args.c c.loop-s.s c.requires inside _ view_is
+    view_fits _ _ laid.accepted laid.firsts c.args.c c.loop-s.s c.requires inside _ view_is
 
 pub loop-s-preserved : goal.loop-s-preserved
 loop-s-preserved c =
@@ -44,7 +44,7 @@ loop-s-preserved c =
     let inside = in_range _ _ laid.accepted laid.firsts c.requires c.value_at-s.ensures c.value_at-s-end.ensures c.loop-s.auto.s c.loop-s-test.true in
     let there = statement_there _ _ laid.accepted laid.firsts c.args.c c.loop-s.s c.requires inside in
     let view_is = viewed c.program.view_is c.line_of.ensures there (writing_alone c.args.mode) (rw (← c.writing_alone-writing.ensures) c.view_at-view.ensures) in
-    going_next c.loop-s.invariant (appended_same _ _ (part_here _ _ laid.accepted laid.firsts c.args.c c.loop-s.s c.requires inside _ view_is (c.bases_of-bases.ensures.is ∙ ap bases_of c.program.view_is)) c.append_statement.ensures)
+    going_next c.loop-s.invariant (appended_same _ _ (view_part _ _ laid.accepted laid.firsts c.args.c c.loop-s.s c.requires inside _ view_is (c.bases_of-bases.ensures.is ∙ ap bases_of c.program.view_is)) c.append_statement.ensures)
 
 pub returns : goal.returns
 returns c =

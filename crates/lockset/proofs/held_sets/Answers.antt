@@ -17,7 +17,7 @@ returns c =
     let acc = (laid_for c.program.view_is c.program.invariant).accepted in
     let all = c.firsts-all.ensures ∙ ap firsts (c.field_of.ensures.is ∙ ap locks c.program.view_is) ∙ locks_are c.args.program.now in
     let bases = c.bases_of-bases.ensures.is ∙ ap bases_of c.program.view_is in
-    let edges = ap₂ {C = List Edge} edges_of c.edges.ensures c.also.ensures ∙ c.fill.ensures.is in
+    let edges = ap₂ {C = List Edge} edges_of c.edges.ensures c.also.ensures ∙ c.fill.ensures.filled.is in
     let start = c.fill_each.ensures _ (λ p r l h. search (rules, of_calls)) in
     let out = out_is _ acc _ _ (λ i. omega (arith, c.type_inv.flow i)) _ (λ i. omega (arith, c.type_inv.given i)) c.requires.out_len bases all start edges c.solve.ensures in
     held_front _ acc _ _ (λ i. omega (arith, c.type_inv.flow i)) _ (λ i. omega (arith, c.type_inv.given i)) _ out all (ap (λ b. b.back) bases) c.turn_round.ensures

@@ -5,4 +5,4 @@ use Rattle.table.specs.TabulateLaws.{Begun}
 use Rattle.naming.proofs.names_in.Given as goal
 
 abbrev pub invariant-loop-r : goal.invariant-loop-r
-invariant-loop-r l = (l.r ≤ l.count) × Begun (names_of l.numbers) l.names 32 l.r
+invariant-loop-r l = (l.r ≤ l.count) × Begun (names_of l.outline.numbers.now) l.names 32 l.r

@@ -8,14 +8,14 @@ use Rattle.table.proofs.Lists.{statements_begin, begin_early}
 use Rattle.naming.proofs.names_of.Goals as goal
 
 pub named_among-requires : goal.named_among-requires
-named_among-requires c = omega (arith, c.value_at-2.ensures, begin_early c.requires.statements_begin (c.args.r + 1))
+named_among-requires c = omega (arith, c.value_at-2.ensures, begin_early c.args.outline.now.statements_begin (c.args.r + 1))
 
 pub returns : goal.returns
 unfolding names_of
 returns c =
-    let f = c.args.numbers.now in
+    let f = c.args.outline.now.numbers.now in
     let r = c.args.r in
-    rw (lt-ltb _ _ c.requires.r_bound)
+    rw (lt-ltb _ _ c.requires)
     (c.named_among.ensures
-    ∙ ap₂ (λ (p q : ℕ). gather (named_by f) 0 p (q - p)) (c.value_at.ensures ∙ statements_begin c.requires.statements_begin r (omega (arith, c.requires.r_bound)))
-    (c.value_at-2.ensures ∙ statements_begin c.requires.statements_begin (r + 1) (omega (arith, c.requires.r_bound))))
+    ∙ ap₂ (λ (p q : ℕ). gather (named_by f) 0 p (q - p)) (c.value_at.ensures ∙ statements_begin c.args.outline.now.statements_begin r (omega (arith, c.requires)))
+    (c.value_at-2.ensures ∙ statements_begin c.args.outline.now.statements_begin (r + 1) (omega (arith, c.requires))))

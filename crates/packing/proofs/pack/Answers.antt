@@ -1,8 +1,8 @@
 -- `packing::pack` meets its contract. Assumes nothing.
-use mathlib.Core.Path.{refl}
+use Rattle.std.proofs.Common.{refl}
 use Rattle.packing.specs.Packed.{packed}
 use Rattle.packing.proofs.pack.Goals as goal
 
 pub returns : goal.returns
 unfolding packed
-returns c = refl
+returns c = rw c.from.ensures refl

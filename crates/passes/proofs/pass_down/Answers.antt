@@ -1,7 +1,7 @@
 -- `passes::pass_down` meets its contract. Its loop has gone along all edges but the first i pairs. Assumes nothing.
-use Prim.Native.Nat.{◌+◌, ◌-◌}
+use Prim.Native.Nat.{◌+◌, ◌*◌, ◌-◌}
 use lib.ListN.{length}
-use mathlib.Core.Path.{refl}
+use mathlib.Core.Path.{◌≡◌, refl}
 use native.Mathlib.Omega.{arith}
 use Rattle.passes.specs.PassLaws.{passed_start, passed_as, passed_down, passed_down_two}
 use Rattle.passes.proofs.pass_down.Goals.{then-n-eq1, else-n-eq1}
@@ -19,8 +19,11 @@ loop-i-init c =
 
 pub loop-i-preserved : goal.loop-i-preserved
 loop-i-preserved c =
-    passed_down_two _ _ (c.loop-i.i - 1) (omega arith) (passed_as _ _ (omega arith) refl c.loop-i.invariant) c.put_edge-changed-in-loop-i.ensures
-    c.put_edge-changed-in-loop-i-2.ensures
+    let e : 2 * (c.loop-i.i - 1) + 1 ≡ 2 * c.loop-i.i - 1 = omega arith in
+    let e₂ : 2 * (c.loop-i.i - 1) ≡ 2 * c.loop-i.i - 2 = omega arith in
+    rw e₂
+    (passed_down_two _ _ (2 * c.loop-i.i) (omega arith) (omega arith) c.loop-i.invariant (rw e at c.put_edge-changed-in-loop-i.ensures)
+    (rw e₂ at c.put_edge-changed-in-loop-i-2.ensures))
 
 pub returns : goal.returns
 returns c = passed_as _ _ (omega arith) refl c.loop-i.invariant

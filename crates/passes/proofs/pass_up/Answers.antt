@@ -1,5 +1,5 @@
 -- `passes::pass_up` meets its contract. Its loop has gone along the first i pairs of edges. Assumes nothing.
-use Prim.Native.Nat.{◌-◌}
+use Prim.Native.Nat.{◌*◌, ◌-◌}
 use mathlib.Core.Path.{refl}
 use native.Mathlib.Omega.{arith}
 use Rattle.passes.specs.PassLaws.{passed_start, passed_as, passed_up, passed_up_two}
@@ -9,7 +9,9 @@ pub loop-i-init : goal.loop-i-init
 loop-i-init c = passed_start _ _ _ 0 0 (omega arith)
 
 pub loop-i-preserved : goal.loop-i-preserved
-loop-i-preserved c = passed_up_two _ _ c.loop-i.i (omega arith) c.loop-i.invariant c.put_edge-changed.ensures c.put_edge-changed-in-loop-i.ensures
+loop-i-preserved c =
+    passed_as _ _ refl (omega arith)
+    (passed_up_two _ _ (2 * c.loop-i.i) (omega arith) c.loop-i.invariant c.put_edge-changed.ensures c.put_edge-changed-in-loop-i.ensures)
 
 pub returns-then-n-eq1 : goal.returns-then-n-eq1
 returns-then-n-eq1 c =

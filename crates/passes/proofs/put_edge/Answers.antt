@@ -1,24 +1,11 @@
--- `passes::put_edge` meets its contract. Each way through it is one law of `PassLaws`. Assumes nothing.
-use borrow.Author.Rules.{rules}
-use Rattle.passes.specs.PassLaws.{put_as, put_more, put_nothing, put_no_from, put_no_also, put_no_to}
-use Rattle.passes.proofs.put_edge.Goals.{else-f-sets-via-then-f-sets+else-a-sets, else-f-sets-via-else-f-sets}
+-- `passes::put_edge` meets its contract. Assumes nothing.
+use mathlib.Core.Path.{ap, ◌∙◌}
+use Prim.Native.Nat.{ℕ}
+use lib.ListN.{get_or}
+use Rattle.sets.specs.LeastLaws.{edge_at}
+use Rattle.passes.specs.PassLaws.{put_as}
 use Rattle.passes.proofs.put_edge.Goals as goal
 
-pub returns-then-new-old : goal.returns-then-new-old
-returns-then-new-old c =
-    put_as c.from-f.ensures c.also-a.ensures c.to-t.ensures
-    (put_more _ _ _ c.args.sets.now _ c.if-t-sets.true (λ i. search rules) c.if-new-old.true)
-
-pub returns-else-new-old : goal.returns-else-new-old
-returns-else-new-old c = put_as c.from-f.ensures c.also-a.ensures c.to-t.ensures (put_nothing _ _ _ _ _ c.if-new-old.false)
-
-pub returns-else-f-sets : goal.returns-else-f-sets
-returns-else-f-sets c =
-    put_as c.from-f.ensures c.also-a.ensures c.to-t.ensures
-    (elim c.else-f-sets.branch [
-      | else-f-sets-via-then-f-sets+else-a-sets w ↦ put_no_also _ _ _ _ _ w.if-a-sets.false
-      | else-f-sets-via-else-f-sets w ↦ put_no_from _ _ _ _ _ w.if-f-sets.false
-    ])
-
-pub returns-else-t-sets : goal.returns-else-t-sets
-returns-else-t-sets c = put_as c.from-f.ensures c.also-a.ensures c.to-t.ensures (put_no_to _ _ _ _ _ c.if-t-sets.false)
+pub returns : goal.returns
+unfolding edge_at
+returns c = put_as c.from_of-f.ensures (c.also_of.ensures ∙ ap (λ (f : ℕ). get_or c.args.edges.also.now c.args.k f) c.from_of-f.ensures) c.to_of-t.ensures c.put_along.ensures

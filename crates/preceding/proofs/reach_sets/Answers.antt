@@ -1,9 +1,10 @@
 -- `preceding::reach_sets` meets its contract. Assumes nothing.
-use Rattle.std.proofs.Common.{refl}
-use Rattle.start_edges.proofs.StartRoom.{reach_are}
+use Rattle.std.proofs.Common.{ap, ◌∙◌, refl, List, ℕ, map}
+use Rattle.sets.specs.Least.{Edge, edge_of}
 use Rattle.preceding.specs.AnswerLaws.{reach_answer}
 use Rattle.preceding.proofs.reach_sets.Goals as goal
 
 pub returns : goal.returns
 returns c =
-    reach_answer _ _ (reach_are _ c.fill_reach.ensures.accepted c.requires.edges_room refl c.fill_reach.ensures.grown c.edges.ensures) c.requires.reach_len c.fill_marked.ensures c.solve_plain.ensures
+    let edges = ap {B = List Edge} (λ (l : List ℕ). map edge_of l) c.edges.ensures ∙ (c.fill_reach.ensures.ready refl c.requires.edges_room).is in
+    reach_answer _ _ edges c.requires.reach_len c.fill_marked.ensures c.solve_plain.ensures

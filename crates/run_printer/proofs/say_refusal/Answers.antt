@@ -1,5 +1,5 @@
 -- `run_printer::say_refusal` meets its contract. Assumes nothing.
-use Rattle.std.proofs.Common.{rules, arith, OnOk, take, drop, replicate, ◌≡◌, ℕ, length, List, sym, ap, ◌∙◌, subst, take_at, length-take-le, ◌≤◌}
+use Rattle.std.proofs.Common.{arith, OnOk, take, drop, ◌≡◌, ℕ, length, List, sym, ap, ◌∙◌, subst, take_at, length-take-le, ◌≤◌}
 use Rattle.std.specs.Prelude.{Result, Ok, Err, Option}
 use Rattle.std.specs.Io.KnownBytes.{Appends}
 use Rattle.refusal.specs.Refusal.{refusal_in, over}

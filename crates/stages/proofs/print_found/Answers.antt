@@ -17,4 +17,4 @@ slice_bounds-print_report-end c = sym (length-take-le _ _ (omega (arith, c.requi
 pub print_report-requires : goal.print_report-requires
 print_report-requires c =
     let count = c.field_of-count.ensures.is ∙ ap statements c.program.view_is in
-    found c.args.program.now c.requires.flow_value (second_half c.args.work.now _ _ count ∙ c.requires.work_value_2) (laid_for c.program.view_is c.program.invariant).accepted (ap {B = List ℕ} (λ (n : ℕ). take n c.args.work.now) count ∙ c.requires.work_value) _ _ c.requires.shared_value c.note_accesses-noted.ensures
+    found c.args.solved.now.program.now c.args.solved.now.flow_is (second_half c.args.work.now _ _ count ∙ c.requires.work_value_2) (laid_for c.program.view_is c.program.invariant).accepted (ap {B = List ℕ} (λ (n : ℕ). take n c.args.work.now) count ∙ c.requires.work_value) _ _ c.requires.shared_value c.note_accesses-noted.ensures

@@ -10,4 +10,4 @@ future_sets-requires c = record { edges_room = c.requires.numbers_in_bounds; lat
 
 pub returns : goal.returns
 returns c =
-    c.shared_cells.ensures.is ∙ shared_found c.args.program.now c.shared_cells.ensures.accepted c.requires.reads_value c.requires.writes_value (later_known (table_of c.args.program.now) _ c.requires.flow_value _ _ _ c.requires.reads_value c.requires.writes_value c.future_sets.ensures)
+    c.shared_cells.ensures.is ∙ shared_found c.args.solved.now.program.now c.shared_cells.ensures.accepted c.requires.reads_value c.requires.writes_value (later_known (table_of c.args.solved.now.program.now) _ c.args.solved.now.flow_is _ _ _ c.requires.reads_value c.requires.writes_value c.future_sets.ensures)

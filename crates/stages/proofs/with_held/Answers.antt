@@ -8,9 +8,9 @@ use Rattle.stages.proofs.with_held.Goals as goal
 
 pub shared_of-shared-requires : goal.shared_of-shared-requires
 shared_of-shared-requires c =
-    record { flow_value = c.requires.flow_value; later_len = later_long c.args.program.now c.args.work.now _ _ (c.field_of-count.ensures.is ∙ ap statements c.program.view_is) c.routines.ensures.is c.requires.numbers_in_bounds; numbers_in_bounds = c.requires.numbers_in_bounds_2 }
+    record { later_len = later_long c.args.solved.now.program.now c.args.work.now _ _ (c.field_of-count.ensures.is ∙ ap statements c.program.view_is) c.routines.ensures.is c.requires.numbers_in_bounds; numbers_in_bounds = c.requires.numbers_in_bounds_2 }
 
 pub with_shared-requires : goal.with_shared-requires
 with_shared-requires c =
-    let kept = later_put c.args.program.now c.args.work.now _ _ (c.field_of-count.ensures.is ∙ ap statements c.program.view_is) c.routines.ensures.is c.requires.numbers_in_bounds (laid_for c.program.view_is c.program.invariant).accepted c.shared_of-shared.new.later c.shared_of-shared.auto.later in
-    record { flow_value = c.requires.flow_value; work_value = kept.0 ∙ c.requires.work_value; shared_value = c.shared_of-shared.ensures; numbers_in_bounds = kept.1; numbers_in_bounds_2 = omega (arith, c.requires.numbers_in_bounds_2, c.shared_of-shared.auto.edges) }
+    let kept = later_put c.args.solved.now.program.now c.args.work.now _ _ (c.field_of-count.ensures.is ∙ ap statements c.program.view_is) c.routines.ensures.is c.requires.numbers_in_bounds (laid_for c.program.view_is c.program.invariant).accepted c.shared_of-shared.new.later c.shared_of-shared.auto.later in
+    record { work_value = kept.0 ∙ c.requires.work_value; shared_value = c.shared_of-shared.ensures; numbers_in_bounds = kept.1; numbers_in_bounds_2 = omega (arith, c.requires.numbers_in_bounds_2, c.shared_of-shared.auto.edges) }

@@ -6,4 +6,4 @@ use Rattle.stages.proofs.with_shared.Goals as goal
 
 pub print_found-requires : goal.print_found-requires
 print_found-requires c =
-    record { flow_value = c.requires.flow_value; work_value = c.counted_holds.ensures.before ∙ c.requires.work_value; work_value_2 = counted_known c.args.program.now c.args.work.now _ c.requires.work_value c.counted_holds.ensures.behind; numbers_in_bounds = omega (arith, c.requires.numbers_in_bounds, c.counted_holds.auto.work); shared_value = c.requires.shared_value }
+    record { work_value = c.counted_holds.ensures.before ∙ c.requires.work_value; work_value_2 = counted_known c.args.solved.now.program.now c.args.work.now _ c.requires.work_value c.counted_holds.ensures.behind; numbers_in_bounds = omega (arith, c.requires.numbers_in_bounds, c.counted_holds.auto.work); shared_value = c.requires.shared_value }

@@ -6,4 +6,4 @@ use Rattle.statements.proofs.bad_among.Goals as goal
 
 pub returns : goal.returns
 returns c =
-    failing_is (statement_ok c.args.numbers.now c.args.r) c.args.from c.args.end _ (λ k b a h s. search (rules, of_calls)) c.first_failing.result c.first_failing.ensures
+    failing_is (statement_ok c.args.outline.now.numbers.now c.args.r) c.args.from c.args.end _ (λ k b a h s. search (rules, of_calls)) c.first_failing.result c.first_failing.ensures

@@ -9,7 +9,7 @@ unfolding naming_ok
 returns-then-field_of-q c = rw (le-ltb _ _ (rw (c.field_of-q.ensures.is, c.field_of.ensures.is) at c.if-field_of-q.true))
 
 pub arguments_ok-requires : goal.arguments_ok-requires
-arguments_ok-requires c = record { handles_begin = c.requires.handles_begin; parameters_counted = c.requires.parameters_counted; q_bound = omega (arith, c.field_of.ensures.is) }
+arguments_ok-requires c = omega (arith, c.field_of.ensures.is)
 
 pub returns : goal.returns
 unfolding naming_ok

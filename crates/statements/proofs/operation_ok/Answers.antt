@@ -30,8 +30,8 @@ pub returns-then-op-5 : goal.returns-then-op-5
 unfolding operation_ok own_statement
 returns-then-op-5 c =
     let inside = c.requires.r_bound in
-    let few = c.requires.statements_begin.sized.routines_most in
-    rw (c.if-op.false, c.if-op-2.false, c.if-op-3.false, ne_eqb _ _ c.if-op-eq7.false, c.if-op-4.false, c.if-op-5.true, c.own_statement.ensures, c.is_unused-then-op-5.ensures, c.field_of-a.ensures.is, statements_begin c.requires.statements_begin c.args.r (omega arith), statements_begin c.requires.statements_begin (c.args.r + 1) (omega arith))
+    let few = c.args.outline.now.statements_begin.sized.routines_most in
+    rw (c.if-op.false, c.if-op-2.false, c.if-op-3.false, ne_eqb _ _ c.if-op-eq7.false, c.if-op-4.false, c.if-op-5.true, c.own_statement.ensures, c.is_unused-then-op-5.ensures, c.field_of-a.ensures.is, statements_begin c.args.outline.now.statements_begin c.args.r (omega arith), statements_begin c.args.outline.now.statements_begin (c.args.r + 1) (omega arith))
 
 pub returns : goal.returns
 unfolding operation_ok

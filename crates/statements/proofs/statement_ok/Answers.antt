@@ -9,5 +9,5 @@ pub returns : goal.returns
 unfolding statement_ok
 returns c =
     let s = c.args.s in
-    let line = ap (λ (n : ℕ). n + s) c.first_line.ensures.is ∙ statement_line_lem c.args.numbers.now s in
+    let line = ap (λ (n : ℕ). n + s) c.first_line.ensures.is ∙ statement_line_lem c.args.outline.now.numbers.now s in
     rw (c.operation_ok.ensures, c.field_of.ensures.is, line)

@@ -4,7 +4,6 @@ use Prim.Native.Nat.{ℕ}
 use Rattle.std.specs.Prelude.{Ok, Err}
 use Rattle.std.specs.Result.{result_and}
 use Rattle.table.specs.Verdict.{Verdict}
-use Rattle.analysis.specs.Reported.{Answer}
 use Rattle.station.specs.Packed.{packed_answer, of_run, packed_outcome}
 use Rattle.station.proofs.station_run_packed.Goals as goal
 

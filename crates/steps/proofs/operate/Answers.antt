@@ -4,45 +4,33 @@ use mir.Syntax.{w32}
 use mir.Facts.{to_z-of_z}
 use mathlib.Core.Path.{refl}
 use mathlib.Core.Logic.{inl, inr}
-use Rattle.steps.proofs.Operating.{placed_here, cells_few, locks_few, slot_below, lines_there, named, room_here, did_read, did_write, did_set, did_add, did_take, did_give, did_point, did_call, did_start, did_jump, did_jump_zero, did_return, did_take_read}
+use Rattle.steps.proofs.Operating.{cells_few, locks_few, slot_below, lines_there, named, room_here, did_read, did_write, did_set, did_add, did_take, did_give, did_point, did_call, did_start, did_jump, did_jump_zero, did_return, did_take_read}
 use borrow.Author.Rules.{rules}
 use Rattle.steps.proofs.operate.Goals as goal
 
 pub read-requires : goal.read-requires
-read-requires c = (placed_here _ _ _ _ c.requires, cells_few _ _ _ _ c.requires)
+read-requires c = cells_few _ _ _ _ c.requires
 
 pub write-requires : goal.write-requires
-write-requires c = (placed_here _ _ _ _ c.requires, cells_few _ _ _ _ c.requires)
-
-pub set-requires : goal.set-requires
-set-requires c = placed_here _ _ _ _ c.requires
-
-pub add-requires : goal.add-requires
-add-requires c = placed_here _ _ _ _ c.requires
+write-requires c = cells_few _ _ _ _ c.requires
 
 pub take-requires : goal.take-requires
-take-requires c = (placed_here _ _ _ _ c.requires, locks_few _ _ _ _ c.requires)
+take-requires c = locks_few _ _ _ _ c.requires
 
 pub give-requires : goal.give-requires
-give-requires c = (placed_here _ _ _ _ c.requires, locks_few _ _ _ _ c.requires)
-
-pub point-requires : goal.point-requires
-point-requires c = placed_here _ _ _ _ c.requires
+give-requires c = locks_few _ _ _ _ c.requires
 
 pub call-requires : goal.call-requires
-call-requires c = (named _ _ _ _ c.requires _ _ (inl c.in-Call.is), placed_here _ _ _ _ c.requires, c.requires.newest, room_here _ _ _ _ c.requires _ _ c.in-Call.is, lines_there _ _ _ _ c.requires)
+call-requires c = (named _ _ _ _ c.requires _ _ (inl c.in-Call.is), c.requires.newest, room_here _ _ _ _ c.requires _ _ c.in-Call.is, lines_there _ _ _ _ c.requires)
 
 pub start-requires : goal.start-requires
-start-requires c = (named _ _ _ _ c.requires _ _ (inr c.in-Start.is), placed_here _ _ _ _ c.requires, slot_below _ _ _ _ c.requires, lines_there _ _ _ _ c.requires)
-
-pub jump_zero-requires : goal.jump_zero-requires
-jump_zero-requires c = placed_here _ _ _ _ c.requires
+start-requires c = (named _ _ _ _ c.requires _ _ (inr c.in-Start.is), slot_below _ _ _ _ c.requires, lines_there _ _ _ _ c.requires)
 
 pub close-requires : goal.close-requires
-close-requires c = (placed_here _ _ _ _ c.requires, c.requires.newest)
+close-requires c = c.requires.newest
 
 pub take_read-requires : goal.take_read-requires
-take_read-requires c = (placed_here _ _ _ _ c.requires, locks_few _ _ _ _ c.requires)
+take_read-requires c = locks_few _ _ _ _ c.requires
 
 pub returns-in-Read : goal.returns-in-Read
 returns-in-Read c = did_read _ _ _ _ c.requires _ _ _ c.in-Read.is c.read.ensures.0 c.read.ensures.1

@@ -2,7 +2,7 @@
 use mathlib.Core.Path.{refl}
 use native.Mathlib.Omega.{arith}
 use Rattle.steps.specs.StepLaws.{not_started, has_ended}
-use Rattle.steps.proofs.Operating.{lined, here_at}
+use Rattle.steps.proofs.Operating.{lined, placed_there, here_at}
 use Rattle.steps.proofs.step.Goals as goal
 
 pub returns-then-state-n : goal.returns-then-state-n
@@ -17,5 +17,9 @@ overflow_add-program c = record { fits = omega (arith, (lined _ _ _ _ c.requires
 pub statement_at-statement-requires : goal.statement_at-statement-requires
 statement_at-statement-requires c = (lined _ _ _ _ c.requires c.if-state-n.false refl c.if-count-eq0.false _ refl).there
 
+pub invariant_of-at : goal.invariant_of-at
+invariant_of-at c =
+    let p = placed_there _ _ _ _ c.requires c.if-state-n.false refl c.if-count-eq0.false _ refl in record { thread_low = p.thread_low; slot_low = p.slot_low; next_low = p.next_low }
+
 pub operate-requires : goal.operate-requires
-operate-requires c = here_at _ _ _ _ c.requires c.if-state-n.false refl c.if-count-eq0.false _ _ refl c.statement_at-statement.ensures
+operate-requires c = here_at _ _ _ _ c.requires c.if-state-n.false refl c.if-count-eq0.false _ _ _ _ _ refl c.statement_at-statement.ensures

@@ -13,15 +13,15 @@ pub bad_among-requires-clause-r_bound : goal.bad_among-requires-clause-r_bound
 bad_among-requires-clause-r_bound c = omega (arith, c.field_of-count.ensures.is, c.loop-r-test.true)
 
 pub bad_among-requires-clause-end_bound : goal.bad_among-requires-clause-end_bound
-bad_among-requires-clause-end_bound c = omega (arith, c.value_at-end.ensures, begin_early c.requires.statements_begin (c.loop-r.r + 1))
+bad_among-requires-clause-end_bound c = omega (arith, c.value_at-end.ensures, begin_early c.args.outline.now.statements_begin (c.loop-r.r + 1))
 
 pub returns-in-Some : goal.returns-in-Some
 returns-in-Some c =
-    stopped_there c.requires.statements_begin _ c.field_of-count.ensures.is _ _ _ c.loop-r-test.true c.value_at-from.ensures c.value_at-end.ensures c.loop-r.invariant _ c.in-Some.ensures
+    stopped_there c.args.outline.now.statements_begin _ c.field_of-count.ensures.is _ _ _ c.loop-r-test.true c.value_at-from.ensures c.value_at-end.ensures c.loop-r.invariant _ c.in-Some.ensures
 
 pub loop-r-preserved : goal.loop-r-preserved
 loop-r-preserved c =
-    went_on c.requires.statements_begin _ c.field_of-count.ensures.is _ _ _ c.loop-r-test.true c.value_at-from.ensures c.value_at-end.ensures c.loop-r.invariant (sym c.in_default.is ∙ c.bad_among.ensures)
+    went_on c.args.outline.now.statements_begin _ c.field_of-count.ensures.is _ _ _ c.loop-r-test.true c.value_at-from.ensures c.value_at-end.ensures c.loop-r.invariant (sym c.in_default.is ∙ c.bad_among.ensures)
 
 pub returns : goal.returns
-returns c = found_none c.requires.statements_begin _ c.field_of-count.ensures.is _ c.loop-r.invariant c.loop-r-test.false
+returns c = found_none c.args.outline.now.statements_begin _ c.field_of-count.ensures.is _ c.loop-r.invariant c.loop-r-test.false

@@ -17,7 +17,7 @@ returns-in-Some-bad_routine c =
     rw (below_none _ _ (sym c.in_default.is ∙ c.bad_handle.ensures), f.0, f.1, c.field_of.ensures.is)
 
 pub sum_ok-requires : goal.sum_ok-requires
-sum_ok-requires c = record { first_value = c.first_statements-first.ensures; numbers_bound = c.requires.routines_most }
+sum_ok-requires c = record { first_value = c.of-extents.ensures.firsts; numbers_bound = c.requires.routines_most }
 
 pub returns-then-not-sum_ok : goal.returns-then-not-sum_ok
 unfolding declaration_verdict
@@ -28,13 +28,14 @@ returns-then-not-sum_ok c =
       sym c.sum_ok.ensures ∙ c.if-not-sum_ok.true,
     )
 
-pub statement_verdict-requires : goal.statement_verdict-requires
+pub invariant_of-statement_verdict : goal.invariant_of-statement_verdict
 unfolding sum_ok
-statement_verdict-requires c =
+invariant_of-statement_verdict c =
+    let made = c.of-extents.ensures in
     record {
-      sized = c.requires;
-      sum = eqb-true _ _ (sym c.sum_ok.ensures ∙ c.if-not-sum_ok.false);
-      is = c.first_statements-first.ensures;
+      statements_begin = record { sized = c.requires; sum = eqb-true _ _ (sym c.sum_ok.ensures ∙ c.if-not-sum_ok.false); is = made.firsts };
+      handles_begin = record { sized = c.requires; is = made.handles_first };
+      parameters_counted = record { sized = c.requires; is = made.parameters };
     }
 
 pub returns : goal.returns

@@ -7,4 +7,4 @@ use Rattle.reader.proofs.checks.running_on.Goals as goal
 pub returns : goal.returns
 returns c =
     rw c.field_of.ensures.is at
-    (failing_from_zero (end_ok c.args.numbers.now) c.field_of.result _ (λ k b h s. search (rules, of_calls)) c.first_failing.result c.first_failing.ensures)
+    (failing_from_zero (end_ok c.args.outline.now.numbers.now) c.field_of.result _ (λ k b h s. search (rules, of_calls)) c.first_failing.result c.first_failing.ensures)

@@ -1,8 +1,0 @@
--- `initial::in_routine` meets its contract. Assumes nothing.
-use Rattle.table.specs.Table.{table_of}
-use Rattle.initial.specs.InitialSets.{own_at}
-use Rattle.initial.specs.UnionLaws.{Uniting}
-use Rattle.initial.proofs.in_routine.Given as goal
-
-abbrev pub invariant-loop-s : goal.invariant-loop-s
-invariant-loop-s l = Uniting (own_at l.act l.flow (table_of l.program)) l.begin l.initial.s l.s l.all
