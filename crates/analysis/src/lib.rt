@@ -7,8 +7,7 @@ ghost use Rattle.lines.specs.Line.{line_count};
 ghost use Rattle.table.specs.Header.{statements, statement_line};
 ghost use Rattle.table.specs.Table.{table_of};
 ghost use Rattle.table.specs.Accepted.{Accepted};
-ghost use Rattle.report.specs.Report.{report_text};
-ghost use Rattle.report_printer.specs.Printed.{bytes_in, printed_over, counts_nothing};
+ghost use Rattle.report_printer.specs.Printed.{Reports};
 ghost use Rattle.stages.specs.Lent.{Lent};
 ghost use Rattle.analysis.specs.Reported.{report_answer, reported_into, loadable, examined_in};
 
@@ -27,9 +26,7 @@ fn examine_in<const WORK: usize, const EDGES: usize>(numbers: &[i32], out: &mut 
     requires accepted { Accepted (table_of numbers.now) }
     requires lent { Lent numbers.now (replicate WORK 0) (replicate EDGES 0) }
     requires small { (WORK < 2 ^ 32) × (EDGES < 2 ^ 32) }
-    ensures bytes { result.bytes ≡ bytes_in (report_text (table_of numbers.now)) (length out.old) }
-    ensures clean { result.clean ≡ counts_nothing (table_of numbers.now) }
-    ensures buffer { out.new ≡ printed_over (report_text (table_of numbers.now)) out.old }
+    ensures { Reports (table_of numbers.now) out.old out.new result }
 {
     let mut work = [0u64; WORK];
     let mut edges = [0u32; EDGES];
@@ -40,9 +37,7 @@ fn examine_in<const WORK: usize, const EDGES: usize>(numbers: &[i32], out: &mut 
 fn examine_sized(numbers: &[i32], out: &mut [u8]) -> Printed
     requires accepted { Accepted (table_of numbers.now) }
     requires numbers_len { length numbers.now ≡ 8 * statement_line numbers.now (statements numbers.now) }
-    ensures bytes { result.bytes ≡ bytes_in (report_text (table_of numbers.now)) (length out.old) }
-    ensures clean { result.clean ≡ counts_nothing (table_of numbers.now) }
-    ensures buffer { out.new ≡ printed_over (report_text (table_of numbers.now)) out.old }
+    ensures { Reports (table_of numbers.now) out.old out.new result }
 {
     if numbers.len() <= 512 {
         return examine_in::<192, 256>(numbers, out);

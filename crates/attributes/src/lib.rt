@@ -4,7 +4,7 @@
 // Operations are numbers here, as in the line: they are read before they are known to be any.
 ghost use Rattle.std.specs.Prelude.{◌≡◌, get_or};
 ghost use Rattle.table.specs.Fields.{field};
-ghost use Rattle.table.specs.Table.{passed, statement_in};
+ghost use Rattle.table.specs.Table.{statement_in};
 ghost use Rattle.table.specs.View.{view, set_on, calls, starts, in_mode, takes_to_read};
 ghost use Rattle.table.specs.ViewLaws.{first_if, second_if, arguments_if};
 
@@ -40,12 +40,7 @@ fn arguments_if(numbers: &[i32], line: usize, test: bool) -> Arguments
             fourth: field_of(numbers, line, 6),
         }
     } else {
-        Arguments {
-            first: 0,
-            second: 0,
-            third: 0,
-            fourth: 0,
-        }
+        Arguments::default()
     }
 }
 
@@ -163,19 +158,6 @@ pub fn starts_at(numbers: &[i32], line: usize) -> Option<usize>
     ensures { result ≡ starts (view (statement_in numbers.now line (field numbers.now line 1))) }
 {
     first_if(numbers, line, field_of(numbers, line, 1) == 9)
-}
-
-// The handle that is passed for parameter `k`; 0 where there is none.
-pub fn argument_of(arguments: Arguments, k: usize) -> usize
-    ensures { result ≡ get_or (passed arguments) k 0 }
-{
-    match k {
-        0 => arguments.first,
-        1 => arguments.second,
-        2 => arguments.third,
-        3 => arguments.fourth,
-        _ => 0,
-    }
 }
 
 // The set of what is referred to, by its place in a list; the empty set if it is nothing.

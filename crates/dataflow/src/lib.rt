@@ -1,6 +1,8 @@
 #![tactic(auto)]
 // Flow, effects and given-up locks of an accepted table, each the least sets along the edges of its equation: flow by passes over the statements from the
 // highest number down, the others by the solver.
+// Flow sets go beside the program: any list serves, and `stages::Solved` is a program with its own.
+// Reads and writes are two lists, since each is lent and filled by itself.
 // `edges` lends the room for the edges, four a statement; what stands in it before does not matter, and what is left in it says nothing.
 // The room is lent from above, since there is no heap, and lent on in parts, so each function says how much it needs: of a struct
 // of program and room each contract would have to say too that they are the same lists.

@@ -14,19 +14,17 @@ pub record Measured (f : List ℤ) (x : Extents) : Type 0 where
   pub handles_first : x.handle ≡ first_handles f
   pub parameters : x.counts ≡ parameter_counts f
 
-pub record Laid (f : List ℤ) (base : ℕ) (first handle counts : List ℕ) : Type 0 where
+pub record Laid (f : List ℤ) (base : ℕ) (x : Extents) : Type 0 where
   pub accepted : Accepted (table_of f)
   pub base_is : base ≡ statement_line f 0
-  pub firsts : first ≡ first_statements f
-  pub handles_first : handle ≡ first_handles f
-  pub parameters : counts ≡ parameter_counts f
+  pub measured : Measured f x
 
 -- for the numbers that a contract speaks of
-pub laid_for : {f g : List ℤ} {base : ℕ} {first handle counts : List ℕ} → f ≡ g → Laid f base first handle counts → Laid g base first handle counts
-laid_for {base} {first} {handle} {counts} e l = subst (λ (h : List ℤ). Laid h base first handle counts) e l
+pub laid_for : {f g : List ℤ} {base : ℕ} {x : Extents} → f ≡ g → Laid f base x → Laid g base x
+laid_for {base} {x} e l = subst (λ (h : List ℤ). Laid h base x) e l
 
-module _ {f g : List ℤ} {base : ℕ} {first handle counts : List ℕ} (e : f ≡ g) (l : Laid f base first handle counts) where
-  laid : Laid g base first handle counts
+module _ {f g : List ℤ} {base : ℕ} {x : Extents} (e : f ≡ g) (l : Laid f base x) where
+  laid : Laid g base x
   laid = laid_for e l
 
   pub some_statements : 1 ≤ statements g

@@ -1,4 +1,5 @@
-// The header's rule, and the first field of each line.
+// The header's rule, and the first field of each line. Numbers and how many lines the text has go apart: a text's numbers may be more than its lines' until
+// rule 4 holds.
 ghost use Rattle.std.specs.Prelude.{◌≡◌, ◌-◌};
 ghost use Rattle.table.specs.Until.{until};
 ghost use Rattle.table.specs.Found.{below};

@@ -31,18 +31,17 @@ fn routine_count(numbers: &[i32]) -> usize
     field_of(numbers, 0, 4).min(32)
 }
 
-// The first statement of each routine, behind the last routine's the number of statements dealt out, then zeros.
-pub fn first_statements(numbers: &[i32]) -> [usize; 33]
-    ensures { result ≡ first_statements numbers.now }
+// Fills a list with the first statement of each routine, behind the last routine's the number of statements dealt out, then zeros.
+fn fill_first_statements(numbers: &[i32], first: &mut [usize; 33])
+    ensures { first.new ≡ first_statements numbers.now }
 {
     let count = routine_count(numbers);
-    let mut first = [0usize; 33];
     let mut sum = 0;
+    *first = [0usize; 33];
     for r in 0..count {
         sum += count_at(numbers, r);
         first[r + 1] = sum;
     }
-    first
 }
 
 // Refusal 8's rule.
@@ -54,32 +53,30 @@ pub fn sum_ok(numbers: &[i32], first: &[usize]) -> bool
     value_at(first, field_of(numbers, 0, 4), 0) == field_of(numbers, 0, 5)
 }
 
-// The first handle of each routine, behind the last routine's the number of handles, then zeros.
-pub fn first_handles(numbers: &[i32]) -> [usize; 33]
-    ensures { result ≡ first_handles numbers.now }
+// Fills a list with the first handle of each routine, behind the last routine's the number of handles, then zeros.
+fn fill_first_handles(numbers: &[i32], from: &mut [usize; 33])
+    ensures { from.new ≡ first_handles numbers.now }
 {
     let handles = field_of(numbers, 0, 3);
     let count = routine_count(numbers);
-    let mut from = [0usize; 33];
     let mut h = 0;
+    *from = [0usize; 33];
     for r in 0..count {
         h = skip(numbers, 1, r, h, handles);
         from[r + 1] = h;
     }
-    from
 }
 
-// How many parameters each routine has, then zeros.
-pub fn parameter_counts(numbers: &[i32], handle: &[usize]) -> [usize; 32]
+// Fills a list with how many parameters each routine has, then zeros.
+fn fill_parameter_counts(numbers: &[i32], handle: &[usize], counts: &mut [usize; 32])
     requires { handle.now ≡ first_handles numbers.now }
-    ensures { result ≡ parameter_counts numbers.now }
+    ensures { counts.new ≡ parameter_counts numbers.now }
 {
     let count = routine_count(numbers);
-    let mut counts = [0usize; 32];
+    *counts = [0usize; 32];
     for r in 0..count {
         let from = value_at(handle, r, 0);
         let end = skip(numbers, 3, 0, from, value_at(handle, r + 1, 0));
         counts[r] = end - from;
     }
-    counts
 }

@@ -1,7 +1,6 @@
-// An accepted table, with the line of its first statement and the lists that say where each routine's statements and handles begin and how many parameters
-// it has.
+// An accepted table, with the line of its first statement and its extents.
 ghost use Rattle.std.specs.Prelude.{◌≡◌, ◌<◌, ◌≤◌, List, ℤ};
-ghost use Rattle.table.specs.Header.{handles, routines, statements, statement_line};
+ghost use Rattle.table.specs.Header.{locks, handles, routines, statements, statement_line};
 ghost use Rattle.table.specs.Table.{table_of};
 ghost use Rattle.table.specs.Accepted.{Accepted};
 ghost use Rattle.declarations.specs.Laid.{Laid, Measured};
@@ -14,9 +13,7 @@ use std::marker::Model;
 pub struct Program<'a> {
     pub numbers: &'a [i32],
     pub base: usize,
-    pub first: &'a [usize],
-    pub handle: &'a [usize],
-    pub counts: &'a [usize],
+    pub extents: &'a Extents,
 }
 
 impl<'a> Model for Program<'a> {
@@ -24,7 +21,7 @@ impl<'a> Model for Program<'a> {
 
     ghost view = { λ p. p.numbers.now };
 
-    ghost invariant = { λ p. Laid p.numbers.now p.base p.first.now p.handle.now p.counts.now };
+    ghost invariant = { λ p. Laid p.numbers.now p.base p.extents.now };
 }
 
 impl<'a> Program<'a> {
@@ -37,14 +34,13 @@ impl<'a> Program<'a> {
         Program {
             numbers,
             base: table::first_line(numbers),
-            first: &extents.first,
-            handle: &extents.handle,
-            counts: &extents.counts,
+            extents,
         }
     }
 
-    // How many statements it has.
+    // How many statements it has. (`accepted`, here and in promises of crates above, is how a caller learns what the type says.)
     pub fn statements(&self) -> usize
+        ensures accepted { Accepted (table_of self.now) }
         ensures is { result ≡ statements self.now }
         ensures some { 1 ≤ result }
         ensures few { result ≤ 512 }
@@ -66,6 +62,13 @@ impl<'a> Program<'a> {
         ensures few { result ≤ 128 }
     {
         table::field_of(self.numbers, 0, 3)
+    }
+
+    // How many locks it has.
+    pub fn locks(&self) -> usize
+        ensures { result ≡ locks self.now }
+    {
+        table::field_of(self.numbers, 0, 2)
     }
 
     // The line of statement `s`.

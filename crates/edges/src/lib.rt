@@ -35,7 +35,7 @@ pub fn owner_of(program: &Program<'_>, r: usize, s: usize) -> usize
     ensures is { result ≡ owner_of (table_of program.now) s }
     ensures near { Near program.now result (s + 1) }
 {
-    if lists::value_at(program.first, r + 1, 0) <= s {
+    if lists::value_at(&program.extents.first, r + 1, 0) <= s {
         return r + 1;
     }
     r
@@ -52,7 +52,7 @@ pub fn append_each<F: Fn(&mut EdgeList<'_>, usize, usize)>(
     ensures grown { (part : ℕ → List Edge) → Appends (F.post append) program.now part → Grown list.old list.new (joined_from 0 (statements program.now) part) }
 {
     let mut c = 0;
-    for s in 0..table::field_of(program.numbers, 0, 5) {
+    for s in 0..program.statements() {
         c = owner_of(program, c, s);
         append(list, s, c);
     }
@@ -64,7 +64,7 @@ fn append_passing(arguments: Arguments, begin: usize, count: usize, list: &mut E
     ensures { Grown list.old list.new (passing_from arguments begin count) }
 {
     for j in 0..count {
-        list.push(attributes::argument_of(arguments, j), begin + j);
+        list.push(arguments.at(j), begin + j);
     }
 }
 
@@ -79,11 +79,11 @@ fn append_flow(program: &Program<'_>, s: usize, list: &mut EdgeList<'_>)
     list.push_to(attributes::source_at(numbers, line), 0, points);
     if let Some(q) = attributes::names_at(numbers, line) {
         let arguments = attributes::arguments_at(numbers, line);
-        let begin = lists::value_at(program.handle, q, 0);
+        let begin = lists::value_at(&program.extents.handle, q, 0);
         append_passing(
             arguments,
             begin,
-            lists::value_at(program.counts, q, 0),
+            lists::value_at(&program.extents.counts, q, 0),
             list,
         );
     }
@@ -156,7 +156,7 @@ pub fn fill_nexts(program: &Program<'_>, list: &mut EdgeList<'_>)
 }
 
 // Appends the edges from statement `s`, whose line is `line`, if it is a CALL, and from the CALLs of its routine `c`, to those of the routine that it names;
-// the places of a routine's CALLs stand from `end` on, the number of statements.
+// the places of a routine's CALLs stand from `end` on, the number of statements. Of any text's numbers, so no `Program`.
 pub fn append_callers(
     numbers: &[i32],
     line: usize,

@@ -1,4 +1,4 @@
-// A list of edges, filled from the front in room that a caller lends.
+// A list of edges, filled from the front in room that a caller lends. It is made by its fields, in one place a function: `used` is where the caller begins.
 // Casts are by `as` where `From` has no way and `TryFrom` would answer with a `Result` that cannot fail.
 ghost use Rattle.std.specs.Prelude.{◌≡◌, [], ◌∷◌, ◌≤◌, ◌+◌, length, take};
 
@@ -17,7 +17,7 @@ impl<'a> EdgeList<'a> {
     pub fn edges(&self) -> &[u32]
         ensures { result.now ≡ take self.now.used self.now.room.now }
     {
-        &self.room[..self.used.min(self.room.len())]
+        lists::front(self.room, self.used)
     }
 
     // Appends the edge from `f` to `t`. Where there is no room, or a number is too large, nothing changes.

@@ -8,24 +8,12 @@ ghost use Rattle.table.specs.Table.{table_of};
 ghost use Rattle.table.specs.Accepted.{Accepted};
 ghost use Rattle.machine.specs.State.{start};
 ghost use Rattle.machine.specs.Engine.{engine_run, answers as answersOf};
-ghost use Rattle.run_state.specs.Shown.{Fixed};
 ghost use Rattle.engine.specs.Run.{outcome_of, answers_left, cells_left};
 
+use declarations::outline::Extents;
+use declarations::program::Program;
 use run_state::{Loaded, State};
 use table::Refusal;
-
-// What a run of an accepted table's numbers never changes.
-pub fn program_of(numbers: &[i32]) -> Loaded<'_>
-    requires { Accepted (table_of numbers.now) × (length numbers.now ≡ 8 * statement_line numbers.now (statements numbers.now)) }
-    ensures { (result.numbers.now ≡ numbers.now) × Fixed result }
-{
-    Loaded {
-        numbers,
-        first: declarations::first_statements(numbers),
-        handle: declarations::first_handles(numbers),
-        sizes: run_state::sizes_of(numbers),
-    }
-}
 
 // The run of an accepted table by a schedule, with a list that is as long as the table has cells.
 fn run_accepted(numbers: &[i32], schedule: &[u8], answers: &mut [u8], cells: &mut [i32])
@@ -33,10 +21,11 @@ fn run_accepted(numbers: &[i32], schedule: &[u8], answers: &mut [u8], cells: &mu
     ensures answers_after { answers.new ≡ answersOf (table_of numbers.now) (start (table_of numbers.now)) schedule.now ++ drop (length schedule.now) answers.old }
     ensures cells_after { cells.new ≡ (engine_run (table_of numbers.now) (start (table_of numbers.now)) schedule.now).cells }
 {
-    let program = program_of(numbers);
+    let extents = Extents::of(numbers);
+    let loaded = Loaded::new(Program::new(numbers, &extents));
     let mut state = State::new();
-    run_state::begin(&program, &mut state);
-    steps::follow(&program, schedule, answers, &mut state);
+    run_state::begin(&loaded, &mut state);
+    steps::follow(&loaded, schedule, answers, &mut state);
     state.leave(cells);
 }
 

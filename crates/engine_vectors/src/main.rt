@@ -1,40 +1,21 @@
 // The runs of data/, each with its answers beside it: RR-NN is run NN of request RR, and 01 is document 01. The engine's number and line, its cells, and at
 // how many places of the answers it leaves what is stored, where a refused run has no answers and so the buffer as it was; then the edges: an empty schedule, a sum at the top of the range, and buffers one too short and
-// longer than needed.
+// longer than needed. Where to print goes beside what is printed, which is another thing each time. A name is put together by bytes: there is no heap for text.
 #![tactic(auto)]
 
-use run_printer::{Tail, load};
+use run_printer::{load, say_words};
 use std::io;
 use std::rt::Files;
 use table::Refusal;
 
-fn say(rt: &impl Print, text: &[u8]) -> io::Result<()> {
-    rt.write_all(text)
-}
-
-// What `put` puts, behind a comma, a space and what it is.
-fn say_words<F: FnOnce(&mut Tail<'_>)>(rt: &impl Print, what: &[u8], put: F) -> io::Result<()>
-    requires { F.IsAlwaysCallable put }
-{
-    let mut out = [0u8; 2048];
-    let mut tail = Tail {
-        out: &mut out,
-        start: 2048,
-    };
-    put(&mut tail);
-    tail.put_text(what);
-    tail.put_text(b", ");
-    say(rt, tail.text())
-}
-
 // All the cells, a space before each.
 fn say_cells(rt: &impl Print, cells: &[i32]) -> io::Result<()> {
-    say_words(rt, b"cells", |tail| tail.put_values(cells))
+    say_words(rt, b", cells", |tail| tail.put_values(cells))
 }
 
 // All the answers, a space before each.
 fn say_answers(rt: &impl Print, answers: &[u8]) -> io::Result<()> {
-    say_words(rt, b"answers", |tail| tail.put_answers(answers))
+    say_words(rt, b", answers", |tail| tail.put_answers(answers))
 }
 
 // The number and the line of a call.
@@ -56,7 +37,7 @@ fn show(
     say_outcome(rt, engine::run(text, schedule, answers, cells))?;
     say_answers(rt, answers)?;
     say_cells(rt, cells)?;
-    say(rt, b"\n")
+    rt.write_all(b"\n")
 }
 
 // The number and the line of a call and the cells that it left.
@@ -104,7 +85,7 @@ fn show_named(
     show_beside(rt, text, &schedule[..m], &stored, &mut answers, &mut cells)
 }
 
-// Run `i` of the request that two digits name, with its answers beside it.
+// Run `i` of the request that two digits name, with its answers beside it. Digits by `as`: `TryFrom` has an error that cannot come.
 fn show_run(rt: &(impl Files + Print + Eprint), r: u8, q: u8, i: usize) -> io::Result<()> {
     let tens = (48 + i / 10 % 10) as u8;
     let ones = (48 + i % 10) as u8;
@@ -135,13 +116,13 @@ fn show_sum(rt: &impl Print, text: &[u8]) -> io::Result<()> {
     let mut cells = [99i32; 2];
     let outcome = engine::run(text, &schedule[..6443], &mut answers, &mut cells);
     say_left(rt, outcome, &cells)?;
-    say(rt, b"\n")?;
+    rt.write_all(b"\n")?;
     schedule[6443] = 1;
     schedule[6444] = 1;
     schedule[6445] = 1;
     let after = engine::run(text, &schedule, &mut answers, &mut cells);
     say_left(rt, after, &cells)?;
-    say(rt, b"\n")
+    rt.write_all(b"\n")
 }
 
 // An empty schedule; buffers that just fit; one answer and one cell too few.

@@ -1,5 +1,6 @@
 #![tactic(auto)]
 // What the report says of cells and GIVEs, from the sets of a table. A statement is seen by its view.
+// Flow sets go beside the program: any list serves, and `stages::Solved` is a program with its own.
 // Flow sets, held sets, effects and futures come out of different equations, in lists of their own: a struct of all would ask for more than each function
 // needs.
 ghost use Rattle.std.specs.Prelude.{◌≡◌, ℕ, Bool, ◌+◌, ◌≤◌, ◌<◌, ◌^◌, get_or};
@@ -13,7 +14,8 @@ ghost use Rattle.findings.specs.NoteLaws.{NotedAt, Marked, CountsFew};
 
 use declarations::program::Program;
 
-// For each cell the locks common to all its accesses, how many statements read it themselves, and how many write it.
+// For each cell the locks common to all its accesses, how many statements read it themselves, and how many write it: three arrays, since `note` lends a count
+// of reads or of writes.
 #[derive(Clone, Copy)]
 pub struct Noted {
     pub common: [u64; 64],
@@ -51,7 +53,7 @@ fn note_access(program: &Program<'_>, s: usize, flow: &[u64], held: u64, noted: 
 pub fn note_accesses(program: &Program<'_>, flow: &[u64], held: &[u64]) -> Noted
     ensures { result ≡ noted_by program.now flow.now held.now }
 {
-    let all = sets::firsts(table::field_of(program.numbers, 0, 2));
+    let all = sets::firsts(program.locks());
     let mut noted = Noted {
         common: [all; 64],
         reads: [0; 64],
@@ -61,19 +63,6 @@ pub fn note_accesses(program: &Program<'_>, flow: &[u64], held: &[u64]) -> Noted
         note_access(program, s, flow, lists::value_at(held, s, 0), &mut noted);
     }
     noted
-}
-
-// The union of what `value` says of each statement.
-fn unite_each<F: Fn(usize) -> u64>(program: &Program<'_>, value: F) -> u64
-    requires { (s : ℕ) → s < statements program.now → F.pre value s }
-    ensures accepted { Accepted (table_of program.now) }
-    ensures is { (at : ℕ → ℕ) → ((s r : ℕ) → s < statements program.now → F.post value s r → r ≡ at s) → result ≡ union_from 0 (statements program.now) at }
-{
-    let mut all = 0;
-    for s in (0..table::field_of(program.numbers, 0, 5)).rev() {
-        all = sets::union(value(s), all);
-    }
-    all
 }
 
 // How many numbers below `n` pass the test.
@@ -100,7 +89,8 @@ fn clash(reads: u64, writes: u64, later_reads: u64, later_writes: u64) -> u64
     sets::intersection(both, sets::union(writes, later_writes))
 }
 
-// The cells shared at statement `s`; what it may write later stands `half` places behind what it may read.
+// The cells shared at statement `s`; what it may write later stands `half` places behind what it may read: any list is taken, and
+// only of a long one could the two be cut apart.
 fn shared_at(
     program: &Program<'_>,
     s: usize,
@@ -130,8 +120,9 @@ pub fn shared_cells(program: &Program<'_>, reads: &[u64], writes: &[u64], later:
     ensures is { result ≡ union_from 0 (statements program.now) (shared_by program.now reads.now writes.now later.now (statements program.now + routines program.now)) }
 {
     let half = program.statements() + program.routines();
-    unite_each(
-        program,
+    initial::unite_each(
+        0,
+        program.statements(),
         |s| shared_at(program, s, reads, writes, later, half),
     )
 }
@@ -152,10 +143,10 @@ pub fn started(program: &Program<'_>) -> u64
     ensures accepted { Accepted (table_of program.now) }
     ensures is { result ≡ union_from 0 (statements program.now) (started_by program.now) }
 {
-    unite_each(program, |s| started_at(program, s))
+    initial::unite_each(0, program.statements(), |s| started_at(program, s))
 }
 
-// Whether statement `s`, whose line is `line`, is a GIVE that is stray where `held` is held.
+// Whether statement `s`, whose line is `line`, is a GIVE that is stray where `held` is held; of any text's numbers, so no `Program`.
 pub fn is_stray(numbers: &[i32], s: usize, line: usize, flow: &[u64], held: u64) -> bool
     requires { line ≡ statement_line numbers.now s }
     ensures { result ≡ stray_by (λ h. get_or flow.now h 0) held (statement_of numbers.now s) }

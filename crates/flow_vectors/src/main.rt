@@ -35,7 +35,8 @@ fn passes_of(numbers: &[i32]) -> usize
     passes_through(&Program::new(numbers, &extents))
 }
 
-// How many passes a text takes, with a list that has room for its numbers; 0 where it is refused.
+// How many passes a text takes, with a list that has room for its numbers; 0 where it is refused, as the definition and the printed line have it, since no accepted
+// table takes none.
 fn passes_in(text: &[u8], numbers: &mut [i32]) -> usize
     requires { length numbers.old ≡ 8 * line_count text.now }
     ensures { result ≡ passes_in text.now }
@@ -55,16 +56,15 @@ fn passes_for(text: &[u8]) -> usize
     passes_in(text, &mut numbers[..count])
 }
 
-// Prints the line of one argument: the name of a file, a space, how many passes its text takes, and a line feed.
-fn try_argument(rt: &(impl Files + Print + Eprint), path: &[u8]) -> io::Result<()> {
-    let Some(mut file) = run_printer::open(rt, path)? else {
-        return Ok(());
-    };
-    let mut text = [0u8; 65536];
-    let count = run_printer::read_full(&mut file, &mut text)?;
-    let passes = passes_for(&text[..count]);
+// A file's name, a space, how many passes its text takes, and a line feed.
+fn print_passes(rt: &impl Print, path: &[u8], text: &[u8]) -> io::Result<()> {
     rt.write_all(path)?;
-    println!(rt; " {passes}")
+    println!(rt; " {}", passes_for(text))
+}
+
+// One argument: the line of the file that it names.
+fn try_argument(rt: &(impl Files + Print + Eprint), path: &[u8]) -> io::Result<()> {
+    run_printer::with_file(rt, path, |text| print_passes(rt, path, text))
 }
 
 fn main(rt: HostRuntime) -> io::Result<()> {

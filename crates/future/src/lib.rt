@@ -3,6 +3,7 @@
 // for the edges, four a statement; what stands in it before does not matter, and what is left in it says nothing.
 // The room is lent from above, since there is no heap, and lent on in parts, so each function says how much it needs: of a struct
 // of program and room each contract would have to say too that they are the same lists.
+// Effects come as two lists, as `dataflow` leaves them.
 // `spread` goes through the statements itself: `edges::append_each` appends to a list of edges.
 ghost use Rattle.std.specs.Prelude.{◌≡◌, true, false, ◌++◌, map, ◌+◌, ◌*◌, ◌≤◌, length};
 ghost use Rattle.sets.specs.Least.{edge_of, least};
@@ -25,7 +26,7 @@ fn spread(program: &Program<'_>, out: &mut [u64])
     requires { length out.old ≡ statements program.now + routines program.now }
     ensures { out.new ≡ spread (statements program.now) (routines program.now) (owner_of (table_of program.now)) out.old }
 {
-    let end = table::field_of(program.numbers, 0, 5);
+    let end = program.statements();
     let mut c = 0;
     for s in 0..end {
         c = edges::owner_of(program, c, s);

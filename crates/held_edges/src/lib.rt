@@ -58,7 +58,7 @@ fn append_routine(program: &Program<'_>, c: usize, mode: Mode, list: &mut MetEdg
 {
     let writing = writing_alone(mode);
     let bases = bases_of(program.numbers);
-    let first = program.first;
+    let first = &program.extents.first;
     for s in lists::value_at(first, c, 0)..lists::value_at(first, c + 1, 0) {
         let view = attributes::view_at(program.numbers, program.line_of(s), writing);
         let here = Here {
@@ -84,7 +84,7 @@ pub fn fill(program: &Program<'_>, mode: Mode, list: &mut MetEdges<'_>)
         also: bases.every,
     };
     list.used = 0;
-    list.push(all, lists::value_at(program.first, 0, 0));
+    list.push(all, lists::value_at(&program.extents.first, 0, 0));
     for c in 0..program.routines() {
         append_routine(program, c, mode, list);
     }

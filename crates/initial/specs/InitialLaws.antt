@@ -42,11 +42,11 @@ module _ (t : Table) (s : ℕ) {v : View} (is : v ≡ view (statement t s)) wher
   own_is act flow e = ap {B = ℕ} (λ r. set_on r (λ (h : ℕ). get_or flow h 0)) (e ∙ ap (touched act) is)
 
   -- with the routine that it names
-  pub effect_is : (act : Act) (flow effect : List ℕ) {r n : Option ℕ} → r ≡ touched act v → n ≡ v.names
-      → union (set_on r (λ (h : ℕ). get_or flow h 0)) (set_on n (λ (q : ℕ). get_or effect q 0)) ≡ effect_at act flow effect t s
+  pub effect_is : (act : Act) (flow effect : List ℕ) {own : ℕ} {n : Option ℕ} → own ≡ own_set act flow (statement t s) → n ≡ v.names
+      → union own (set_on n (λ (q : ℕ). get_or effect q 0)) ≡ effect_at act flow effect t s
   unfolding effect_at named
   effect_is act flow effect e p =
-      ap₂ {C = ℕ} (λ (a b : ℕ). union a b) (own_is act flow e)
+      ap₂ {C = ℕ} (λ (a b : ℕ). union a b) e
       (ap {B = ℕ} (λ n. set_on n (λ (q : ℕ). get_or effect q 0)) (p ∙ ap (λ (v : View). v.names) is) ∙ sym (on_number (view (statement t s)).names (λ (q : ℕ). get_or effect q 0) 0))
 
   -- and what may come next

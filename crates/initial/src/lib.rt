@@ -1,13 +1,14 @@
 #![tactic(auto)]
 // The sets that each dataflow equation begins with, in lists that the caller lends.
 // `Act` is matched in `touched` alone, and a handle's origin is a number there as in its line.
-ghost use Rattle.std.specs.Prelude.{◌≡◌, ◌<◌, ℕ, length};
+ghost use Rattle.std.specs.Prelude.{◌≡◌, ◌≤◌, ◌<◌, ◌-◌, ℕ, length};
 ghost use Rattle.table.specs.Header.{handles, routines, statements};
 ghost use Rattle.table.specs.Fields.{field};
 ghost use Rattle.table.specs.Table.{table_of, statement, statement_in};
 ghost use Rattle.table.specs.Tabulate.{tabulate};
 ghost use Rattle.table.specs.View.{view, set_on};
 ghost use Rattle.report.specs.Flow.{start_of};
+ghost use Rattle.report.specs.Over.{union_from};
 ghost use Rattle.initial.specs.InitialSets.{touched, own_set, in_routine, effect_at, nexts_effect, future_initial};
 
 use declarations::program::Program;
@@ -20,7 +21,7 @@ pub enum Act {
     Writes,
 }
 
-// Fills the list with what `value` says of each place.
+// Fills the list with what `value` says of each place; by an index, since that is what `value` takes.
 pub fn fill_each<F: Fn(usize) -> u64>(out: &mut [u64], value: F)
     requires { (p : ℕ) → p < length out.old → F.pre value p }
     ensures { (at : ℕ → ℕ) → ((p r : ℕ) → p < length out.old → F.post value p r → r ≡ at p) → out.new ≡ tabulate (length out.old) at }
@@ -28,6 +29,18 @@ pub fn fill_each<F: Fn(usize) -> u64>(out: &mut [u64], value: F)
     for p in 0..out.len() {
         out[p] = value(p);
     }
+}
+
+// The union of what `value` says of each number from `from` on, below `end`.
+pub fn unite_each<F: Fn(usize) -> u64>(from: usize, end: usize, value: F) -> u64
+    requires { (s : ℕ) → from ≤ s → s < end → F.pre value s }
+    ensures { (at : ℕ → ℕ) → ((s r : ℕ) → from ≤ s → s < end → F.post value s r → r ≡ at s) → result ≡ union_from from (end - from) at }
+{
+    let mut all = 0;
+    for s in (from..end).rev() {
+        all = sets::union(value(s), all);
+    }
+    all
 }
 
 // What the set of handle `h` begins with: a local's start.
@@ -89,12 +102,9 @@ impl<'a> Acts<'a> {
         ensures { result ≡ in_routine self.now.act self.now.flow.now (table_of self.now.program.now) r }
     {
         let program = self.program;
-        let begin = lists::value_at(program.first, r, 0);
-        let mut all = 0u64;
-        for s in (begin..lists::value_at(program.first, r + 1, 0)).rev() {
-            all = sets::union(self.own_set(s), all);
-        }
-        all
+        let begin = lists::value_at(&program.extents.first, r, 0);
+        let end = lists::value_at(&program.extents.first, r + 1, 0);
+        unite_each(begin, end, |s| self.own_set(s))
     }
 
     // Fills the list with these unions, one for each routine.
@@ -122,15 +132,8 @@ impl<'a> Effects<'a> {
         if program.statements() <= s {
             return 0;
         }
-        let line = program.line_of(s);
-        let own = attributes::set_on(
-            touched(program.numbers, line, self.acts.act),
-            self.acts.flow,
-        );
-        sets::union(
-            own,
-            attributes::set_on(attributes::names_at(program.numbers, line), self.effect),
-        )
+        let names = attributes::names_at(program.numbers, program.line_of(s));
+        sets::union(self.acts.own_set(s), attributes::set_on(names, self.effect))
     }
 
     // The effect of the statement that is referred to, if one is.

@@ -2,14 +2,12 @@
 -- Assumes nothing.
 use Rattle.std.specs.Prelude.{◌≡◌, refl, ℕ, zero, suc, ◌+◌, ◌*◌, ◌-◌, ◌/◌, ◌%◌, ◌≤◌, ◌<◌, ◌^◌, Bool, true, false, ◌&&◌, List, [], ◌∷◌, ◌++◌, ℤ, pos, negsuc, nat_abs, ◌-ℤ◌, length, get_or, take, drop, set, replicate, Result, Ok, Err}
 use Rattle.std.specs.List.{list_all}
-use Rattle.std.proofs.Common.{sym, ap, ◌∙◌, arith, add-one, zero-add, append_assoc, append-nil, length-append, length-set, length-take, length-drop, drop_of_length-le, drop-cons, drop-drop, take_all, take_at, drop_at, ltb-true, ltb-false, lt-ltb, le-ltb, le-leb}
+use Rattle.std.proofs.Common.{sym, ap, ◌∙◌, arith, add-one, zero-add, append_assoc, append-nil, length-set, length-drop, drop_of_length-le, drop-cons, drop-drop, take_all, drop_at, ltb-true, ltb-false, lt-ltb, le-ltb, le-leb}
 use Rattle.std.proofs.lemmas.Bool.{lt-leb}
 use Rattle.std.proofs.Math.Nat.{pow-succ'}
 use Rattle.std.specs.Int.Signed.{lt_z}
-use Rattle.std.proofs.lemmas.List.{length-replicate, set-append_left, set_split}
+use Rattle.std.proofs.lemmas.List.{length-replicate, set_split}
 use Rattle.std.proofs.Math.Seq.{paste, append_snoc}
-use Rattle.std.proofs.lemmas.Slice.{put_mid-paste}
-use borrow.Rule.Slice.PartMut.{put_mid}
 use Rattle.std.proofs.lemmas.List.Edits.{length-paste, take-paste, drop-paste}
 use Rattle.fields.specs.Field.{in_field, decimal_text, field_text}
 use Rattle.fields.specs.FieldLaws.{text_last, text_more, text_width, field_text_lem, field_text_length, signed_pos, signed_negsuc}
@@ -142,82 +140,6 @@ pub filled_minus_field : {m₀ : ℕ} {cs : List ℕ} {m k : ℕ} → Filling m�
     → lt_z z (pos 0) ≡ true → set (set cs k (48 + m)) (k - 1) 45 ≡ field_text z
 filled_minus_field f h (pos n) e r g = absurd (omega (arith, ltb-true n 0 g))
 filled_minus_field f h (negsuc n) e r g = filled_minus f h n e (omega (arith, ltb-true n 99999 r))
-
--- a field written into a part
-
-set_behind : (p cs : List ℕ) (k x : ℕ) → set (p ++ cs) (length p + k) x ≡ p ++ set cs k x
-set_behind [] cs k x = rw zero-add
-set_behind (y ∷ p) cs k x = let e : suc (length p) + k ≡ suc (length p + k) = omega arith in rw e (ap (λ (l : List ℕ). y ∷ l) (set_behind p cs k x))
-
--- a store to one of six characters that stand in a part
-set_paste : (a : List ℕ) (at : ℕ) (cs : List ℕ) (k x : ℕ) → at ≤ length a → length cs ≡ 6 → k < 6 → set (paste a at cs 6) (at + k) x ≡ paste a at (set cs k x) 6
-set_paste a at cs k x h six l =
-    let p : length (take at a) ≡ at = rw length-take (omega arith) in
-    let w : at + k < length (take at a ++ cs) = rw (length-append, p) (omega arith) in
-    let s : set (take at a ++ cs) (at + k) x ≡ take at a ++ set cs k x = rw p at (set_behind (take at a) cs k x) in
-    rw (take_all 6 cs (omega arith), take_all 6 (set cs k x) (rw length-set (omega arith)), set-append_left (take at a ++ cs) (drop (at + 6) a) (at + k) x w, s)
-
--- six characters written over six others
-pub paste_over : (a : List ℕ) (at : ℕ) (s t b : List ℕ) → at + 6 ≤ length a → length s ≡ 6 → b ≡ paste a at s 6 → paste b at t 6 ≡ paste a at t 6
-paste_over a at s t b h six e =
-    let p : length (take at a) ≡ at = rw length-take (omega arith) in
-    let f : take at b ≡ take at a = ap (take at) e ∙ rw append_assoc (take_at (take at a) (take 6 s ++ drop (at + 6) a) at p) in
-    let g : drop (at + 6) b ≡ drop (at + 6) a = ap (drop (at + 6)) e ∙ drop-paste a at s 6 (omega arith) (omega arith) in
-    rw (f, g)
-
--- six characters stand in a from `at` on, all other places are as in a₀; m, and the digits behind place k, are the digits of m₀
-pub record Writing (a₀ : List ℕ) (at m₀ : ℕ) (a : List ℕ) (m k : ℕ) : Type 0 where
-  pub chars : List ℕ
-  pub room : at + 6 ≤ length a₀
-  pub few : k ≤ 5
-  pub sized : length a ≡ length a₀
-  pub filling : Filling m₀ chars m k
-  pub is : a ≡ paste a₀ at chars 6
-
-pub writing_start : (a : List ℕ) (at size : ℕ) (spaces : List ℕ) (m : ℕ) → at + 6 ≤ length a → size ≡ 6 → spaces ≡ replicate (length (take size (drop at a))) 32 → m < 1000000
-    → Writing a at m (put_mid at size a spaces) m 5
-writing_start a at size spaces m h six e s =
-    let n : length (take size (drop at a)) ≡ 6 = rw (length-take, length-drop, six) (omega arith) in
-    let p : put_mid at size a spaces ≡ paste a at (replicate 6 32) 6 = put_mid-paste at size a spaces (replicate 6 32) 6 (e ∙ rw n) (sym six) refl in
-    record {
-      chars = replicate 6 32;
-      room = h;
-      few = omega arith;
-      sized = ap length p ∙ length-paste a at (replicate 6 32) 6 h (omega arith);
-      filling = filling_start m s;
-      is = p;
-    }
-
-module _ {a₀ : List ℕ} {at m₀ : ℕ} {a : List ℕ} {m k : ℕ} (w : Writing a₀ at m₀ a m k) where
-  writing_set : (x : ℕ) → set a (at + k) x ≡ paste a₀ at (set w.chars k x) 6
-  writing_set x = rw w.is (set_paste a₀ at w.chars k x (omega (arith, w.room)) w.filling.sized (omega (arith, w.filling.room)))
-
-  pub writing_more : 10 ≤ m → 1 ≤ k
-  writing_more h = filling_more w.filling h
-
-  pub writing_next : 10 ≤ m → Writing a₀ at m₀ (set a (at + k) (48 + m % 10)) (m / 10) (k - 1)
-  writing_next h = record {
-    chars = set w.chars k (48 + m % 10);
-    room = w.room;
-    few = omega (arith, w.few);
-    sized = length-set a (at + k) (48 + m % 10) ∙ w.sized;
-    filling = filling_next w.filling h;
-    is = writing_set (48 + m % 10);
-  }
-
-  pub writing_minus_room : m < 10 → m₀ < 100000 → 1 ≤ k
-  writing_minus_room h l = room_minus w.filling h l
-
-  module _ (h : m < 10) (z : ℤ) (e : m₀ ≡ nat_abs z) where
-    pub writing_plus : lt_z z (pos 0) ≡ false → set a (at + k) (48 + m) ≡ paste a₀ at (field_text z) 6
-    writing_plus g = writing_set (48 + m) ∙ rw (filled_field w.filling h z e g)
-
-    pub writing_minus : in_field z ≡ true → lt_z z (pos 0) ≡ true → set (set a (at + k) (48 + m)) (at + (k - 1)) 45 ≡ paste a₀ at (field_text z) 6
-    writing_minus r g =
-        let s : length (set w.chars k (48 + m)) ≡ 6 = length-set w.chars k (48 + m) ∙ w.filling.sized in
-        rw (writing_set (48 + m))
-        (set_paste a₀ at (set w.chars k (48 + m)) (k - 1) 45 (omega (arith, w.room)) s (omega (arith, w.filling.room))
-        ∙ rw (filled_minus_field w.filling h z e r g))
 
 -- fields written from the first
 

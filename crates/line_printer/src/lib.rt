@@ -1,7 +1,7 @@
 #![tactic(auto)]
 // A line of a table text, printed: eight numbers as fields of six characters and a line feed, into a lent buffer.
-// Bytes by hand and not by `Display`: there is no heap, and each byte is promised. `print_line` takes the buffer and where in it the line goes, as its public
-// promise has it. Casts are by `as` where `From` has no way and `TryFrom` would answer with a `Result` that cannot fail.
+// Bytes by hand and not by `Display`: there is no heap, and each byte is promised. `print_line` takes the buffer and where in it the line goes: any place is
+// taken, past the end too, and of a slice a caller would have to know that it is inside. Casts are by `as` where `From` has no way and `TryFrom` would answer with a `Result` that cannot fail.
 ghost use Rattle.std.specs.Prelude.{◌≡◌, true, ◌+◌, ◌≤◌, length};
 ghost use Rattle.std.proofs.Math.Seq.{paste};
 ghost use Rattle.fields.specs.Field.{in_field, field_text};
@@ -29,23 +29,23 @@ fn all_in_range(numbers: [i32; 8]) -> bool
     numbers.iter().all(|n| in_range(*n))
 }
 
-// Writes the six characters of a number to a place; all other places stay.
-fn put_number(part: &mut [u8], at: usize, n: i32)
-    requires { (in_field n ≡ true) × (at + 6 ≤ length part.old) }
-    ensures { part.new ≡ paste part.old at (field_text n) 6 }
+// Writes the six characters of a number.
+fn put_number(field: &mut [u8], n: i32)
+    requires { (in_field n ≡ true) × (length field.old ≡ 6) }
+    ensures { field.new ≡ field_text n }
 {
-    part[at..at + 6].fill(b' ');
+    field.fill(b' ');
     let mut m = n.unsigned_abs();
     let mut k: usize = 5;
     // No loop over an index: it divides the number until one digit is left. A `for` would count the digits first, so it is no plainer.
     while 10 <= m {
-        part[at + k] = b'0' + (m % 10) as u8;
+        field[k] = b'0' + (m % 10) as u8;
         m = m / 10;
         k -= 1;
     }
-    part[at + k] = b'0' + m as u8;
+    field[k] = b'0' + m as u8;
     if n < 0 {
-        part[at + (k - 1)] = b'-';
+        field[k - 1] = b'-';
     }
 }
 
@@ -55,7 +55,7 @@ fn put_line(part: &mut [u8], numbers: [i32; 8])
     ensures { part.new ≡ paste part.old 0 (line_text numbers) 49 }
 {
     for i in 0..8 {
-        put_number(part, 6 * i, numbers[i]);
+        put_number(&mut part[6 * i..6 * i + 6], numbers[i]);
     }
     part[48] = b'\n';
 }

@@ -1,6 +1,6 @@
 #![tactic(auto)]
 // A line of a table text: eight fields of six characters and a line feed, read.
-// A text and a place in it are a list and an index, as in `fields`. The loop over fields stands in `read_line` and in `read_numbers`: the document's form has
+// A text and a place in it are a list and an index, as in `fields`, and casts are by `as` for its reason. The loop over fields stands in `read_line` and in `read_numbers`: the document's form has
 // it inside the loop over lines, left by a label.
 ghost use Rattle.std.specs.Prelude.{◌≡◌, ◌*◌, ◌+◌, ◌≤◌, true, IfSome, length, take, drop};
 ghost use Rattle.std.specs.Bool.{MatchBool};

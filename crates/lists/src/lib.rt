@@ -1,7 +1,6 @@
 #![tactic(auto)]
-// What stands at a place of a list, past its end too, and small numbers as places. Each is said once, for all crates above. `wide` and `wide_byte` are two,
-// since each promises the bound of its type.
-ghost use Rattle.std.specs.Prelude.{◌≡◌, ◌<◌, get_or};
+// What stands at a place of a list, past its end too, and the front of a list. Each is said once, for all crates above.
+ghost use Rattle.std.specs.Prelude.{◌≡◌, get_or, take};
 
 // The element at place `i` of a list; `beyond` past the end.
 pub fn value_at<T: Copy>(list: &[T], i: usize, beyond: T) -> T
@@ -10,16 +9,9 @@ pub fn value_at<T: Copy>(list: &[T], i: usize, beyond: T) -> T
     list.get(i).copied().unwrap_or(beyond)
 }
 
-// x, as a place.
-pub fn wide(x: u16) -> usize
-    ensures { (result ≡ x) × (result < 65536) }
+// The first `n` of a list, or all of them.
+pub fn front<T>(list: &[T], n: usize) -> &[T]
+    ensures { result.now ≡ take n list.now }
 {
-    usize::from(x)
-}
-
-// x, as a place.
-pub fn wide_byte(x: u8) -> usize
-    ensures { (result ≡ x) × (result < 256) }
-{
-    usize::from(x)
+    &list[..n.min(list.len())]
 }

@@ -1,4 +1,5 @@
 // A list of edges with the place whose set each meets, filled from the front in room that a caller lends.
+// Casts are by `as` where `From` has no way and `TryFrom` would answer with a `Result` that cannot fail.
 ghost use Rattle.std.specs.Prelude.{◌≡◌, [], ◌∷◌, take};
 
 use super::Origin;
@@ -12,13 +13,6 @@ pub struct MetEdges<'a> {
     pub used: usize,
 }
 
-// The first `n` of a list, or all of them.
-fn front<T>(list: &[T], n: usize) -> &[T]
-    ensures { result.now ≡ take n list.now }
-{
-    &list[..n.min(list.len())]
-}
-
 impl<'a> MetEdges<'a> {
     ghost use Rattle.table.specs.View.{list_on, when};
     ghost use Rattle.lock_edges.specs.ViewEdges.{edge_from};
@@ -28,14 +22,14 @@ impl<'a> MetEdges<'a> {
     pub fn edges(&self) -> &[u32]
         ensures { result.now ≡ take self.now.used self.now.edges.now }
     {
-        front(self.edges, self.used)
+        lists::front(self.edges, self.used)
     }
 
     // The places that the edges so far meet.
     pub fn also(&self) -> &[u16]
         ensures { result.now ≡ take self.now.used self.now.also.now }
     {
-        front(self.also, self.used)
+        lists::front(self.also, self.used)
     }
 
     // Appends the edge from `origin` to `t`. Where there is no room, or a number is too large, nothing changes.

@@ -1,6 +1,7 @@
 #![tactic(auto)]
 // The held sets of a table, of locks held for writing or in either way: all locks but what is left out of them, which the solver finds.
-// Flow sets and the locks given up are two lists, out of two equations.
+// Flow sets go beside the program: any list serves, and `stages::Solved` is a program with its own.
+// The locks given up are a second list, out of an equation of their own.
 ghost use Rattle.std.specs.Prelude.{◌≡◌, ◌+◌, ◌*◌, ◌≤◌, length, take};
 ghost use Rattle.table.specs.Header.{statements};
 ghost use Rattle.table.specs.Table.{table_of};
@@ -74,7 +75,7 @@ pub fn held_sets(
     ensures { take (statements program.now) out.new ≡ held_sets (table_of program.now) (one_each (table_of program.now)) (writing_alone mode) flow.now given.now }
 {
     let bases = held_edges::bases_of(program.numbers);
-    let all = sets::firsts(table::field_of(program.numbers, 0, 2));
+    let all = sets::firsts(program.locks());
     initial::fill_each(out, |p| start_at(flow, given, bases, all, p));
     let mut also = [0u16; 1537];
     let mut list = MetEdges {

@@ -1,6 +1,8 @@
 #![tactic(auto)]
 // Which routines name which, by CALL or START, and which reach themselves so. A set of routines is a number.
-// Two unions, one over a range of statements and one over a list with zeros behind: a fold for both would take a closure and say no more.
+// Two unions, one over a range of statements and one over a list with zeros behind, each from its first on, as `gather` goes; `initial::unite_each` goes from
+// the last.
+// What routines name stands in an array for 32, and a count says how many there are: each definition goes through all 32, so a cut list would be one more.
 ghost use Rattle.std.specs.Prelude.{◌≡◌, ℕ, ◌<◌, ◌^◌, ◌-◌, get_or};
 ghost use Rattle.table.specs.Header.{routines};
 ghost use Rattle.table.specs.Naming.{named_by, gather, names_of, names_in, walk, is_acyclic};
@@ -70,7 +72,8 @@ pub fn all_named(names: &[u64], count: usize) -> u64
     all
 }
 
-// The routines reached from those in `worklist`, beside those in `seen`, `left` routines being left.
+// The routines reached from those in `worklist`, beside those in `seen`, `left` routines being left: by recursion, as the definition
+// goes, whose cases are its proof.
 fn walk_down(names: &[u64], worklist: u64, seen: u64, left: usize) -> u64
     ensures { result ≡ walk names.now worklist seen left }
 {

@@ -1,12 +1,13 @@
 #![tactic(auto)]
-// The operations of document 01 on the state of a run, but for those on locks, one function each, and what a step is answered with.
+// The operations of document 01 on the state of a run, but for those on locks, one function each, and what a step is answered with. A place and the state go
+// into each as an index and a list do, and a routine with its arguments as the statement has them.
 pub mod place;
 
 ghost use Rattle.std.specs.Prelude.{◌≡◌, cond, ◌+◌, ◌*◌, ◌-◌, ◌<◌, ◌≤◌, pos, ◌+ℤ◌, get_or, set, Ok, Some, None};
 ghost use Rattle.machine.specs.Step.{saturate, is_zero};
 ghost use Rattle.machine.specs.Engine.{frame_slots};
 ghost use Rattle.run_state.specs.Lists.{cells_in, put_cell};
-ghost use Rattle.run_state.specs.Shown.{value_place, HandlesThere, Naming};
+ghost use Rattle.run_state.specs.Shown.{value_place};
 ghost use Rattle.operations.specs.Step.{refusal_number};
 ghost use Rattle.operations.specs.Operation.{Newest, on, Called, Started};
 
@@ -32,7 +33,7 @@ pub enum TurnedDown {
 }
 
 impl TurnedDown {
-    // Its number, 14 to 18.
+    // Its number, 14 to 18; that of a `Stop` by `as`, the one way from an enum to its numbers.
     pub fn number(self) -> u8
         ensures { result ≡ refusal_number self }
     {
@@ -106,55 +107,48 @@ pub fn point(h: usize, g: usize, at: Place, state: &mut State) -> Move
 
 // CALL: "opens a frame". There is a slot for it: "32 frames always suffice".
 pub fn call(
-    program: &Loaded<'_>,
+    loaded: &Loaded<'_>,
     routine: usize,
     arguments: Arguments,
     at: Place,
     state: &mut State,
 ) -> Move
-    requires { Naming program.now routine × Newest at (get_or state.old.counts at.thread 0) × (get_or state.old.counts at.thread 0 < frame_slots) × HandlesThere program.now.numbers.now }
-    ensures { Called program.now routine arguments at result state.old state.new }
+    requires { (routine < 32) × Newest at (get_or state.old.counts at.thread 0) × (get_or state.old.counts at.thread 0 < frame_slots) }
+    ensures { Called loaded.now.program routine arguments at result state.old state.new }
 {
+    let program = &loaded.program;
     let slot = at.slot + 1;
     // stored before the frame is entered, as in START: entered first, a step that POINTs took twice as long; `as`: see `State`
-    state.nexts[slot] = program.first[routine] as u32;
+    state.nexts[slot] = program.extents.first[routine] as u32;
     state.counts[at.thread] += 1;
-    enter(
-        program.numbers,
-        program.handle[routine],
-        program.handle[routine + 1],
-        arguments,
-        &mut state.values,
-        slot,
-        at.slot,
-    );
+    enter(loaded, routine, arguments, &mut state.values, slot, at.slot);
     going_on(at)
 }
 
 // START: "adds a thread"; it is stopped where 16 are started.
 pub fn start(
-    program: &Loaded<'_>,
+    loaded: &Loaded<'_>,
     routine: usize,
     arguments: Arguments,
     at: Place,
     state: &mut State,
 ) -> Move
-    requires { Naming program.now routine × (at.slot < state.old.started * 32) × HandlesThere program.now.numbers.now }
-    ensures { Started program.now routine arguments at result state.old state.new }
+    requires { (routine < 32) × (at.slot < state.old.started * 32) }
+    ensures { Started loaded.now.program routine arguments at result state.old state.new }
 {
     let n = state.started;
     if 16 <= n {
         return Err(Stop::Full);
     }
+    let program = &loaded.program;
     // `as`: see `State`
-    state.nexts[n * 32] = program.first[routine] as u32;
+    state.nexts[n * 32] = program.extents.first[routine] as u32;
     state.counts[n] = 1;
     state.started = n + 1;
     state.accumulators[n] = 0;
     enter(
-        program.numbers,
-        program.handle[routine],
-        program.handle[routine + 1],
+        loaded,
+        routine,
         arguments,
         &mut state.values,
         n * 32,

@@ -1,6 +1,7 @@
 #![tactic(auto)]
 // What is held at each statement of a table, in the way of its access (C-18): for writing at a WRITE, in either way at any other statement. It comes from the
 // held sets of both modes, which are the same where nothing is taken for reading. `edges` lends the room for edges, four a statement.
+// Flow sets go beside the program: any list serves, and `stages::Solved` is a program with its own.
 // The room is lent from above, since there is no heap, and lent on in parts, so each function says how much it needs: of a struct
 // of program and room each contract would have to say too that they are the same lists.
 ghost use Rattle.std.specs.Prelude.{◌≡◌, true, false, ◌+◌, ◌*◌, ◌≤◌, length, take};

@@ -1,5 +1,5 @@
 #![tactic(auto)]
-// An answer of three numbers in one, for the C boundary.
+// An answer of three numbers in one, for the C boundary: a number, a line and a count, as C has them.
 ghost use Rattle.std.specs.Prelude.{◌≡◌};
 ghost use Rattle.packing.specs.Packed.{packed};
 

@@ -1,7 +1,7 @@
 #![tactic(auto)]
 // Passes over the edges of a list of sets: an edge puts what is in both sets that it comes from into the set that it leads to. Its ends are one
 // number: 65,536 times the place that it comes from, and the place that it leads to. A second list has the place whose set is met; past its end an edge
-// is plain, and puts the whole set that it comes from.
+// is plain, and puts the whole set that it comes from. One number an edge, since C lends lists of them, and two a place would take 8 KiB more of stack.
 // Casts are by `as` where `From` has no way and `TryFrom` would answer with a `Result` that cannot fail.
 // Times below are of `bench/solver/run`; the bar is that no list of its tables takes longer than in the old form.
 ghost use Rattle.std.specs.Prelude.{◌≡◌, ◌<◌, false, length, get_or};
@@ -49,7 +49,7 @@ pub fn to_of(edge: u32) -> usize
 pub fn also_of(also: &[u16], k: usize, f: usize) -> usize
     ensures { result ≡ get_or also.now k f }
 {
-    also.get(k).map_or(f, |p| lists::wide(*p))
+    also.get(k).map_or(f, |p| usize::from(*p))
 }
 
 // The edges of a list of sets.
@@ -153,7 +153,7 @@ fn pass_down(sets: &mut [u64], marks: &mut [u64; 16], edges: Edges<'_>) -> bool
 }
 
 // Goes along every edge once, in the order, marks the places that changed, and returns whether any did. The order is a value that the solver turns round
-// from pass to pass, so it is matched, here alone.
+// from pass to pass, so it is matched.
 pub fn pass(sets: &mut [u64], marks: &mut [u64; 16], edges: Edges<'_>, order: Order) -> bool
     ensures { Passed edges.entry.ends.now edges.entry.also.now sets.old sets.new result 0 (length edges.entry.ends.now) }
 {

@@ -3,6 +3,7 @@
 // lends the room for the edges, four a statement; what stands in it before does not matter, and what is left in it says nothing.
 // The room is lent from above, since there is no heap, and lent on in parts, so each function says how much it needs: of a struct
 // of program and room each contract would have to say too that they are the same lists.
+// `reach` is a list of its own beside the program: it comes out of the first equation, and any list serves in the second.
 // `reach_sets` and `preceded_sets` differ in the edges and the order, and each has an equation of its own.
 ghost use Rattle.std.specs.Prelude.{◌≡◌, cond, ◌||◌, ◌+◌, ◌-◌, ◌*◌, ◌≤◌, ◌<◌, length, get_or, take, drop};
 ghost use Rattle.table.specs.Header.{routines, statements};
@@ -73,7 +74,7 @@ fn leave_out(program: &Program<'_>, work: &mut [u64])
     ensures before { take (statements program.now) work.new ≡ take (statements program.now) work.old }
     ensures behind { take (statements program.now) (drop (statements program.now) work.new) ≡ tabulate (statements program.now) (counted_at (table_of program.now) work.old (behind_in program.now work.old)) }
 {
-    let all = sets::firsts(table::field_of(program.numbers, 0, 2));
+    let all = sets::firsts(program.locks());
     let end = program.statements();
     let mut c = 0;
     for s in 0..end {

@@ -104,7 +104,10 @@ fn declaration_verdict(numbers: &[i32]) -> Result<(), Refusal>
     if !declarations::sum_ok(numbers, &extents.first) {
         return Err(Refusal::Sum);
     }
-    statement_verdict(&Outline { numbers, extents })
+    statement_verdict(&Outline {
+        numbers,
+        extents: &extents,
+    })
 }
 
 // Refusals 3 to 12, for a text of so many lines.

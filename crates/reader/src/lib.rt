@@ -15,7 +15,8 @@ pub fn has_length(n: usize) -> bool
     (0 < n) & (n % 49 == 0) & (n <= 32977)
 }
 
-// The verdict on a text; where it is accepted, its numbers stand in `numbers`.
+// The verdict on a text; where it is accepted, its numbers stand in `numbers`. Each caller cuts an array of its own size to the text's length: there is no
+// heap, and a part of an array cannot leave the function that has it.
 pub fn read_into(text: &[u8], numbers: &mut [i32]) -> Result<(), Refusal>
     requires { length numbers.old ≡ 8 * line_count text.now }
     ensures verdict { result ≡ verdict text.now }

@@ -1,16 +1,16 @@
 #![tactic(auto)]
 // The report's lines, written one behind the other into a lent buffer, from what is found of a table.
+// Flow sets go beside the program: any list serves, and `stages::Solved` is a program with its own.
 // Casts are by `as`: a report's numbers are below 1,000,000, and `TryFrom` would answer with a `Result` that cannot fail.
 ghost use Rattle.std.specs.Prelude.{◌≡◌, true, map, ◌+◌, ◌≤◌, pos, length};
 ghost use Rattle.lines.specs.Line.{all_in_field, line_text};
 ghost use Rattle.table.specs.Header.{statements};
 ghost use Rattle.table.specs.Table.{table_of};
-ghost use Rattle.report.specs.Report.{report_text};
 ghost use Rattle.report.specs.ReportTextLaws.{Line8};
 ghost use Rattle.findings.specs.Found.{Found};
 ghost use Rattle.report_printer.specs.Lines.{cell_numbers, total_numbers, cells_by, strays_by, text_from, RoomFor};
 ghost use Rattle.report_printer.specs.Written.{Written};
-ghost use Rattle.report_printer.specs.Printed.{bytes_in, printed_over, counts_nothing};
+ghost use Rattle.report_printer.specs.Printed.{Reports};
 
 use declarations::program::Program;
 use findings::Noted;
@@ -110,9 +110,7 @@ pub fn print_report(
     out: &mut [u8],
 ) -> Printed
     requires { Found program.now flow.now held.now shared noted.now }
-    ensures bytes { result.bytes ≡ bytes_in (report_text (table_of program.now)) (length out.old) }
-    ensures clean { result.clean ≡ counts_nothing (table_of program.now) }
-    ensures buffer { out.new ≡ printed_over (report_text (table_of program.now)) out.old }
+    ensures { Reports (table_of program.now) out.old out.new result }
 {
     let cells = table::field_of(program.numbers, 0, 1);
     let strays = findings::stray_count(program, flow, held);

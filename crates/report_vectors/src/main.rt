@@ -4,16 +4,15 @@
 use std::io;
 use std::rt::Files;
 
+fn print_answer(rt: &impl Print, text: &[u8]) -> io::Result<()> {
+    let mut out = [0u8; 65536];
+    let bytes = answer::print_answer(text, &mut out);
+    rt.write_all(&out[..bytes])
+}
+
 // One argument: the report of the file that it names.
 fn try_argument(rt: &(impl Files + Print + Eprint), path: &[u8]) -> io::Result<()> {
-    let Some(mut file) = run_printer::open(rt, path)? else {
-        return Ok(());
-    };
-    let mut text = [0u8; 65536];
-    let count = run_printer::read_full(&mut file, &mut text)?;
-    let mut out = [0u8; 65536];
-    let bytes = answer::print_answer(&text[..count], &mut out);
-    rt.write_all(&out[..bytes])
+    run_printer::with_file(rt, path, |text| print_answer(rt, text))
 }
 
 fn main(rt: HostRuntime) -> io::Result<()> {

@@ -9,7 +9,8 @@ ghost use Rattle.passes.specs.Pass.{Put};
 ghost use Rattle.round_robin.specs.Onward.{Onward};
 ghost use Rattle.round_robin.specs.RoundRobin.{pass_down, passes_made, Among};
 
-// Goes along an edge, and returns whether that changed anything or something had changed before.
+// Goes along an edge, and returns whether that changed anything or something had changed before, as `passes::put_edge` does, but for marks, which cost time
+// and which nothing reads here.
 fn put(sets: &mut [u64], edge: u32, changed: bool) -> bool
     requires { ((edge_of edge).from < length sets.old) × ((edge_of edge).to < length sets.old) }
     ensures { Put (edge_of edge) sets.old sets.new changed result }

@@ -71,17 +71,18 @@ put_before {a} {b} {t} same is = record { same = same; is = is; within = puts_wi
 
 -- ---- loops over a list from its last element to its first
 
-module _ {A : Type 0} (f : ℕ → A → List ℕ) (xs : List A) (e₀ : Ending) where
+module _ {A : Type 0} (f : ℕ → A → List ℕ) (xs : List A) (a : Tail) where
   -- the texts of the elements from i on are put
-  pub record Backing (i : ℕ) (e : Ending) : Type 0 where
+  pub record Backing (i : ℕ) (b : Tail) : Type 0 where
     pub inside : i ≤ length xs
-    pub is : e ≡ puts (texts_from f i (drop i xs)) e₀
+    pub same : b.out.ghost_name ≡ a.out.ghost_name
+    pub is : ended b ≡ puts (texts_from f i (drop i xs)) (ended a)
 
-  pub backing_start : Backing (length xs) e₀
+  pub backing_start : Backing (length xs) a
   unfolding puts texts_from
-  backing_start = record { inside = omega arith; is = rw (drop_of_length-le xs {i = length xs} (omega arith)) }
+  backing_start = record { inside = omega arith; same = refl; is = rw (drop_of_length-le xs {i = length xs} (omega arith)) }
 
-  pub backing_next : {i : ℕ} {e e' : Ending} (d : A) → Backing i e → 0 < i → e' ≡ puts (f (i - 1) (get_or xs (i - 1) d)) e → Backing (i - 1) e'
+  pub backing_next : {i : ℕ} {b b' : Tail} (d : A) → Backing i b → 0 < i → PutBefore b b' (f (i - 1) (get_or xs (i - 1) d)) → Backing (i - 1) b'
   unfolding texts_from
   backing_next {i = zero} d b p h = absurd (omega arith)
   backing_next {i = suc i} d b p h =
@@ -89,23 +90,21 @@ module _ {A : Type 0} (f : ℕ → A → List ℕ) (xs : List A) (e₀ : Ending)
       let low : i < length xs = omega (arith, b.inside) in
       rw one (record {
         inside = omega arith;
+        same = h.same ∙ b.same;
         is =
-            (rw one at h) ∙ ap (puts (f i (get_or xs i d))) b.is
-            ∙ rw (drop-cons xs i d (omega arith), add-one) (sym (puts_both (f i (get_or xs i d)) (texts_from f (suc i) (drop (suc i) xs)) e₀));
+            (rw one at h.is) ∙ ap (puts (f i (get_or xs i d))) b.is
+            ∙ rw (drop-cons xs i d (omega arith), add-one) (sym (puts_both (f i (get_or xs i d)) (texts_from f (suc i) (drop (suc i) xs)) (ended a)));
       })
 
-  pub backing_done : {i : ℕ} {e : Ending} → Backing i e → i ≤ 0 → e ≡ puts (texts_from f 0 xs) e₀
-  backing_done {i = zero} b z = b.is
+  pub backing_done : {i : ℕ} {b : Tail} → Backing i b → i ≤ 0 → PutBefore a b (texts_from f 0 xs)
+  backing_done {i = zero} b z = put_before b.same b.is
   backing_done {i = suc i} b z = absurd (omega arith)
 
 -- a text is its bytes
-bytes_text : (i : ℕ) (t : List ℕ) → texts_from (λ i b. b ∷ []) i t ≡ t
+pub bytes_text : (i : ℕ) (t : List ℕ) → texts_from (λ i b. b ∷ []) i t ≡ t
 unfolding texts_from
 bytes_text i [] = refl
 bytes_text i (b ∷ t) = ap (λ (l : List ℕ). b ∷ l) (bytes_text (i + 1) t)
-
-pub puts_bytes : (t : List ℕ) (e : Ending) → puts (texts_from (λ i b. b ∷ []) 0 t) e ≡ puts t e
-puts_bytes t e = ap (λ (l : List ℕ). puts l e) (bytes_text 0 t)
 
 -- ---- the digits of a number, from the last one
 

@@ -1,7 +1,7 @@
 // For the programs that run tables: numbers, answers and cells as words at the end of a lent buffer, and the bytes of a file.
 #![tactic(auto)]
-// Bytes by hand and not by `Display`: each byte is promised. `say_refusal` takes a number and a line, and no `table::Refusal`, since `table` stands above.
-// Casts are by `as` where `From` has no way and `TryFrom` would answer with a `Result` that cannot fail.
+// Bytes by hand and not by `Display`: each byte is promised. `say_refusal` takes a number and a line, as `refusal` does.
+// Loops go down by an index, since what is put says how many are left. Casts are by `as` where `From` has no way and `TryFrom` would answer with a `Result` that cannot fail.
 
 ghost use Rattle.std.specs.Prelude.{◌≡◌, ◌<◌, ◌≤◌, [], ◌∷◌, ℕ, List, Err, IfOk, IfErr, IfSome, OnOk, length, take, drop};
 ghost use Rattle.fields.specs.Field.{decimal_text};
@@ -169,7 +169,8 @@ pub fn read_full<R: Read>(input: &mut R, buffer: &mut [u8]) -> io::Result<usize>
     Ok(done)
 }
 
-// The bytes of a file, as many as the buffer takes; none where it cannot be opened, which is said on standard error.
+// The bytes of a file, as many as the buffer takes; none where it cannot be opened, which is said on standard error. (0 and no `Option`: a program goes on with
+// an empty file then.)
 pub fn load<R: Files + Eprint>(rt: &R, path: &[u8], buffer: &mut [u8]) -> io::Result<usize>
     ensures { ReadsAtMost result buffer.new }
 {
@@ -179,7 +180,49 @@ pub fn load<R: Files + Eprint>(rt: &R, path: &[u8], buffer: &mut [u8]) -> io::Re
     }
 }
 
-// Hands each argument in turn to `each`, until a call fails. One that is longer than the buffer counts as empty. That none is left out is not said: what the
+// Hands the bytes of a file, 65,536 at most, to `take`; nothing where it cannot be opened, which is said on standard error. What a file holds no contract of
+// std's says, so of `take` nothing is promised, as in `say_words`, since `Print` says nothing of what is printed.
+pub fn with_file<R: Files + Eprint, F: FnOnce(&[u8]) -> io::Result<()>>(
+    rt: &R,
+    path: &[u8],
+    take: F,
+) -> io::Result<()>
+    requires { F.IsAlwaysCallable take }
+{
+    let Some(mut file) = open(rt, path)? else {
+        return Ok(());
+    };
+    let mut bytes = [0u8; 65536];
+    let n = read_full(&mut file, &mut bytes)?;
+    take(&bytes[..n])
+}
+
+// Prints a text and behind it what `put` puts, 2,048 bytes at most.
+pub fn say_words<R: Print, F: FnOnce(&mut Tail<'_>)>(rt: &R, text: &[u8], put: F) -> io::Result<()>
+    requires { F.IsAlwaysCallable put }
+{
+    let mut out = [0u8; 2048];
+    let mut tail = Tail {
+        out: &mut out,
+        start: 2048,
+    };
+    put(&mut tail);
+    tail.put_text(text);
+    rt.write_all(tail.text())
+}
+
+// Reads argument `i` into a buffer, and says how many bytes it has; none where there is no such argument. One that is longer than the buffer counts as empty.
+pub fn read_argument<R: Env>(rt: &R, i: usize, buffer: &mut [u8]) -> Option<usize>
+    ensures { IfSome result (λ n. n ≤ length buffer.new) }
+{
+    match rt.arg(i, buffer) {
+        Ok(n) => Some(n),
+        Err(FillError::TooLong) => Some(0),
+        Err(FillError::NotPresent) => None,
+    }
+}
+
+// Hands each argument in turn to `each`, as `read_argument` reads it, until a call fails. That none is left out is not said: what the
 // arguments are no contract of std's says.
 pub fn each_argument<R: Env, F: Fn(&[u8]) -> io::Result<()>>(rt: &R, each: F) -> io::Result<()>
     requires { F.IsAlwaysCallable each }
@@ -187,10 +230,8 @@ pub fn each_argument<R: Env, F: Fn(&[u8]) -> io::Result<()>>(rt: &R, each: F) ->
 {
     let mut argument = [0u8; 4096];
     for i in 1..usize::MAX {
-        let n = match rt.arg(i, &mut argument) {
-            Ok(n) => n,
-            Err(FillError::TooLong) => 0,
-            Err(FillError::NotPresent) => break,
+        let Some(n) = read_argument(rt, i, &mut argument) else {
+            break;
         };
         each(&argument[..n])?;
     }

@@ -5,7 +5,7 @@ use Rattle.std.proofs.Common.{◌∙◌, subst, arith}
 use Rattle.std.proofs.Math.ListN.{get_or, take, length-replicate, get_or-replicate}
 use Rattle.std.proofs.lemmas.List.{take-replicate}
 use Rattle.table.specs.Table.{Table, table_of, routine}
-use Rattle.table.specs.Extents.{first_statements, first_handles}
+use Rattle.table.specs.Extents.{first_handles}
 use Rattle.table.specs.Accepted.{Accepted}
 use Rattle.table.specs.declared.Arguments.{Arguments}
 use Rattle.machine.specs.State.{thread, start}
@@ -13,7 +13,7 @@ use Rattle.machine.proofs.FrameLaws.{start_bounded}
 use Rattle.run_state.specs.LockWordLaws.{all_free}
 use Rattle.run_state.specs.declared.State as Run
 use Rattle.run_state.specs.Lists.{cleared}
-use Rattle.run_state.specs.Shown.{Arrays, arrays, Shows, ListsShow, Entering, Entered}
+use Rattle.run_state.specs.Shown.{Arrays, arrays, Shows, ListsShow, Entered}
 use Rattle.run_state.specs.ShownLaws.{ThreadIn, opened_shown}
 use Rattle.run_state.specs.TableLaws.{LookedUp, looked_up}
 
@@ -26,25 +26,12 @@ abbrev first_arrays : Table → List ℕ → Arrays
 first_arrays t values =
     arrays 1 (replicate 512 0) values (set (replicate 16 0) 0 1) (replicate 16 (pos 0)) (replicate t.locks 0) (replicate t.cells (pos 0))
 
-module _ (numbers : List ℤ) (handle : List ℕ) (accepted : Accepted (table_of numbers)) (handle_is : handle ≡ first_handles numbers) where
-  looked : LookedUp (table_of numbers) (first_statements numbers) handle 0
-  looked = looked_up numbers (first_statements numbers) handle 0 accepted refl handle_is (omega (arith, accepted.routines_some))
-
-  -- what the first frame asks
-  pub entering : Entering (table_of numbers) (get_or handle 0 0) (get_or handle 1 0) 0 1
-  entering =
-      let facts = accepted.routine_facts 0 (omega (arith, accepted.routines_some)) in
-      record {
-        accepted = accepted;
-        few = omega (arith, looked.from_is, looked.end_is, facts.few_handles);
-        there = omega (arith, looked.end_is, facts.handles_there);
-        slot_low = omega arith;
-        caller_low = omega arith;
-        apart = λ e. omega (arith, e);
-      }
+module _ (numbers : List ℤ) (accepted : Accepted (table_of numbers)) where
+  looked : LookedUp numbers 0
+  looked = looked_up numbers accepted 0 (omega (arith, accepted.routines_some))
 
   module _ (values new : List ℕ) (long : length values ≡ 4096)
-      (e : Entered (table_of numbers) values new 0 1 (get_or handle 0 0) (get_or handle 1 0) nothing_passed) where
+      (e : Entered (table_of numbers) values new 0 1 (get_or (first_handles numbers) 0 0) (get_or (first_handles numbers) 1 0) nothing_passed) where
     shown : Shows (table_of numbers) (first_arrays (table_of numbers) new) (start (table_of numbers))
     unfolding start
     shown =
@@ -69,7 +56,7 @@ module _ (numbers : List ℤ) (handle : List ℕ) (accepted : Accepted (table_of
               frames = (
                 opened_shown (table_of numbers) accepted (replicate 512 0) values new [] 0 1 0 nothing_passed (omega (arith, accepted.routines_some)) frame_there
                     (subst (λ (i : ℕ). Entered (table_of numbers) values new 0 1 (routine (table_of numbers) 0).handle i nothing_passed) looked.end_is
-                    (subst (λ (i : ℕ). Entered (table_of numbers) values new 0 1 i (get_or handle 1 0) nothing_passed) looked.from_is e))
+                    (subst (λ (i : ℕ). Entered (table_of numbers) values new 0 1 i (get_or (first_handles numbers) 1 0) nothing_passed) looked.from_is e))
                     (λ k b. absurd (omega (arith, accepted.first_parameters))),
                 tt,
               );

@@ -1,16 +1,11 @@
 -- How a run's state shows a state of the machine. Nothing that a promise of `engine::run` says rests on it. Assumes nothing.
 use Rattle.std.specs.Prelude.{ℕ, ◌+◌, ◌-◌, ◌*◌, ◌%◌, ◌<◌, ◌≤◌, ◌≡◌, cond, List, [], ◌∷◌, map, eqb, ℤ, pos, length, get_or}
-use Rattle.table.specs.Header.{statements, statement_line}
 use Rattle.table.specs.Table.{Table, table_of, declaration, passed, OwnHandle}
-use Rattle.table.specs.Extents.{first_statements, first_handles}
-use Rattle.table.specs.Accepted.{Accepted}
 use Rattle.table.specs.declared.Arguments.{Arguments}
 use Rattle.sets.specs.Set.{one, with}
 use Rattle.machine.specs.State.{State, Frame, Thread, Holder, writer, readers, free, thread, refers}
 use Rattle.machine.specs.Engine.{frame_slots}
 use Rattle.machine.proofs.FrameLaws.{Bounded}
-use Rattle.run_state.specs.declared.Sizes.{Sizes}
-use Rattle.run_state.specs.declared.Loaded.{Loaded}
 use Rattle.run_state.specs.declared.State as Run
 use Rattle.run_state.specs.Lists.{locks_in, cells_in}
 
@@ -106,25 +101,10 @@ pub record ShowsBounded (t : Table) (a : Arrays) (state : State) : Type 0 where
 abbrev pub ListsShow : Table → Run.State → State → Type 0
 ListsShow t s state = ShowsBounded t (parts_of t s) state
 
--- the sizes are those that the header of the numbers says
-pub record Sized (numbers : List ℤ) (sizes : Sizes) : Type 0 where
-  pub base_is : sizes.base ≡ statement_line numbers 0
-  pub cells_are : sizes.cells ≡ (table_of numbers).cells
-  pub locks_are : sizes.locks ≡ (table_of numbers).locks
-
--- what a run never changes: the numbers of an accepted text, the two lists that CALL and START look routines up in, and the sizes
-pub record Fixed (p : Loaded) : Type 0 where
-  pub accepted : Accepted (table_of p.numbers.now)
-  pub long : length p.numbers.now ≡ 8 * statement_line p.numbers.now (statements p.numbers.now)
-  pub first_is : p.first ≡ first_statements p.numbers.now
-  pub handle_is : p.handle ≡ first_handles p.numbers.now
-  pub sized : Sized p.numbers.now p.sizes
-
--- a state of a run that shows some state of the machine
-pub record Standing (p : Loaded) (s : Run.State) : Type 0 where
-  pub fixed : Fixed p
+-- a run's state that shows some state of the machine
+pub record Standing (t : Table) (s : Run.State) : Type 0 where
   pub state : State
-  pub shows : ListsShow (table_of p.numbers.now) s state
+  pub shows : ListsShow t s state
 
 -- the lines of the handles are there
 abbrev pub HandlesThere : List ℤ → Type 0
@@ -138,26 +118,9 @@ entry_value t values caller g h = cond (eqb (declaration t h).origin 0) (get_or 
 abbrev pub start_value : Table → List ℕ → ℕ → ℕ → Arguments → ℕ → ℕ
 start_value t values caller from arguments h = entry_value t values caller (get_or (passed arguments) (h - from) 0) h
 
--- the handles `from` to `end` are at most eight of an accepted table, and their slot is not the caller's
-pub record Entering (t : Table) (from end slot caller : ℕ) : Type 0 where
-  pub accepted : Accepted t
-  pub few : end ≤ from + 8
-  pub there : end ≤ length t.handles
-  pub slot_low : slot < 512
-  pub caller_low : caller < 512
-  pub apart : caller ≡ slot → ⊥
-
 -- a new frame's values: the handles `from` to `end` are set in `slot`, all else is kept
 pub record Entered (t : Table) (values new : List ℕ) (slot caller from end : ℕ) (arguments : Arguments) : Type 0 where
   pub long : length new ≡ length values
   pub set_here : (h : ℕ) → from ≤ h → h < end → get_or new (value_place slot h) 0 ≡ start_value t values caller from arguments h
   pub kept_below : (i : ℕ) → i < slot * 8 → get_or new i 0 ≡ get_or values i 0
   pub kept_above : (i : ℕ) → slot * 8 + 8 ≤ i → get_or new i 0 ≡ get_or values i 0
-
--- what CALL and START ask of the routine that they name
-pub record Naming (p : Loaded) (routine : ℕ) : Type 0 where
-  pub accepted : Accepted (table_of p.numbers.now)
-  pub low : routine < 32
-  pub first_low : get_or p.first routine 0 < 512
-  pub few : get_or p.handle (routine + 1) 0 ≤ get_or p.handle routine 0 + 8
-  pub there : get_or p.handle (routine + 1) 0 ≤ length (table_of p.numbers.now).handles

@@ -1,19 +1,19 @@
 -- The parts of a table as its numbers give them, and what the two lists of routines give. Assumes nothing.
-use Rattle.std.specs.Prelude.{ℕ, ◌+◌, ◌-◌, ◌*◌, ◌<◌, ◌≤◌, ◌≡◌, List, ◌⊎◌, eqb, ℤ, length, get_or}
-use Rattle.std.proofs.Common.{sym, ap, ◌∙◌, inl, inr, arith}
+use Rattle.std.specs.Prelude.{ℕ, zero, suc, ◌+◌, ◌-◌, ◌*◌, ◌<◌, ◌≤◌, ◌≡◌, refl, Bool, true, false, List, ◌⊎◌, eqb, ltb, ℤ, length, get_or}
+use Rattle.std.proofs.Common.{sym, ap, ◌∙◌, inl, inr, arith, ltb-true, ltb-false}
 use borrow.Author.Tests.{eq-eqb, ne_eqb}
 use Rattle.table.specs.Fields.{field}
 use Rattle.table.specs.Header.{handles, routines, statements, statement_line}
 use Rattle.table.specs.Handles.{routine_of, handles_from}
+use Rattle.table.specs.Routines.{first_statement}
 use Rattle.table.specs.Extents.{first_statements, first_handles}
-use Rattle.table.proofs.TabulateLaws.{length_tabulate, get_d_tabulate}
+use Rattle.table.proofs.TabulateLaws.{length_tabulate, get_d_tabulate, entry_behind}
 use Rattle.table.proofs.ExtentLaws.{handles_next, first_at, handle_at_lem}
 use Rattle.table.proofs.LookupLaws.{routines_length}
 use Rattle.table.proofs.UntilLaws.{until_range}
-use Rattle.table.specs.Table.{Table, table_of, declaration, routine, statement, declaration_of, routine_at, statement_of}
+use Rattle.table.specs.Table.{table_of, declaration, routine, statement, declaration_of, routine_at, statement_of}
 use Rattle.table.specs.Accepted.{Accepted, HandleFacts}
-use Rattle.run_state.specs.declared.Loaded.{Loaded}
-use Rattle.run_state.specs.Shown.{HandlesThere, Naming, value_place, entry_value}
+use Rattle.run_state.specs.Shown.{HandlesThere, value_place, entry_value}
 
 pub declaration_read : (f : List ℤ) (h : ℕ) → h < length (table_of f).handles → declaration (table_of f) h ≡ declaration_of f h
 unfolding table_of
@@ -60,35 +60,65 @@ unfolding table_of
 handles_there f e = rw length_tabulate (omega arith)
 
 -- what the two lists hold at a routine
-pub record LookedUp (t : Table) (first handle : List ℕ) (r : ℕ) : Type 0 where
-  pub first_is : get_or first r 0 ≡ (routine t r).first
-  pub from_is : get_or handle r 0 ≡ (routine t r).handle
-  pub end_is : get_or handle (r + 1) 0 ≡ (routine t r).handle + (routine t r).handles
+pub record LookedUp (f : List ℤ) (r : ℕ) : Type 0 where
+  pub first_is : get_or (first_statements f) r 0 ≡ (routine (table_of f) r).first
+  pub from_is : get_or (first_handles f) r 0 ≡ (routine (table_of f) r).handle
+  pub end_is : get_or (first_handles f) (r + 1) 0 ≡ (routine (table_of f) r).handle + (routine (table_of f) r).handles
 
-pub looked_up : (f : List ℤ) (first handle : List ℕ) (r : ℕ) → Accepted (table_of f) → first ≡ first_statements f → handle ≡ first_handles f
-    → r < length (table_of f).routines → LookedUp (table_of f) first handle r
-unfolding routine_at
-looked_up f first handle r accepted a b l =
-    let few : routines f ≤ 32 = omega (arith, accepted.routines_most, routines_length f) in
-    let inside : r < routines f = omega (arith, routines_length f) in
-    let e = routine_read f r l in
-    let rises : handles_from f r ≤ handles_from f (r + 1) =
-    rw (handles_next f r) (until_range (λ h. eqb (routine_of f h) r) (handles_from f r) (handles f - handles_from f r)).0 in
-    record {
-      first_is = first_at f few first r a (omega arith) ∙ ap (λ q. q.first) (sym e);
-      from_is = handle_at_lem f few handle r b (omega arith) ∙ ap (λ q. q.handle) (sym e);
-      end_is = handle_at_lem f few handle (r + 1) b (omega arith) ∙ rw e (omega arith);
-    }
+-- how far they go, behind the last routine too, where they are zeros
+pub record Bounds (f : List ℤ) (r : ℕ) : Type 0 where
+  pub first_low : get_or (first_statements f) r 0 ≤ 512
+  pub few : get_or (first_handles f) (r + 1) 0 ≤ get_or (first_handles f) r 0 + 8
+  pub there : get_or (first_handles f) (r + 1) 0 ≤ length (table_of f).handles
 
--- what CALL and START ask
-pub naming : (p : Loaded) (r : ℕ) → Accepted (table_of p.numbers.now) → r < length (table_of p.numbers.now).routines → LookedUp (table_of p.numbers.now) p.first p.handle r
-    → Naming p r
-naming p r accepted l u =
-    let facts = accepted.routine_facts r l in
-    record {
-      accepted = accepted;
-      low = omega (arith, accepted.routines_most);
-      first_low = omega (arith, u.first_is, facts.some_statement, facts.statements_there, accepted.statements_most);
-      few = omega (arith, u.from_is, u.end_is, facts.few_handles);
-      there = omega (arith, u.end_is, facts.handles_there);
-    }
+module _ (f : List ℤ) (accepted : Accepted (table_of f)) where
+  few_routines : routines f ≤ 32
+  few_routines = omega (arith, accepted.routines_most, routines_length f)
+
+  pub looked_up : (r : ℕ) → r < length (table_of f).routines → LookedUp f r
+  unfolding routine_at
+  looked_up r l =
+      let inside : r < routines f = omega (arith, routines_length f) in
+      let e = routine_read f r l in
+      let rises : handles_from f r ≤ handles_from f (r + 1) =
+      rw (handles_next f r) (until_range (λ h. eqb (routine_of f h) r) (handles_from f r) (handles f - handles_from f r)).0 in
+      record {
+        first_is = first_at f few_routines (first_statements f) r refl (omega arith) ∙ ap (λ q. q.first) (sym e);
+        from_is = handle_at_lem f few_routines (first_handles f) r refl (omega arith) ∙ ap (λ q. q.handle) (sym e);
+        end_is = handle_at_lem f few_routines (first_handles f) (r + 1) refl (omega arith) ∙ rw e (omega arith);
+      }
+
+  ends : (q : ℕ) → q < length (table_of f).routines → first_statement f (suc q) ≡ (routine (table_of f) q).first + (routine (table_of f) q).count
+  unfolding first_statement routine_at
+  ends q there = rw (routine_read f q there) refl
+
+  -- the statements of the routines below another are at most 512
+  first_most : (r : ℕ) → get_or (first_statements f) r 0 ≤ 512
+  unfolding first_statement
+  first_most zero = omega (arith, first_at f few_routines (first_statements f) 0 refl (omega arith))
+  first_most (suc q) = go (ltb q (routines f)) refl
+    where
+      go : (b : Bool) → ltb q (routines f) ≡ b → get_or (first_statements f) (suc q) 0 ≤ 512
+      go true e =
+          let inside = ltb-true q (routines f) e in
+          let there : q < length (table_of f).routines = omega (arith, routines_length f) in
+          let facts = accepted.routine_facts q there in
+          omega (arith, first_at f few_routines (first_statements f) (suc q) refl (omega arith), ends q there, facts.statements_there, accepted.statements_most)
+      go false e = omega (arith, entry_behind 33 (routines f + 1) (first_statement f) (first_statements f) (suc q) refl (omega (arith, ltb-false q (routines f) e)))
+
+  pub bounds : (r : ℕ) → Bounds f r
+  bounds r = go (ltb r (routines f)) refl
+    where
+      go : (b : Bool) → ltb r (routines f) ≡ b → Bounds f r
+      go true e =
+          let there : r < length (table_of f).routines = omega (arith, ltb-true r (routines f) e, routines_length f) in
+          let facts = accepted.routine_facts r there in
+          let u = looked_up r there in
+          record {
+            first_low = first_most r;
+            few = omega (arith, u.from_is, u.end_is, facts.few_handles);
+            there = omega (arith, u.end_is, facts.handles_there);
+          }
+      go false e =
+          let none = entry_behind 33 (routines f + 1) (handles_from f) (first_handles f) (r + 1) refl (omega (arith, ltb-false r (routines f) e)) in
+          record { first_low = first_most r; few = omega (arith, none); there = omega (arith, none) }

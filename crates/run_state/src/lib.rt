@@ -5,49 +5,44 @@ pub mod frames;
 ghost use Rattle.std.specs.Prelude.{◌≡◌, ◌*◌, ◌<◌, ◌≤◌, get_or, length, pos, set, take};
 ghost use Rattle.table.specs.Header.{statements, statement_line};
 ghost use Rattle.table.specs.Table.{table_of};
-ghost use Rattle.table.specs.Extents.{first_handles};
-ghost use Rattle.table.specs.Accepted.{Accepted};
 ghost use Rattle.machine.specs.State.{start};
 ghost use Rattle.run_state.specs.Lists.{cleared, locks_in, cells_in, put_lock, put_cell};
-ghost use Rattle.run_state.specs.Shown.{ListsShow, Sized};
+ghost use Rattle.run_state.specs.Shown.{ListsShow};
 
+use declarations::program::Program;
 use table::Arguments;
 
-// What a step asks of the table's header: the line of statement 0, and how many cells and locks there are.
-#[derive(Clone, Copy)]
-pub struct Sizes {
-    pub base: usize,
+// What a run never changes: an accepted table, with all of its lines, and how many cells and locks it has, which a step does not ask its header for.
+#[derive(Drop)]
+pub struct Loaded<'a> {
+    pub program: Program<'a>,
     pub cells: usize,
     pub locks: usize,
+    pub ghost long: { length program ≡ 8 * statement_line program (statements program) },
+    pub ghost cells_are: { cells ≡ (table_of program).cells },
+    pub ghost locks_are: { locks ≡ (table_of program).locks },
 }
 
-// The sizes of a table's numbers.
-pub fn sizes_of(numbers: &[i32]) -> Sizes
-    ensures { Sized numbers.now result }
-{
-    let counts = table::counts_of(numbers);
-    Sizes {
-        base: table::first_line(numbers),
-        cells: counts.cells,
-        locks: counts.locks,
+impl<'a> Loaded<'a> {
+    // Of a table whose lines are all there.
+    pub fn new(program: Program<'a>) -> Loaded<'a>
+        requires { length program ≡ 8 * statement_line program (statements program) }
+        ensures { result.program ≡ program.entry }
+    {
+        let counts = table::counts_of(program.numbers);
+        Loaded {
+            program,
+            cells: counts.cells,
+            locks: counts.locks,
+        }
     }
-}
-
-// What a run never changes: the numbers of an accepted text, each routine's first statement and first handle, and the sizes. That they are so (`Fixed`) is
-// no ghost field: `Accepted` gives each routine a rank, so it has more than one proof, and a truncated one cannot be taken apart where the rank is used.
-// (`declarations::program::Program` lends its lists, which `engine::program_of` has nowhere to keep, and has no sizes.)
-#[derive(Clone, Copy)]
-pub struct Loaded<'a> {
-    pub numbers: &'a [i32],
-    pub first: [usize; 33],
-    pub handle: [usize; 33],
-    pub sizes: Sizes,
 }
 
 // The state of a run: how many threads are started (with 32 bits a step of `bench/run` took a sixth longer; the bar is that none takes longer), each slot's
 // next statement and handle values, each thread's frame count and accumulator, each lock's word, the cells. Between `u32` and `usize`, and from `u64`, goes
-// `as`: `From` has no way, and `TryFrom` answers with a `Result` that could not fail. Arrays of fixed size, one a field: there is no heap, and a step touches
-// a place or two of each.
+// `as`: `From` has no way, and `TryFrom` answers with a `Result` that could not fail. Arrays of fixed size, one a field, by thread, by slot, by lock and by
+// cell: there is no heap, a step touches a place or two of each, and how they show a state of the machine is said list by list. A count of locks or cells is
+// asked for where an array is cut to it, which is as long as any table needs.
 #[derive(Clone, Copy)]
 pub struct State {
     pub started: usize,
@@ -128,27 +123,12 @@ impl State {
 }
 
 // Makes the state show where a run begins: thread 0 alone, in routine 0, cells zero and locks free.
-pub fn begin(program: &Loaded<'_>, state: &mut State)
-    requires { Accepted (table_of program.now.numbers.now) × (program.now.handle ≡ first_handles program.now.numbers.now) × (length program.now.numbers.now ≡ 8 * statement_line program.now.numbers.now (statements program.now.numbers.now)) }
-    ensures { ListsShow (table_of program.now.numbers.now) state.new (start (table_of program.now.numbers.now)) }
+pub fn begin(loaded: &Loaded<'_>, state: &mut State)
+    ensures { ListsShow (table_of loaded.now.program) state.new (start (table_of loaded.now.program)) }
 {
     *state = State::new();
     state.started = 1;
     state.counts[0] = 1;
     // routine 0 has no parameter
-    let nothing = Arguments {
-        first: 0,
-        second: 0,
-        third: 0,
-        fourth: 0,
-    };
-    frames::enter(
-        program.numbers,
-        program.handle[0],
-        program.handle[1],
-        nothing,
-        &mut state.values,
-        0,
-        1,
-    );
+    frames::enter(loaded, 0, Arguments::default(), &mut state.values, 0, 1);
 }

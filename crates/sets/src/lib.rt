@@ -1,7 +1,7 @@
 #![tactic(auto)]
 // Sets of at most 64 elements, each in one number: element i is bit i. A struct around the number would be no plainer: the lists of sets that C and the
 // solver lend are lists of u64.
-// Casts are by `as` where `From` has no way and `TryFrom` would answer with a `Result` that cannot fail.
+// Two sets of one operation are its operands, and no pair. Casts are by `as` where `From` has no way and `TryFrom` would answer with a `Result` that cannot fail.
 ghost use Rattle.std.specs.Prelude.{◌≡◌};
 ghost use Rattle.sets.specs.Set.{has, firsts, one, with, union, inter, minus, subset, is_empty, count, is_single, only, lowest};
 

@@ -1,4 +1,5 @@
-// Prints what the set operations and the solver give on chosen inputs, one to a line: what was asked, and the answer.
+// Prints what the set operations and the solver give on chosen inputs, one to a line: what was asked, and the answer. Where to print goes beside what is
+// printed, which is another thing each time, and an order beside the edges that it goes over.
 #![tactic(auto)]
 
 use solver::Order;

@@ -13,7 +13,7 @@ pub use passes::Order;
 
 // One pass; if it is the last before the worklist and changed anything, the worklist goes on from there, in the other order. Returns whether anything may
 // be left to put. Where places have many edges, every other pass turns round, since then one of the two ways is mostly right, and the worklist waits for
-// the fourth pass in place of the second, since to link these edges takes longer.
+// the fourth pass in place of the second, since to link these edges takes longer. `turn` says how many passes went before: what follows from it is said here once.
 fn step(sets: &mut [u64], edges: Edges<'_>, order: Order, turn: usize) -> bool
     ensures { Stepped edges.entry.ends.now edges.entry.also.now sets.old sets.new result }
 {
@@ -33,8 +33,8 @@ fn step(sets: &mut [u64], edges: Edges<'_>, order: Order, turn: usize) -> bool
 }
 
 // Makes the sets the least ones that hold them and in which, for every edge, what is in both sets that it comes from is in the
-// set that it leads to. An edge from or to a place past the end does nothing. The order changes nothing but the time. Ends and places are two lists, as the
-// public signature has them; `turn` counts passes round and is no index.
+// set that it leads to. An edge from or to a place past the end does nothing. The order changes nothing but the time. Ends and places are two lists, since
+// plain edges have no places, and each caller would make an `Edges` for the one call; `turn` counts passes round and is no index.
 pub fn solve(sets: &mut [u64], edges: &[u32], also: &[u16], order: Order)
     ensures { sets.new ≡ least (edges_of edges.now also.now) sets.old }
 {

@@ -1,6 +1,7 @@
 // The worklist: the places whose sets changed, one bit each in 16 words. That is fixed memory, since the project uses no heap, and counting zeros finds the
 // next place. Nothing is promised of its contents: it only ever puts along edges that are there, and a pass finds out whether anything is left to put.
 // The order is a value that the solver turns round, so it is matched where it says which place is next; a closure would be chosen by the same match.
+// Casts are by `as` where `From` has no way and `TryFrom` would answer with a `Result` that cannot fail. `links` is filled by its index, from both its ends.
 // Sets, worklist and edges stay parameters: of a struct of lent lists each contract would have to say too that they are the same lists.
 ghost use Rattle.std.specs.Prelude.{true, IfSome, ◌<◌, ◌≤◌, length};
 ghost use Rattle.passes.specs.Pass.{Solving};
@@ -44,7 +45,7 @@ fn follow_pair(sets: &mut [u64], worklist: &mut [u64; 16], edges: Edges<'_>, k: 
 fn linked_behind(links: &[u16; 2176], k: usize) -> Option<usize>
     ensures { IfSome result (λ later. k < later) }
 {
-    let link = lists::wide(*links.get(k)?);
+    let link = usize::from(*links.get(k)?);
     if k + 1 < link { Some(link - 1) } else { None }
 }
 
@@ -58,7 +59,7 @@ fn follow_edges(
 )
     ensures { Solving edges.entry.ends.now edges.entry.also.now sets.old sets.new true }
 {
-    let mut next = lists::wide(link).checked_sub(1);
+    let mut next = usize::from(link).checked_sub(1);
     while let Some(k) = next {
         follow_pair(sets, worklist, edges, k);
         next = linked_behind(links, k);
@@ -99,7 +100,8 @@ fn next_word(i: usize, n: usize, order: Order) -> usize
     }
 }
 
-// Takes places off the worklist, 64 a word in `words` words, and goes along their edges, until none is left or it was long.
+// Takes places off the worklist, 64 a word in the first `words` words, where the sets' places are, and goes along their edges, until none is left or it was long.
+// The word `i` goes round and not along, and `idle` counts the words that had none, one behind the other.
 fn follow_places(
     sets: &mut [u64],
     worklist: &mut [u64; 16],

@@ -1,6 +1,7 @@
 #![tactic(auto)]
 // The report of an accepted table: its sets, each out of those before it, what is found with them, and its lines. Flow and held sets stay as they
 // are found.
+// What stands in `work`, and what `reads`, `writes` and `shared` are, goes from each function to the next, where it is asked for once or twice.
 // The room is lent from above, since there is no heap, and lent on in parts, so each function says how much it needs: of a struct
 // of program and room each contract would have to say too that they are the same lists.
 ghost use Rattle.std.specs.Prelude.{◌≡◌, ◌+◌, ◌*◌, ◌≤◌, length, take, drop};
@@ -9,9 +10,8 @@ ghost use Rattle.table.specs.Table.{table_of};
 ghost use Rattle.table.specs.Accepted.{Accepted};
 ghost use Rattle.report.specs.Layout.{one_each};
 ghost use Rattle.report.specs.Findings.{shared_cells, own_holds};
-ghost use Rattle.report.specs.Report.{report_text};
 ghost use Rattle.findings.specs.Found.{sets_in, counted_holds};
-ghost use Rattle.report_printer.specs.Printed.{bytes_in, printed_over, counts_nothing};
+ghost use Rattle.report_printer.specs.Printed.{Reports};
 ghost use Rattle.stages.specs.Lent.{Lent};
 
 use declarations::outline::Extents;
@@ -87,12 +87,10 @@ fn print_found(solved: &Solved<'_>, work: &[u64], shared: u64, out: &mut [u8]) -
     requires work_value_2 { take (statements solved.now.program.now) (drop (statements solved.now.program.now) work.now) ≡ counted_holds (table_of solved.now.program.now) }
     requires numbers_in_bounds { statements solved.now.program.now + statements solved.now.program.now ≤ length work.now }
     requires shared_value { shared ≡ shared_cells (table_of solved.now.program.now) (one_each (table_of solved.now.program.now)) (sets_in (table_of solved.now.program.now)) }
-    ensures bytes { result.bytes ≡ bytes_in (report_text (table_of solved.now.program.now)) (length out.old) }
-    ensures clean { result.clean ≡ counts_nothing (table_of solved.now.program.now) }
-    ensures buffer { out.new ≡ printed_over (report_text (table_of solved.now.program.now)) out.old }
+    ensures { Reports (table_of solved.now.program.now) out.old out.new result }
 {
     let program = solved.program;
-    let count = table::field_of(program.numbers, 0, 5);
+    let count = program.statements();
     let end = count + count;
     let noted = findings::note_accesses(program, solved.flow, &work[count..end]);
     report_printer::print_report(program, solved.flow, &work[..count], shared, &noted, out)
@@ -111,9 +109,7 @@ fn with_shared(
     requires shared_value { shared ≡ shared_cells (table_of solved.now.program.now) (one_each (table_of solved.now.program.now)) (sets_in (table_of solved.now.program.now)) }
     requires numbers_in_bounds { statements solved.now.program.now + (statements solved.now.program.now + routines solved.now.program.now + 1) ≤ length work.old }
     requires numbers_in_bounds_2 { 4 * statements solved.now.program.now ≤ length edges.old }
-    ensures bytes { result.bytes ≡ bytes_in (report_text (table_of solved.now.program.now)) (length out.old) }
-    ensures clean { result.clean ≡ counts_nothing (table_of solved.now.program.now) }
-    ensures buffer { out.new ≡ printed_over (report_text (table_of solved.now.program.now)) out.old }
+    ensures { Reports (table_of solved.now.program.now) out.old out.new result }
 {
     preceding::counted_holds(solved.program, edges, work);
     print_found(solved, work, shared, out)
@@ -125,12 +121,10 @@ fn with_held(solved: &Solved<'_>, work: &mut [u64], edges: &mut [u32], out: &mut
     requires work_value { take (statements solved.now.program.now) work.old ≡ own_holds (table_of solved.now.program.now) (one_each (table_of solved.now.program.now)) (sets_in (table_of solved.now.program.now)) }
     requires numbers_in_bounds { statements solved.now.program.now + 2 * (statements solved.now.program.now + routines solved.now.program.now) ≤ length work.old }
     requires numbers_in_bounds_2 { 4 * statements solved.now.program.now ≤ length edges.old }
-    ensures bytes { result.bytes ≡ bytes_in (report_text (table_of solved.now.program.now)) (length out.old) }
-    ensures clean { result.clean ≡ counts_nothing (table_of solved.now.program.now) }
-    ensures buffer { out.new ≡ printed_over (report_text (table_of solved.now.program.now)) out.old }
+    ensures { Reports (table_of solved.now.program.now) out.old out.new result }
 {
     let program = solved.program;
-    let count = table::field_of(program.numbers, 0, 5);
+    let count = program.statements();
     let end = count + 2 * (count + program.routines());
     let shared = shared_of(solved, &mut work[count..end], edges);
     with_shared(solved, shared, work, edges, out)
@@ -139,9 +133,7 @@ fn with_held(solved: &Solved<'_>, work: &mut [u64], edges: &mut [u32], out: &mut
 // Writes the report, from the flow sets. The held sets go into the first places of `work`.
 fn with_flow(solved: &Solved<'_>, work: &mut [u64], edges: &mut [u32], out: &mut [u8]) -> Printed
     requires lent { Lent solved.now.program.now work.old edges.old }
-    ensures bytes { result.bytes ≡ bytes_in (report_text (table_of solved.now.program.now)) (length out.old) }
-    ensures clean { result.clean ≡ counts_nothing (table_of solved.now.program.now) }
-    ensures buffer { out.new ≡ printed_over (report_text (table_of solved.now.program.now)) out.old }
+    ensures { Reports (table_of solved.now.program.now) out.old out.new result }
 {
     own_holds::own_holds(solved.program, solved.flow, edges, work);
     with_held(solved, work, edges, out)
@@ -151,9 +143,7 @@ fn with_flow(solved: &Solved<'_>, work: &mut [u64], edges: &mut [u32], out: &mut
 pub fn examine(numbers: &[i32], work: &mut [u64], edges: &mut [u32], out: &mut [u8]) -> Printed
     requires accepted { Accepted (table_of numbers.now) }
     requires lent { Lent numbers.now work.old edges.old }
-    ensures bytes { result.bytes ≡ bytes_in (report_text (table_of numbers.now)) (length out.old) }
-    ensures clean { result.clean ≡ counts_nothing (table_of numbers.now) }
-    ensures buffer { out.new ≡ printed_over (report_text (table_of numbers.now)) out.old }
+    ensures { Reports (table_of numbers.now) out.old out.new result }
 {
     let extents = Extents::of(numbers);
     let program = Program::new(numbers, &extents);

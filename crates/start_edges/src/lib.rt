@@ -2,6 +2,7 @@
 // The edges by which C-13's two equations go, in the order of their definitions: which routines hold a START or reach one by CALLs, and which statements a
 // START can precede. A set has the element 0 where it is so, and nothing elsewhere. With one copy of each routine, the place of a routine is its number in the
 // first equation, and in the second that behind the statements; last stands "a START". Four places a statement are room enough for the edges.
+// A statement `s` and its routine `c` go beside the program as in `edges`.
 ghost use Rattle.std.specs.Prelude.{◌≡◌, true, ◌||◌, ◌<◌, ◌≤◌, ◌+◌, ◌*◌, length};
 ghost use Rattle.table.specs.Header.{routines, statements};
 ghost use Rattle.table.specs.Table.{table_of, statement};

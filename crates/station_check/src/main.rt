@@ -5,10 +5,8 @@ ghost use Rattle.std.specs.Prelude.{IfSome, OnOk};
 ghost use Rattle.std.specs.Io.KnownBytes.{Appends};
 ghost use Rattle.answer.specs.Said.{said_of};
 
-use std::env::FillError;
 use std::io;
 use std::io::{Read, Write};
-use std::rt::Env;
 
 // Reads a text to its end, or past the longest one, and prints what is said of it.
 fn check_file<R: Read, W: Write>(file: &mut R, out: &mut W) -> io::Result<()>
@@ -21,14 +19,11 @@ fn check_file<R: Read, W: Write>(file: &mut R, out: &mut W) -> io::Result<()>
     out.write_all(&said[..bytes])
 }
 
-// A name that is longer than the buffer counts as empty.
 fn main(rt: HostRuntime) -> io::Result<()> {
     let mut out = io::writer(&rt);
     let mut path = [0u8; 4096];
-    let n = match rt.arg(1, &mut path) {
-        Ok(n) => n,
-        Err(FillError::TooLong) => 0,
-        Err(FillError::NotPresent) => return check_file(&mut rt.reader(), &mut out),
+    let Some(n) = run_printer::read_argument(&rt, 1, &mut path) else {
+        return check_file(&mut rt.reader(), &mut out);
     };
     let Some(mut file) = run_printer::open(&rt, &path[..n])? else {
         return Ok(());

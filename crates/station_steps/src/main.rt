@@ -2,7 +2,6 @@
 // table text, the second a file with the schedule, each byte a thread number.
 #![tactic(auto)]
 
-use run_printer::Tail;
 use std::io;
 use std::rt::{Env, Files};
 
@@ -24,25 +23,10 @@ fn print_steps(rt: &impl Print, schedule: &[u8], answers: &[u8]) -> io::Result<(
     Ok(())
 }
 
-// The lines of cells, 20 bytes each at most.
-fn print_cells(rt: &impl Print, cells: &[i32]) -> io::Result<()> {
-    let mut out = [0u8; 2048];
-    let mut tail = Tail {
-        out: &mut out,
-        start: 2048,
-    };
-    tail.put_cells(cells);
-    rt.write_all(tail.text())
-}
-
-// The cells of an accepted text: as many as its header says.
+// The cells of an accepted text: as many as its header says, 20 bytes each at most.
 fn print_cells_of(rt: &impl Print, text: &[u8], cells: &[i32]) -> io::Result<()> {
-    let header = lines::read_line(text, 0).unwrap_or([0; 8]);
-    let count = table::field_of(&header, 0, 1);
-    if let Some(own) = cells.get(..count) {
-        print_cells(rt, own)?;
-    }
-    Ok(())
+    let own = lists::front(cells, table::cell_count(text));
+    run_printer::say_words(rt, b"", |tail| tail.put_cells(own))
 }
 
 fn step_through(rt: &impl Print, text: &[u8], schedule: &[u8]) -> io::Result<()> {
@@ -61,28 +45,24 @@ fn step_through(rt: &impl Print, text: &[u8], schedule: &[u8]) -> io::Result<()>
     }
 }
 
-// Opens the file that argument `i` names; none where it cannot be opened, which is said on standard error. A name
+// Hands the bytes of the file that argument `i` names to `take`; nothing where it cannot be opened, which is said on standard error. A name
 // that is missing or longer than the buffer counts as empty.
-fn open_argument<R: Files + Eprint + Env>(rt: &R, i: usize) -> io::Result<Option<R::File>> {
+fn with_argument<R: Files + Eprint + Env, F: FnOnce(&[u8]) -> io::Result<()>>(
+    rt: &R,
+    i: usize,
+    take: F,
+) -> io::Result<()>
+    requires { F.IsAlwaysCallable take }
+{
     let mut path = [0u8; 4096];
-    let n = rt.arg(i, &mut path).unwrap_or(0);
-    run_printer::open(rt, &path[..n])
+    let n = run_printer::read_argument(rt, i, &mut path).unwrap_or(0);
+    run_printer::with_file(rt, &path[..n], take)
 }
 
-fn with_table<R: Files + Print + Eprint + Env>(rt: &R, text: &[u8]) -> io::Result<()> {
-    let Some(mut file) = open_argument(rt, 2)? else {
-        return Ok(());
-    };
-    let mut schedule = [0u8; 65536];
-    let count = run_printer::read_full(&mut file, &mut schedule)?;
-    step_through(rt, text, &schedule[..count])
+fn with_table(rt: &(impl Files + Print + Eprint + Env), text: &[u8]) -> io::Result<()> {
+    with_argument(rt, 2, |schedule| step_through(rt, text, schedule))
 }
 
 fn main(rt: HostRuntime) -> io::Result<()> {
-    let Some(mut file) = open_argument(&rt, 1)? else {
-        return Ok(());
-    };
-    let mut text = [0u8; 65536];
-    let count = run_printer::read_full(&mut file, &mut text)?;
-    with_table(&rt, &text[..count])
+    with_argument(&rt, 1, |text| with_table(&rt, text))
 }

@@ -5,13 +5,12 @@ use Rattle.std.proofs.Common.{◌∙◌, arith, add-one, take-append-drop, eqb-t
 use mathlib.Core.List.{List, [], ◌∷◌, ◌++◌, append_assoc, append-nil}
 use Rattle.std.proofs.Math.ListN.{length, take, drop, length-set, drop_of_length-le}
 use Rattle.std.proofs.Math.Seq.{drop-cons, take-suc-set, drop-set-lt, drop-drop}
-use Rattle.table.specs.Table.{Table, table_of, statement}
+use Rattle.table.specs.Table.{Table, statement}
 use Rattle.machine.specs.State.{State, Frame, thread}
 use Rattle.machine.specs.Step.{after}
 use Rattle.machine.specs.Engine.{engine_step, answer, engine_run, answers}
 use Rattle.machine.proofs.EngineLaws.{step_answered}
 use Rattle.operations.specs.Step.{Step, Ran, Refused, numbered, number_of, case_of, step_of}
-use Rattle.run_state.specs.declared.Loaded.{Loaded}
 use Rattle.run_state.specs.declared.State as Run
 use Rattle.run_state.specs.Shown.{ListsShow, Standing}
 use Rattle.steps.specs.Stepped.{Steps, Follows}
@@ -31,10 +30,9 @@ unfolding step_of
 step_number t state n = number_at (answer (engine_step t state n)) t (thread state n).frames
 
 -- and fits a byte
-pub steps_small : (p : Loaded) (s : Run.State) → Standing p s
-    → (s' : Run.State) (n : ℕ) (r : Step) → Steps (table_of p.numbers.now) s s' n r → number_of (numbered r) < 256
-steps_small p s standing s' n r did =
-    let t = table_of p.numbers.now in
+pub steps_small : (t : Table) (s : Run.State) → Standing t s
+    → (s' : Run.State) (n : ℕ) (r : Step) → Steps t s s' n r → number_of (numbered r) < 256
+steps_small t s standing s' n r did =
     omega (arith, ap number_of (did standing.state standing.shows).answered ∙ step_number t standing.state n, (step_answered t standing.state n).most)
 
 -- ---- a schedule
@@ -46,17 +44,17 @@ pub record Reached (t : Table) (s : Run.State) (schedule lent : List ℕ) (i : �
   pub rest : engine_run t state (drop i schedule) ≡ engine_run t begun schedule
   pub written : take i lent ++ answers t state (drop i schedule) ≡ answers t begun schedule
 
-pub record Following (p : Loaded) (schedule answers₀ : List ℕ) (s₀ : Run.State) (lent : List ℕ) (s : Run.State) (i : ℕ) : Type 0 where
-  pub standing : Standing p s₀
+pub record Following (t : Table) (schedule answers₀ : List ℕ) (s₀ : Run.State) (lent : List ℕ) (s : Run.State) (i : ℕ) : Type 0 where
+  pub standing : Standing t s₀
   pub low : i ≤ length schedule
   pub room : length schedule ≤ length answers₀
   pub long : length lent ≡ length answers₀
   pub behind : drop i lent ≡ drop i answers₀
-  pub reached : (state : State) → ListsShow (table_of p.numbers.now) s₀ state → Reached (table_of p.numbers.now) s schedule lent i state
+  pub reached : (state : State) → ListsShow t s₀ state → Reached t s schedule lent i state
 
-module _ (p : Loaded) (schedule answers₀ : List ℕ) (s₀ : Run.State) where
-  pub following_start : Standing p s₀ → length schedule ≤ length answers₀
-      → Following p schedule answers₀ s₀ answers₀ s₀ 0
+module _ (t : Table) (schedule answers₀ : List ℕ) (s₀ : Run.State) where
+  pub following_start : Standing t s₀ → length schedule ≤ length answers₀
+      → Following t schedule answers₀ s₀ answers₀ s₀ 0
   following_start started l =
       record {
         standing = started;
@@ -68,16 +66,16 @@ module _ (p : Loaded) (schedule answers₀ : List ℕ) (s₀ : Run.State) where
       }
 
   module _ (lent : List ℕ) (s : Run.State) (i : ℕ)
-      (f : Following p schedule answers₀ s₀ lent s i) where
+      (f : Following t schedule answers₀ s₀ lent s i) where
     -- the lists show some state all the way
-    pub following_standing : Standing p s
+    pub following_standing : Standing t s
     following_standing =
         let r = f.reached f.standing.state f.standing.shows in
-        record { fixed = f.standing.fixed; state = r.state; shows = r.shows }
+        record { state = r.state; shows = r.shows }
 
     pub following_next : (s' : Run.State) (n v : ℕ) (r : Step) → i < length schedule → n ≡ get_or schedule i 0
-        → Steps (table_of p.numbers.now) s s' n r → v ≡ number_of (numbered r)
-        → Following p schedule answers₀ s₀ (set lent i v) s' (i + 1)
+        → Steps t s s' n r → v ≡ number_of (numbered r)
+        → Following t schedule answers₀ s₀ (set lent i v) s' (i + 1)
     unfolding engine_run answers
     following_next s' n v r l e stepped w =
         record {
@@ -89,10 +87,9 @@ module _ (p : Loaded) (schedule answers₀ : List ℕ) (s₀ : Run.State) where
           reached = λ begun shown. next begun (f.reached begun shown);
         }
       where
-        next : (begun : State) → Reached (table_of p.numbers.now) s schedule lent i begun
-            → Reached (table_of p.numbers.now) s' schedule (set lent i v) (i + 1) begun
+        next : (begun : State) → Reached t s schedule lent i begun
+            → Reached t s' schedule (set lent i v) (i + 1) begun
         next begun before =
-            let t = table_of p.numbers.now in
             let state = before.state in
             let q = stepped state before.shows in
             let here : drop i schedule ≡ n ∷ drop (i + 1) schedule = drop-cons schedule i 0 l ∙ ap₂ (λ (x j : ℕ). x ∷ drop j schedule) (sym e) (sym (add-one i)) in
@@ -110,10 +107,9 @@ module _ (p : Loaded) (schedule answers₀ : List ℕ) (s₀ : Run.State) where
                   ∙ ap (λ (ns : List ℕ). take i lent ++ answers t state ns) (sym here) ∙ before.written;
             }
 
-    pub following_done : length schedule ≤ i → Follows (table_of p.numbers.now) s₀ s schedule answers₀ lent
+    pub following_done : length schedule ≤ i → Follows t s₀ s schedule answers₀ lent
     unfolding engine_run answers
     following_done l begun shown =
-        let t = table_of p.numbers.now in
         let last = f.reached begun shown in
         let none : drop i schedule ≡ [] = drop_of_length-le schedule l in
         let end : i ≡ length schedule = omega (arith, f.low) in

@@ -1,11 +1,10 @@
 -- What a step of the engine asks and leaves. Assumes nothing.
-use Rattle.std.specs.Prelude.{ℕ, ◌<◌, ◌≡◌, List, ◌++◌, length, get_or, set, drop, Some, None, Ok, Err}
-use Rattle.table.specs.Table.{Table, statement_of}
+use Rattle.std.specs.Prelude.{ℕ, ◌<◌, ◌≡◌, List, ◌++◌, ℤ, length, get_or, set, drop, Some, None, Ok, Err}
+use Rattle.table.specs.Table.{Table, table_of, statement_of}
 use Rattle.table.specs.declared.Statement.{Statement}
 use Rattle.machine.specs.State.{State}
 use Rattle.machine.specs.Step.{after}
 use Rattle.machine.specs.Engine.{engine_step, engine_run, answers}
-use Rattle.run_state.specs.declared.Loaded.{Loaded}
 use Rattle.run_state.specs.declared.State as Run
 use Rattle.run_state.specs.Shown.{Arrays, parts_of, user, ShowsBounded, ListsShow, Standing}
 use Rattle.operations.specs.declared.place.Place.{Place}
@@ -32,12 +31,12 @@ abbrev pub Follows : Table → Run.State → Run.State → List ℕ → List ℕ
 Follows t s s' schedule lent lent' = (state : State) → ListsShow t s state → Followed t s' schedule lent lent' state
 
 -- a thread that is at a statement of its newest frame
-pub record Here (p : Loaded) (s : Run.State) (at : Place) (σ : Statement) : Type 0 where
-  pub standing : Standing p s
+pub record Here (numbers : List ℤ) (s : Run.State) (at : Place) (σ : Statement) : Type 0 where
+  pub standing : Standing (table_of numbers) s
   pub low : at.thread < s.started
   pub newest : Newest at (get_or s.counts at.thread 0)
   pub next_is : at.next ≡ get_or s.nexts at.slot 0
-  pub statement_is : σ ≡ statement_of p.numbers.now at.next
+  pub statement_is : σ ≡ statement_of numbers at.next
 
 -- a run's state after an operation, with the store of its frame's next statement
 abbrev pub stored : ℕ → Move → Run.State → Run.State

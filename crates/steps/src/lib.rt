@@ -1,5 +1,6 @@
 #![tactic(auto)]
-// One step of a thread on the state of a run, and the steps of a schedule. Between steps the state is the caller's.
+// One step of a thread on the state of a run, and the steps of a schedule. Between steps the state is the caller's, who
+// may step several by one table, so that table and state are two parameters.
 ghost use Rattle.std.specs.Prelude.{◌≡◌, ◌≤◌, length};
 ghost use Rattle.table.specs.Table.{table_of};
 ghost use Rattle.run_state.specs.Shown.{Standing};
@@ -21,12 +22,15 @@ pub fn answer_byte(answer: Step) -> u8
 }
 
 // Runs a thread's next statement once, by its operation; the frame's next statement is left to be stored.
-fn operate(program: &Loaded<'_>, statement: Statement, at: Place, state: &mut State) -> Move
-    requires { Here program.now state.old at statement }
-    ensures { Operated (table_of program.now.numbers.now) state.old state.new at statement result }
+fn operate(loaded: &Loaded<'_>, statement: Statement, at: Place, state: &mut State) -> Move
+    requires { Here loaded.now.program state.old at statement }
+    ensures { Operated (table_of loaded.now.program) state.old state.new at statement result }
 {
-    let cells = program.sizes.cells;
-    let locks = program.sizes.locks;
+    // named for the proof, which then knows that the table is accepted
+    let program = &loaded.program;
+    let _ = &program.base;
+    let cells = loaded.cells;
+    let locks = loaded.locks;
     match statement {
         Statement::Read(h) => operations::read(h.number, at, cells, state),
         Statement::Write(h) => operations::write(h.number, at, cells, state),
@@ -36,10 +40,10 @@ fn operate(program: &Loaded<'_>, statement: Statement, at: Place, state: &mut St
         Statement::Give(h) => locks::give(h.number, at, locks, state),
         Statement::Point { handle: h, from: g } => operations::point(h.number, g.number, at, state),
         Statement::Call { routine, arguments } => operations::call(
-            program, routine, arguments, at, state,
+            loaded, routine, arguments, at, state,
         ),
         Statement::Start { routine, arguments } => operations::start(
-            program, routine, arguments, at, state,
+            loaded, routine, arguments, at, state,
         ),
         Statement::Jump(target) => Ok(Some(target.statement)),
         Statement::JumpZero(target) => operations::jump_zero(target.statement, at, state),
@@ -50,9 +54,9 @@ fn operate(program: &Loaded<'_>, statement: Statement, at: Place, state: &mut St
 
 // One step of thread `n`: its next statement, once; an error where it has none. The state shows some state of the machine; of every such state it shows
 // afterwards the one after the step.
-pub fn step(program: &Loaded<'_>, n: usize, state: &mut State) -> Step
-    requires { Standing program.now state.old }
-    ensures { Steps (table_of program.now.numbers.now) state.old state.new n result }
+pub fn step(loaded: &Loaded<'_>, n: usize, state: &mut State) -> Step
+    requires { Standing (table_of loaded.now.program) state.old }
+    ensures { Steps (table_of loaded.now.program) state.old state.new n result }
 {
     if state.started <= n {
         return Err(TurnedDown::NotStarted);
@@ -64,13 +68,14 @@ pub fn step(program: &Loaded<'_>, n: usize, state: &mut State) -> Step
     }
     let slot = n * 32 + count - 1;
     let next = state.nexts[slot] as usize;
-    let statement = table::statement_at(program.numbers, program.sizes.base + next);
+    let program = &loaded.program;
+    let statement = table::statement_at(program.numbers, program.base + next);
     let at = Place {
         thread: n,
         slot,
         next,
     };
-    let after = operate(program, statement, at, state).map_err(|why| TurnedDown::Stopped {
+    let after = operate(loaded, statement, at, state).map_err(|why| TurnedDown::Stopped {
         statement,
         why,
     })?;
@@ -80,14 +85,15 @@ pub fn step(program: &Loaded<'_>, n: usize, state: &mut State) -> Step
     Ok(statement)
 }
 
-// The steps of a schedule, each byte a thread number, in order, with one answer for each in the first places of `answers`.
-pub fn follow(program: &Loaded<'_>, schedule: &[u8], answers: &mut [u8], state: &mut State)
-    requires { Standing program.now state.old × (length schedule.now ≤ length answers.old) }
-    ensures { Follows (table_of program.now.numbers.now) state.old state.new schedule.now answers.old answers.new }
+// The steps of a schedule, each byte a thread number, in order, with one answer for each in the first places of `answers`; by an index, since it is the place
+// in both.
+pub fn follow(loaded: &Loaded<'_>, schedule: &[u8], answers: &mut [u8], state: &mut State)
+    requires { Standing (table_of loaded.now.program) state.old × (length schedule.now ≤ length answers.old) }
+    ensures { Follows (table_of loaded.now.program) state.old state.new schedule.now answers.old answers.new }
 {
     for i in 0..schedule.len() {
-        let n = lists::wide_byte(schedule[i]);
-        let answer = step(program, n, state);
+        let n = usize::from(schedule[i]);
+        let answer = step(loaded, n, state);
         answers[i] = answer_byte(answer);
     }
 }

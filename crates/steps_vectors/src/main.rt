@@ -1,5 +1,6 @@
 // Steps called from a program: two tables of data/ are stepped in turn, each by its schedule and in a state of its own; then each is run by itself. What
 // both ways answer and leave is printed. Last a chain of 32 routines, with the frames that its threads have open behind each step: 32 at the deepest.
+// Two texts and two schedules are four lists of the caller's, lent on as they are; where to print goes beside what is printed.
 #![tactic(auto)]
 
 ghost use Rattle.std.specs.Prelude.{◌≡◌, ◌*◌, ◌<◌, ◌≤◌, length};
@@ -9,71 +10,44 @@ ghost use Rattle.table.specs.Table.{table_of};
 ghost use Rattle.table.specs.Accepted.{Accepted};
 ghost use Rattle.run_state.specs.Shown.{Standing};
 
-use run_printer::{Tail, load};
+use declarations::outline::Extents;
+use declarations::program::Program;
+use run_printer::{load, say_words};
 use run_state::{Loaded, State};
 use std::io;
 use std::rt::Files;
 
-fn say(rt: &impl Print, text: &[u8]) -> io::Result<()> {
-    rt.write_all(text)
-}
-
-// Numbers, a space before each.
-fn say_numbers(rt: &impl Print, numbers: &[u8]) -> io::Result<()> {
-    let mut out = [0u8; 2048];
-    let mut tail = Tail {
-        out: &mut out,
-        start: 2048,
-    };
-    tail.put_answers(numbers);
-    say(rt, tail.text())
-}
-
-// The first numbers, so many; none if there are fewer.
-fn say_some(rt: &impl Print, numbers: &[u8], count: usize) -> io::Result<()> {
-    if let Some(first) = numbers.get(..count) {
-        say_numbers(rt, first)?;
-    }
-    Ok(())
-}
-
-// `answers` and the first answers, so many.
-fn say_first(rt: &impl Print, answers: &[u8; 300], count: usize) -> io::Result<()> {
-    say(rt, b"answers")?;
-    say_some(rt, answers, count)
+// A text and numbers behind it, a space before each.
+fn say_numbers(rt: &impl Print, text: &[u8], numbers: &[u8]) -> io::Result<()> {
+    say_words(rt, text, |tail| tail.put_answers(numbers))
 }
 
 // `, cells` and the values of the cells, a space before each; a line feed.
 fn say_left(rt: &impl Print, cells: &[i32]) -> io::Result<()> {
-    let mut out = [0u8; 2048];
-    let mut tail = Tail {
-        out: &mut out,
-        start: 2048,
-    };
-    tail.put_text(b"\n");
-    tail.put_values(cells);
-    tail.put_text(b", cells");
-    say(rt, tail.text())
+    say_words(rt, b", cells", |tail| {
+        tail.put_text(b"\n");
+        tail.put_values(cells);
+    })
 }
 
 // The cells of a run.
-fn show_left(rt: &impl Print, program: &Loaded<'_>, state: &State) -> io::Result<()>
-    requires { program.now.sizes.cells ≤ 64 }
-{
+fn show_left(rt: &impl Print, loaded: &Loaded<'_>, state: &State) -> io::Result<()> {
+    // named for the proof, which then knows that the table is accepted
+    let _ = &loaded.program.base;
     let mut cells = [0i32; 64];
-    let own = &mut cells[..program.sizes.cells];
+    let own = &mut cells[..loaded.cells];
     state.leave(own);
     say_left(rt, own)
 }
 
-// Step `i` of a schedule, by the byte that answers it; 0 past the schedule's end.
-fn step_at(program: &Loaded<'_>, schedule: &[u8], i: usize, state: &mut State) -> u8
-    requires { Standing program.now state.old }
-    ensures { Standing program.now state.new }
+// Step `i` of a schedule, by the byte that answers it; past the schedule's end 0, which is never printed.
+fn step_at(loaded: &Loaded<'_>, schedule: &[u8], i: usize, state: &mut State) -> u8
+    requires { Standing (table_of loaded.now.program) state.old }
+    ensures { Standing (table_of loaded.now.program) state.new }
 {
     match schedule.get(i) {
         Some(n) => {
-            let answer = steps::step(program, lists::wide_byte(*n), state);
+            let answer = steps::step(loaded, usize::from(*n), state);
             steps::answer_byte(answer)
         }
         None => 0,
@@ -84,22 +58,24 @@ fn step_at(program: &Loaded<'_>, schedule: &[u8], i: usize, state: &mut State) -
 fn take_turns(rt: &impl Print, a: &[i32], b: &[i32], one: &[u8], other: &[u8]) -> io::Result<()>
     requires { Accepted (table_of a.now) × (length a.now ≡ 8 * statement_line a.now (statements a.now)) × Accepted (table_of b.now) × (length b.now ≡ 8 * statement_line b.now (statements b.now)) }
 {
-    let program_a = engine::program_of(a);
+    let extents_a = Extents::of(a);
+    let loaded_a = Loaded::new(Program::new(a, &extents_a));
     let mut state_a = State::new();
-    run_state::begin(&program_a, &mut state_a);
-    let program_b = engine::program_of(b);
+    run_state::begin(&loaded_a, &mut state_a);
+    let extents_b = Extents::of(b);
+    let loaded_b = Loaded::new(Program::new(b, &extents_b));
     let mut state_b = State::new();
-    run_state::begin(&program_b, &mut state_b);
+    run_state::begin(&loaded_b, &mut state_b);
     let mut answers_a = [0u8; 300];
     let mut answers_b = [0u8; 300];
     for i in 0..300 {
-        answers_a[i] = step_at(&program_a, one, i, &mut state_a);
-        answers_b[i] = step_at(&program_b, other, i, &mut state_b);
+        answers_a[i] = step_at(&loaded_a, one, i, &mut state_a);
+        answers_b[i] = step_at(&loaded_b, other, i, &mut state_b);
     }
-    say_first(rt, &answers_a, one.len())?;
-    show_left(rt, &program_a, &state_a)?;
-    say_first(rt, &answers_b, other.len())?;
-    show_left(rt, &program_b, &state_b)
+    say_numbers(rt, b"answers", lists::front(&answers_a, one.len()))?;
+    show_left(rt, &loaded_a, &state_a)?;
+    say_numbers(rt, b"answers", lists::front(&answers_b, other.len()))?;
+    show_left(rt, &loaded_b, &state_b)
 }
 
 // Two texts in turn, with lists that have room for their numbers; nothing where one is refused.
@@ -156,13 +132,8 @@ fn show_alone(rt: &impl Print, text: &[u8], schedule: &[u8]) -> io::Result<()> {
     let mut answers = [0u8; 300];
     let mut cells = [0i32; 64];
     let _ = engine::run(text, schedule, &mut answers, &mut cells);
-    say_first(rt, &answers, schedule.len())?;
-    let header = lines::read_line(text, 0).unwrap_or([0; 8]);
-    let count = table::field_of(&header, 0, 1);
-    if let Some(own) = cells.get(..count) {
-        say_left(rt, own)?;
-    }
-    Ok(())
+    say_numbers(rt, b"answers", lists::front(&answers, schedule.len()))?;
+    say_left(rt, lists::front(&cells, table::cell_count(text)))
 }
 
 // The tables and schedules of these names, in turn and by themselves.
@@ -186,21 +157,14 @@ fn show_pair(
     show_alone(rt, &text_b[..m], &other[..l])
 }
 
-// The frames open behind the first steps, so many: a line for each of two threads.
-fn say_frames(
-    rt: &impl Print,
-    frames: &[u8; 300],
-    others: &[u8; 300],
-    count: usize,
-) -> io::Result<()> {
-    say(rt, b"frames of thread 0:")?;
-    say_some(rt, frames, count)?;
-    say(rt, b"\nframes of thread 1:")?;
-    say_some(rt, others, count)?;
-    say(rt, b"\n")
+// The frames open behind steps: a line for each of two threads.
+fn say_frames(rt: &impl Print, frames: &[u8], others: &[u8]) -> io::Result<()> {
+    say_numbers(rt, b"frames of thread 0:", frames)?;
+    say_numbers(rt, b"\nframes of thread 1:", others)?;
+    rt.write_all(b"\n")
 }
 
-// How many frames thread `n` has open.
+// How many frames thread `n` has open, 32 at most; by `as`, since `TryFrom` has an error that cannot come.
 fn frames_of(state: &State, n: usize) -> u8
     requires { n < 16 }
 {
@@ -211,20 +175,26 @@ fn frames_of(state: &State, n: usize) -> u8
 fn count_frames(rt: &impl Print, numbers: &[i32], schedule: &[u8]) -> io::Result<()>
     requires { Accepted (table_of numbers.now) × (length numbers.now ≡ 8 * statement_line numbers.now (statements numbers.now)) }
 {
-    let program = engine::program_of(numbers);
+    let extents = Extents::of(numbers);
+    let loaded = Loaded::new(Program::new(numbers, &extents));
     let mut state = State::new();
-    run_state::begin(&program, &mut state);
+    run_state::begin(&loaded, &mut state);
     let mut frames = [0u8; 300];
     let mut others = [0u8; 300];
     let mut answers = [0u8; 300];
     for i in 0..300 {
-        answers[i] = step_at(&program, schedule, i, &mut state);
+        answers[i] = step_at(&loaded, schedule, i, &mut state);
         frames[i] = frames_of(&state, 0);
         others[i] = frames_of(&state, 1);
     }
-    say_frames(rt, &frames, &others, schedule.len())?;
-    say_first(rt, &answers, schedule.len())?;
-    show_left(rt, &program, &state)
+    let count = schedule.len();
+    say_frames(
+        rt,
+        lists::front(&frames, count),
+        lists::front(&others, count),
+    )?;
+    say_numbers(rt, b"answers", lists::front(&answers, count))?;
+    show_left(rt, &loaded, &state)
 }
 
 // A text, with a list that has room for its numbers; nothing where it is refused.

@@ -1,9 +1,14 @@
 -- "One header: 1, cells (1 to 64), locks (0 to 16), handles (0 to 128), routines (1 to 32), statements (1 to 512), 0, 0", and the order of the lines. Assumes nothing.
-use Rattle.std.specs.Prelude.{ℕ, ◌+◌, List, Bool, cond, ◌&&◌, eqb, leb, ℤ}
+use Rattle.std.specs.Prelude.{ℕ, ◌+◌, List, Bool, cond, ◌&&◌, eqb, leb, ℤ, Option, Some, None}
 use Rattle.table.specs.Fields.{field, unused}
 
 abbrev pub cells : List ℤ → ℕ
 cells f = field f 0 1
+
+-- how many cells a line says, if it is one
+abbrev pub cells_said : Option (List ℤ) → ℕ
+cells_said (Some header) = cells header
+cells_said None = 0
 
 abbrev pub locks : List ℤ → ℕ
 locks f = field f 0 2

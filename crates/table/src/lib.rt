@@ -1,11 +1,13 @@
 #![tactic(auto)]
 // The table: its types, and what stands where in the numbers of its lines. Definitions and laws are in specs/.
-ghost use Rattle.std.specs.Prelude.{◌≡◌, ℕ, ◌+◌, ◌*◌, ◌<◌, ◌≤◌, ◌^◌, length};
+ghost use Rattle.std.specs.Prelude.{◌≡◌, ℕ, ◌+◌, ◌*◌, ◌<◌, ◌≤◌, ◌^◌, get_or, length, take};
 ghost use Rattle.table.specs.Fields.{field, number, unused, plain};
-ghost use Rattle.table.specs.Header.{statement_line};
+ghost use Rattle.fields.specs.Field.{answer};
+ghost use Rattle.lines.specs.Line.{line_of as text_line};
+ghost use Rattle.table.specs.Header.{statement_line, cells_said};
 ghost use Rattle.table.specs.Refusals.{number_of, line_of};
 ghost use Rattle.table.specs.Found.{FirstFailing};
-ghost use Rattle.table.specs.Table.{counts_of, arguments_in, statement_in};
+ghost use Rattle.table.specs.Table.{counts_of, passed, arguments_in, statement_in};
 
 // Why a text or a call is refused, in the documents' order, with the line of the text that goes with it where there is one.
 #[derive(Clone, Copy, Debug, PartialEq, Eq)]
@@ -95,12 +97,28 @@ pub struct Target {
 }
 
 // The handles that a CALL or START passes, by their numbers; those past the named routine's parameters are 0.
-#[derive(Clone, Copy)]
+// Four fields, as the definitions have them, which say which handle goes to which parameter by name.
+#[derive(Clone, Copy, Default)]
 pub struct Arguments {
     pub first: usize,
     pub second: usize,
     pub third: usize,
     pub fourth: usize,
+}
+
+impl Arguments {
+    // The handle that is passed for parameter `k`; 0 where there is none.
+    pub fn at(self, k: usize) -> usize
+        ensures { result ≡ get_or (passed self) k 0 }
+    {
+        match k {
+            0 => self.first,
+            1 => self.second,
+            2 => self.third,
+            3 => self.fourth,
+            _ => 0,
+        }
+    }
 }
 
 // A statement of the table: document 01's operations 1 to 12 in their order, and document 02's operation 13, TAKER.
@@ -223,7 +241,7 @@ pub fn is_unused(numbers: &[i32], line: usize, from: usize) -> bool
     first_failing(from, 8, |j| field_of(numbers, line, j) == 0).is_none()
 }
 
-// The lowest number from `from` on, below `end`, of which a test says no.
+// The lowest number from `from` on, below `end`, of which a test says no. A range is its two ends here and above, as `from..end` has them.
 pub fn first_failing<F: Fn(usize) -> bool>(from: usize, end: usize, holds: F) -> Option<usize>
     requires { (i : ℕ) → from ≤ i → i < end → F.pre holds i }
     ensures { FirstFailing (F.post holds) from end result }
@@ -242,6 +260,16 @@ pub fn first_line(numbers: &[i32]) -> usize
     ensures small { result < 2 ^ 33 }
 {
     1 + field_of(numbers, 0, 3) + field_of(numbers, 0, 4)
+}
+
+// How many cells the first line of a text says; 0 where that is no line.
+pub fn cell_count(text: &[u8]) -> usize
+    ensures { result ≡ cells_said (answer (text_line (take 49 text.now))) }
+{
+    match lines::read_line(text, 0) {
+        Some(header) => field_of(&header, 0, 1),
+        None => 0,
+    }
 }
 
 // What the header of a table's numbers says.

@@ -1,5 +1,5 @@
 #![tactic(auto)]
-// The reader under a C name, for programs in other languages.
+// The reader under a C name, for programs in other languages. (`station` has calls of this form too, each with a promise of its own.)
 ghost use Rattle.std.specs.Prelude.{◌≡◌};
 ghost use Rattle.table.specs.Verdict.{verdict};
 ghost use Rattle.table_export.specs.Packed.{packed_verdict};

@@ -19,12 +19,7 @@ fn print_verdict(rt: &impl Print, text: &[u8]) -> io::Result<()> {
 fn try_argument(rt: &(impl Files + Print + Eprint), path: &[u8]) -> io::Result<()> {
     rt.write_all(path)?;
     rt.write_all(b"\n")?;
-    let Some(mut file) = run_printer::open(rt, path)? else {
-        return Ok(());
-    };
-    let mut text = [0u8; 65536];
-    let count = run_printer::read_full(&mut file, &mut text)?;
-    print_verdict(rt, &text[..count])
+    run_printer::with_file(rt, path, |text| print_verdict(rt, text))
 }
 
 fn main(rt: HostRuntime) -> io::Result<()> {

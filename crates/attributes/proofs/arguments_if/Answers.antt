@@ -5,6 +5,3 @@ use Rattle.attributes.proofs.arguments_if.Goals as goal
 pub returns-then-test : goal.returns-then-test
 unfolding arguments_in
 returns-then-test c = rw (c.if-test.true, c.field_of.ensures.is, c.field_of-then-test.ensures.is, c.field_of-then-test-2.ensures.is, c.field_of-then-test-3.ensures.is)
-
-pub returns-else-test : goal.returns-else-test
-returns-else-test c = rw c.if-test.false

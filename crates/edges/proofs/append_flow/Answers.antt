@@ -12,14 +12,14 @@ pub append_passing-requires : goal.append_passing-requires
 append_passing-requires c =
     let laid = laid_for c.program.view_is c.program.invariant in
     let is = viewed c.program.view_is c.line_of-line.ensures c.requires (flowing_is _ c.points_at-points.ensures c.source_at.ensures c.names_at.ensures c.arguments_at-arguments.ensures) in
-    let parts = passing_parts _ laid.accepted _ _ (laid.handles_first, laid.parameters) _ (names_routine _ laid.accepted _ c.requires is _ c.in-Some.is) c.arguments_at-arguments.result in
+    let parts = passing_parts _ laid.accepted _ _ (laid.measured.handles_first, laid.measured.parameters) _ (names_routine _ laid.accepted _ c.requires is _ c.in-Some.is) c.arguments_at-arguments.result in
     (omega (arith, parts.small, c.value_at-begin.ensures), omega (arith, parts.few, c.value_at.ensures))
 
 pub returns-in-Some : goal.returns-in-Some
 returns-in-Some c =
     let laid = laid_for c.program.view_is c.program.invariant in
     let is = viewed c.program.view_is c.line_of-line.ensures c.requires (flowing_is _ c.points_at-points.ensures c.source_at.ensures c.names_at.ensures c.arguments_at-arguments.ensures) in
-    grown_same (flow_passing _ laid.accepted _ _ (laid.handles_first, laid.parameters) _ (names_routine _ laid.accepted _ c.requires is _ c.in-Some.is) _ is c.in-Some.is c.value_at-begin.ensures c.value_at.ensures) (grown_both c.push_to.ensures c.append_passing.ensures)
+    grown_same (flow_passing _ laid.accepted _ _ (laid.measured.handles_first, laid.measured.parameters) _ (names_routine _ laid.accepted _ c.requires is _ c.in-Some.is) _ is c.in-Some.is c.value_at-begin.ensures c.value_at.ensures) (grown_both c.push_to.ensures c.append_passing.ensures)
 
 pub returns-in_default : goal.returns-in_default
 unfolding edges_at

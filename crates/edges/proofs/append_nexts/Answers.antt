@@ -1,12 +1,8 @@
 -- `edges::append_nexts` meets its contract. Assumes nothing.
-use Rattle.std.proofs.Common.{refl, arith}
-use Rattle.declarations.specs.Laid.{few_statements}
+use Rattle.std.proofs.Common.{refl}
 use Rattle.edges.specs.Grown.{grown_same, grown_both}
 use Rattle.edges.specs.LineLaws.{viewed, next_at}
 use Rattle.edges.proofs.append_nexts.Goals as goal
-
-pub overflow_add-s : goal.overflow_add-s
-overflow_add-s c = omega (arith, c.requires, few_statements c.program.view_is c.program.invariant)
 
 pub returns : goal.returns
 returns c = grown_same (next_at _ _ (viewed c.program.view_is c.line_of-line.ensures c.requires refl) c.target_at.ensures c.onward_at.ensures) (grown_both c.push_from.ensures c.push_if.ensures)

@@ -11,7 +11,7 @@ pub loop-j-init : goal.loop-j-init
 loop-j-init c = growing_start _ _
 
 pub loop-j-preserved : goal.loop-j-preserved
-loop-j-preserved c = growing_next c.loop-j.invariant c.loop-j-test.true (grown_same (ap {B = List Edge} (λ (x : ℕ). edge x (c.args.begin + c.loop-j.j) ∷ []) c.argument_of.ensures) c.push.ensures)
+loop-j-preserved c = growing_next c.loop-j.invariant c.loop-j-test.true (grown_same (ap {B = List Edge} (λ (x : ℕ). edge x (c.args.begin + c.loop-j.j) ∷ []) c.at.ensures) c.push.ensures)
 
 pub returns : goal.returns
 unfolding passing_from

@@ -6,9 +6,6 @@ use Rattle.findings.proofs.count_each.Goals as goal
 pub loop-i-init : goal.loop-i-init
 loop-i-init g c = (λ at h. folding_start _ _ _, omega arith)
 
-pub overflow_add-count : goal.overflow_add-count
-overflow_add-count g c = omega (arith, bit_most _ _ c.from-count.ensures, c.loop-i.invariant.1, c.loop-i-test.true)
-
 pub loop-i-preserved : goal.loop-i-preserved
 loop-i-preserved g c = (
   λ at h. rw (c.from-count.ensures ∙ bit_is _, h _ _ (omega arith) c.test.ensures) (folding_next _ _ _ _ _ (c.loop-i.invariant.0 at h) c.loop-i-test.true),

@@ -1,16 +1,14 @@
 -- `findings::note_accesses` meets its contract. Assumes nothing.
 use Rattle.std.proofs.Common.{arith, ap, ◌∙◌}
 use Rattle.sets.specs.Set.{firsts}
-use Rattle.table.specs.Header.{locks}
-use Rattle.declarations.specs.Laid.{few_statements}
 use Rattle.findings.specs.NoteLaws.{noting_start, noting_next, noting_done, noting_few}
 use Rattle.findings.proofs.note_accesses.Goals as goal
 
 pub loop-s-init : goal.loop-s-init
 loop-s-init c = (
-  noting_start _ _ _ _ _ c.statements-s.ensures.is (c.firsts-all.ensures ∙ ap firsts (c.field_of.ensures.is ∙ ap locks c.program.view_is)),
+  noting_start _ _ _ _ _ c.statements-s.ensures.is (c.firsts-all.ensures ∙ ap firsts c.locks.ensures),
   omega (arith, c.statements-s.ensures.is),
-  few_statements c.program.view_is c.program.invariant,
+  omega (arith, c.statements-s.ensures.is, c.statements-s.ensures.few),
 )
 
 pub note_access-requires : goal.note_access-requires

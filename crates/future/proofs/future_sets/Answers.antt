@@ -8,12 +8,6 @@ use Rattle.future.proofs.future_sets.Goals as goal
 pub split_at-requires : goal.split_at-requires
 split_at-requires c = (stages_are _ c.fill_nexts.ensures.accepted c.requires.edges_room refl c.fill_nexts.ensures.grown c.fill_callers.ensures.grown c.edges.ensures).inside
 
-pub later_sets-requires : goal.later_sets-requires
-later_sets-requires c = omega (arith, c.split_at_mut-read.ensures.front_len, c.requires.later_len)
-
-pub later_sets-requires-2 : goal.later_sets-requires-2
-later_sets-requires-2 c = omega (arith, c.split_at_mut-read.ensures.back_len, c.requires.later_len)
-
 pub returns : goal.returns
 returns c =
     let acc = c.fill_nexts.ensures.accepted in

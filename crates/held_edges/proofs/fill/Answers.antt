@@ -19,6 +19,6 @@ pub returns-clause-filled : goal.returns-clause-filled
 returns-clause-filled c =
     let laid = laid_for c.program.view_is c.program.invariant in
     let last : c.loop-c.c ≡ routines c.args.program.now = omega (arith, c.loop-c-test.false, c.loop-c.auto.c-end, c.routines-c-end.ensures.is) in
-    let end = ap (first_statement c.args.program.now) last ∙ routines_end _ _ laid.accepted laid.firsts in
+    let end = ap (first_statement c.args.program.now) last ∙ routines_end _ _ laid.accepted laid.measured.firsts in
     let grown = appended_both c.push.ensures (going_done (going_as refl end c.loop-c.invariant)) in
-    held_filled _ _ laid.accepted refl c.requires.0 c.requires.1 (appended_same _ _ (all_edges _ _ laid.accepted laid.firsts _ (c.bases_of-bases.ensures.is ∙ ap bases_of c.program.view_is) c.value_at.ensures) grown)
+    held_filled _ _ laid.accepted refl c.requires.0 c.requires.1 (appended_same _ _ (all_edges _ _ laid.accepted laid.measured.firsts _ (c.bases_of-bases.ensures.is ∙ ap bases_of c.program.view_is) c.value_at.ensures) grown)

@@ -1,11 +1,8 @@
 -- `initial::fill_each` meets its contract. Assumes nothing.
 use Rattle.std.specs.Prelude.{◌<◌, length}
-use Rattle.std.proofs.Common.{refl, arith}
-use Rattle.table.proofs.TabulateLaws.{filled_none, filled_next, filled_all}
+use Rattle.std.proofs.Common.{arith}
+use Rattle.table.proofs.TabulateLaws.{filled_next, filled_all}
 use Rattle.initial.proofs.fill_each.Goals as goal
-
-pub loop-p-init : goal.loop-p-init
-loop-p-init g c = λ at h. filled_none _ _ _ refl
 
 pub loop-p-preserved : goal.loop-p-preserved
 loop-p-preserved g c = λ at h.

@@ -1,21 +1,19 @@
 -- `line_printer::put_line` meets its contract: the fields of the first i numbers are written, the places behind stay. Assumes nothing.
 use borrow.Author.Rules.{rules}
 use native.Mathlib.Omega.{arith}
-use mathlib.Core.Path.{◌≡◌}
+use mathlib.Core.Path.{◌≡◌, ap, subst, sym, ◌∙◌}
+use Prim.Native.Nat.{◌+◌, ◌*◌, ◌-◌}
 use lib.IntN.{pos}
 use lib.ListN.{get_or}
 use mir.Syntax.{w32}
 use mir.Val.{to_z, of_z}
 use mir.Facts.{to_z-of_z}
+use Rattle.std.proofs.lemmas.Slice.{put_mid-paste}
+use Rattle.fields.specs.Field.{field_text}
+use Rattle.fields.specs.FieldLaws.{field_text_length}
 use Rattle.lines.proofs.LineLaws.{all_at}
-use Rattle.line_printer.specs.PrintLoops.{lining_start, lining_next, lining_done}
+use Rattle.line_printer.specs.PrintLoops.{Lining, lining_next, lining_done}
 use Rattle.line_printer.proofs.put_line.Goals as goal
-
-pub loop-i-init : goal.loop-i-init
-loop-i-init c = lining_start _ _ (search rules) c.requires.1
-
-pub bounds-part-48 : goal.bounds-part-48
-bounds-part-48 c = omega (arith, c.loop-i.invariant.sized, c.loop-i.invariant.room)
 
 pub returns : goal.returns
 returns c = lining_done c.loop-i.invariant c.loop-i-test.false c.requires.0
@@ -27,5 +25,9 @@ put_number-requires c =
 
 pub loop-i-preserved : goal.loop-i-preserved
 loop-i-preserved c =
-    let word : to_z w32 (of_z w32 (get_or c.args.numbers c.loop-i.i (pos 0))) ≡ get_or c.args.numbers c.loop-i.i (pos 0) = to_z-of_z {w = w32} (search rules) in
-    rw (c.put_number.ensures, word) (lining_next c.loop-i.invariant c.loop-i-test.true (all_at c.args.numbers c.loop-i.i c.requires.0))
+    let z = get_or c.args.numbers c.loop-i.i (pos 0) in
+    let word : to_z w32 (of_z w32 z) ≡ z = to_z-of_z {w = w32} (search rules) in
+    let good = all_at c.args.numbers c.loop-i.i c.requires.0 in
+    subst (Lining c.args.part.now c.args.numbers (c.loop-i.i + 1))
+    (sym (put_mid-paste (6 * c.loop-i.i) (6 * c.loop-i.i + 6 - 6 * c.loop-i.i) c.loop-i.part _ (field_text z) 6 (c.put_number.ensures ∙ ap field_text word) (omega arith) (sym (field_text_length z good))))
+    (lining_next c.loop-i.invariant c.loop-i-test.true good)

@@ -8,9 +8,6 @@ use Rattle.lines.proofs.read_numbers.Goals as goal
 pub lines-init : goal.lines-init
 lines-init c = (page_start _ _ _ c.line_count-lines.ensures c.requires, refl)
 
-pub loop-j-init : goal.loop-j-init
-loop-j-init c = (c.put_quick-j.ensures, c.lines.invariant.1)
-
 pub loop-j-preserved : goal.loop-j-preserved
 loop-j-preserved c =
     rw (to_z-of_z {w = w32} {z = c.in-Some.z} (search rules))

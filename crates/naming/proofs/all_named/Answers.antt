@@ -1,11 +1,7 @@
 -- `naming::all_named` meets its contract. Assumes nothing.
 use native.Mathlib.Omega.{arith}
-use Prim.Native.Nat.{zero-le}
-use Rattle.naming.specs.GatherLaws.{gathering_start, gathering_next, gathering_rest}
+use Rattle.naming.specs.GatherLaws.{gathering_next, gathering_rest}
 use Rattle.naming.proofs.all_named.Goals as goal
-
-pub loop-r-init : goal.loop-r-init
-loop-r-init c = (zero-le, gathering_start _ _ _)
 
 pub loop-r-preserved : goal.loop-r-preserved
 loop-r-preserved c = (omega arith, rw (c.union-all.ensures, c.value_at.ensures) (gathering_next _ _ _ _ _ c.loop-r.invariant.1 (omega (arith, c.loop-r-test.true, c.requires.few))))

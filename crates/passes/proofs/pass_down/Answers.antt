@@ -24,6 +24,3 @@ loop-i-preserved c =
     rw e₂
     (passed_down_two _ _ (2 * c.loop-i.i) (omega arith) (omega arith) c.loop-i.invariant (rw e at c.put_edge-changed-in-loop-i.ensures)
     (rw e₂ at c.put_edge-changed-in-loop-i-2.ensures))
-
-pub returns : goal.returns
-returns c = passed_as _ _ (omega arith) refl c.loop-i.invariant

@@ -2,11 +2,8 @@
 use Prim.Native.Nat.{◌*◌, ◌-◌}
 use mathlib.Core.Path.{refl}
 use native.Mathlib.Omega.{arith}
-use Rattle.passes.specs.PassLaws.{passed_start, passed_as, passed_up, passed_up_two}
+use Rattle.passes.specs.PassLaws.{passed_as, passed_up, passed_up_two}
 use Rattle.passes.proofs.pass_up.Goals as goal
-
-pub loop-i-init : goal.loop-i-init
-loop-i-init c = passed_start _ _ _ 0 0 (omega arith)
 
 pub loop-i-preserved : goal.loop-i-preserved
 loop-i-preserved c =
@@ -17,6 +14,3 @@ pub returns-then-n-eq1 : goal.returns-then-n-eq1
 returns-then-n-eq1 c =
     passed_as _ _ refl (omega arith)
     (passed_up _ _ (c.len-n.result - 1) (omega arith) (passed_as _ _ refl (omega arith) c.loop-i.invariant) c.put_edge.ensures)
-
-pub returns : goal.returns
-returns c = passed_as _ _ refl (omega arith) c.loop-i.invariant

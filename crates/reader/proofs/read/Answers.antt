@@ -1,21 +1,13 @@
 -- `reader::read` meets its contract: the numbers of the text before zeros. Assumes nothing.
-use native.Mathlib.Omega.{arith}
 use mathlib.Core.Path.{ap, sym, ◌∙◌}
-use Prim.Native.Nat.{ℕ, ◌*◌, ◌≤◌}
 use mathlib.Core.List.{List}
 use lib.IntN.{ℤ}
 use Rattle.std.specs.Prelude.{Result, Ok}
 use Rattle.std.proofs.lemmas.Result.{err_from_is_err_and}
 use Rattle.table.specs.declared.Refusal.{Refusal}
-use Rattle.lines.proofs.LineLoops.{zeros_part, page_few, page_padded}
+use Rattle.lines.proofs.LineLoops.{page_padded}
 use Rattle.table.proofs.VerdictLaws.{reading_refused, reading_accepted}
 use Rattle.reader.proofs.read.Goals as goal
-
-pub slice_bounds-read_into-end : goal.slice_bounds-read_into-end
-slice_bounds-read_into-end c = let few_here : 8 * c.line_count-count.result ≤ 5384 = omega (arith, (page_few c.args.text.now c.line_count-count.result c.line_count-count.ensures).0) in zeros_part (8 * c.line_count-count.result) 5384 few_here
-
-pub read_into-requires : goal.read_into-requires
-read_into-requires c = let few_here : 8 * c.line_count-count.result ≤ 5384 = omega (arith, (page_few c.args.text.now c.line_count-count.result c.line_count-count.ensures).0) in sym (zeros_part (8 * c.line_count-count.result) 5384 few_here) ∙ ap (λ (n : ℕ). 8 * n) c.line_count-count.ensures
 
 pub returns : goal.returns
 returns c =

@@ -14,15 +14,6 @@ use Rattle.report_printer.proofs.print_strays.Goals.{then-is_stray, else-is_stra
 pub loop-s-init : goal.loop-s-init
 loop-s-init c = (writing_start _ _ _ _ c.requires, refl, c.statements-s-end.ensures.is)
 
-pub line_of-requires : goal.line_of-requires
-line_of-requires c = omega (arith, c.loop-s.invariant.2)
-
-pub is_stray-requires : goal.is_stray-requires
-is_stray-requires c = rw c.program.view_is c.line_of.ensures
-
-pub overflow_cast-s : goal.overflow_cast-s
-overflow_cast-s c = omega (arith, c.loop-s.invariant.2, c.statements-s-end.ensures.few)
-
 pub push-requires : goal.push-requires
 unfolding stray_in stray_line
 push-requires c =

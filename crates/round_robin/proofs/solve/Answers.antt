@@ -14,9 +14,6 @@ made_as {edges} {s₀} {s} {k} {j} {b} {d} e q h = rw (e, q) at h
 pub passes-init : goal.passes-init
 passes-init c = (omega arith, made_start _ _ (λ i. search rules))
 
-pub pass-requires : goal.pass-requires
-pass-requires c = rw c.passes.invariant.1.sets.places c.requires
-
 pub overflow_add-made : goal.overflow_add-made
 overflow_add-made c =
     let e : c.passes.made - 1 + 1 ≡ c.passes.made = omega arith in

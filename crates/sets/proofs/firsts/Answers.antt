@@ -1,16 +1,10 @@
 -- `sets::firsts` meets its contract. Assumes nothing.
-use Prim.Native.Nat.{ℕ, ◌-◌, ◌^◌, ◌<◌, min}
+use Prim.Native.Nat.{ℕ, ◌-◌, ◌^◌, min}
 use Rattle.sets.proofs.Shift.{shifted}
 use Rattle.sets.specs.Set.{firsts}
-use lib.Pow.{pow_pos}
 use mathlib.Core.Path.{◌≡◌, ap, ◌∙◌}
 use native.Mathlib.Omega.{arith}
 use Rattle.sets.proofs.firsts.Goals as goal
-
-pub overflow_sub-result : goal.overflow_sub-result
-overflow_sub-result c =
-    let h : c.args.n < 64 = omega arith in
-    omega (arith, shifted c.args.n h, pow_pos c.args.n)
 
 pub returns-then-n-lt64 : goal.returns-then-n-lt64
 unfolding firsts

@@ -5,9 +5,6 @@ use Rattle.findings.specs.FoundLaws.{shared_found}
 use Rattle.stages.specs.SetsLaws.{later_known}
 use Rattle.stages.proofs.shared_from.Goals as goal
 
-pub future_sets-requires : goal.future_sets-requires
-future_sets-requires c = record { edges_room = c.requires.numbers_in_bounds; later_len = c.requires.later_len }
-
 pub returns : goal.returns
 returns c =
     c.shared_cells.ensures.is ∙ shared_found c.args.solved.now.program.now c.shared_cells.ensures.accepted c.requires.reads_value c.requires.writes_value (later_known (table_of c.args.solved.now.program.now) _ c.args.solved.now.flow_is _ _ _ c.requires.reads_value c.requires.writes_value c.future_sets.ensures)

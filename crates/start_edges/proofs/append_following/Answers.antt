@@ -1,13 +1,9 @@
 -- `start_edges::append_following` meets its contract. Assumes nothing.
-use Rattle.std.proofs.Common.{refl, arith}
-use Rattle.declarations.specs.Laid.{few_statements}
+use Rattle.std.proofs.Common.{refl}
 use Rattle.edges.specs.Grown.{grown_same, grown_both}
 use Rattle.edges.specs.LineLaws.{viewed}
 use Rattle.start_edges.proofs.StartLaws.{following_parts}
 use Rattle.start_edges.proofs.append_following.Goals as goal
-
-pub overflow_add-s : goal.overflow_add-s
-overflow_add-s c = omega (arith, c.requires, few_statements c.program.view_is c.program.invariant)
 
 pub returns : goal.returns
 returns c =

@@ -1,15 +1,11 @@
 -- `statements::naming_ok` meets its contract. Assumes nothing.
 use borrow.Author.Tests.{le-ltb, lt-ltb}
 use Rattle.table.specs.Statements.{naming_ok}
-use native.Mathlib.Omega.{arith}
 use Rattle.statements.proofs.naming_ok.Goals as goal
 
 pub returns-then-field_of-q : goal.returns-then-field_of-q
 unfolding naming_ok
 returns-then-field_of-q c = rw (le-ltb _ _ (rw (c.field_of-q.ensures.is, c.field_of.ensures.is) at c.if-field_of-q.true))
-
-pub arguments_ok-requires : goal.arguments_ok-requires
-arguments_ok-requires c = omega (arith, c.field_of.ensures.is)
 
 pub returns : goal.returns
 unfolding naming_ok

@@ -1,13 +1,11 @@
 -- `table::field_of` meets its contract: past the end of the list there is 0. Assumes nothing.
-use mathlib.Core.Path.{◌≡◌, sym, ap, ◌∙◌}
+use mathlib.Core.Path.{◌≡◌, sym, ap}
 use mathlib.Core.List.{List}
 use Prim.Native.Nat.{ℕ, ◌≤◌, ◌+◌, ◌*◌}
 use native.Mathlib.Omega.{arith}
 use lib.Dec.{lit<}
 use lib.ListN.{length, get_or, get_or-eq_default}
 use lib.IntN.{ℤ, pos}
-use mir.Facts.{to_z-of_z}
-use mir.Syntax.{w32}
 use Rattle.table.specs.Fields.{plain}
 use Rattle.table.proofs.field_of.Goals as goal
 
@@ -15,9 +13,6 @@ use Rattle.table.proofs.field_of.Goals as goal
 past : (f : List ℤ) {k : ℕ} → length f ≤ k → 0 ≡ plain (get_or f k (pos 0))
 unfolding plain
 past f h = ap plain (sym (get_or-eq_default f (pos 0) h))
-
-pub returns-then-line-count : goal.returns-then-line-count
-returns-then-line-count c = record { is = c.plain_number.ensures.is ∙ ap plain (to_z-of_z {w = w32} (record { sfits = c.plain_number-arg-1.given })); small = c.plain_number.ensures.small }
 
 pub returns-else-line-count : goal.returns-else-line-count
 returns-else-line-count c =

@@ -11,5 +11,5 @@ returns-then-statements-s c = effect_past _ _ _ _ _ (omega (arith, c.statements.
 
 pub returns : goal.returns
 returns c =
-    c.union.ensures ∙ ap₂ {C = ℕ} (λ (x y : ℕ). union x y) c.set_on-own.ensures c.set_on.ensures
-    ∙ effect_is _ _ (viewed c.program.view_is c.line_of-line.ensures (omega (arith, c.statements.ensures.is, c.if-statements-s.false)) refl) _ _ _ c.touched.ensures c.names_at.ensures
+    c.union.ensures ∙ ap₂ {C = ℕ} (λ (x y : ℕ). union x y) c.own_set.ensures c.set_on.ensures
+    ∙ effect_is _ _ (viewed c.program.view_is c.line_of.ensures (omega (arith, c.statements.ensures.is, c.if-statements-s.false)) refl) _ _ _ refl c.names_at-names.ensures

@@ -1,14 +1,10 @@
 -- `initial::Effects::nexts_effect` meets its contract. Assumes nothing.
 use Rattle.std.specs.Prelude.{ℕ}
-use Rattle.std.proofs.Common.{refl, ap₂, ◌∙◌, arith}
+use Rattle.std.proofs.Common.{refl, ap₂, ◌∙◌}
 use Rattle.sets.specs.Set.{union}
-use Rattle.declarations.specs.Laid.{few_statements}
 use Rattle.edges.specs.LineLaws.{viewed}
 use Rattle.initial.specs.InitialLaws.{later_both, later_there}
 use Rattle.initial.proofs.Effects.nexts_effect.Goals as goal
-
-pub overflow_add-s : goal.overflow_add-s
-overflow_add-s c = omega (arith, c.requires, few_statements c.program.view_is c.program.invariant)
 
 pub returns-then-onward_at : goal.returns-then-onward_at
 returns-then-onward_at c =

@@ -2,15 +2,9 @@
 use native.Mathlib.Omega.{arith}
 use mathlib.Core.Path.{sym, ◌∙◌}
 use Prim.Native.Nat.{◌+◌}
-use Rattle.reader.specs.SearchLaws.{searching_start, stopped_there, went_on, found_none}
+use Rattle.reader.specs.SearchLaws.{stopped_there, went_on, found_none}
 use Rattle.table.proofs.Lists.{begin_early}
 use Rattle.reader.proofs.checks.bad_statement.Goals as goal
-
-pub loop-r-init : goal.loop-r-init
-loop-r-init c = searching_start _ _
-
-pub bad_among-requires-clause-r_bound : goal.bad_among-requires-clause-r_bound
-bad_among-requires-clause-r_bound c = omega (arith, c.field_of-count.ensures.is, c.loop-r-test.true)
 
 pub bad_among-requires-clause-end_bound : goal.bad_among-requires-clause-end_bound
 bad_among-requires-clause-end_bound c = omega (arith, c.value_at-end.ensures, begin_early c.args.outline.now.statements_begin (c.loop-r.r + 1))

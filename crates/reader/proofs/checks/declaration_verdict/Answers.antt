@@ -16,9 +16,6 @@ returns-in-Some-bad_routine c =
     let f = below_some _ _ _ (sym c.in-Some-bad_routine.is ∙ c.bad_routine.ensures) in
     rw (below_none _ _ (sym c.in_default.is ∙ c.bad_handle.ensures), f.0, f.1, c.field_of.ensures.is)
 
-pub sum_ok-requires : goal.sum_ok-requires
-sum_ok-requires c = record { first_value = c.of-extents.ensures.firsts; numbers_bound = c.requires.routines_most }
-
 pub returns-then-not-sum_ok : goal.returns-then-not-sum_ok
 unfolding declaration_verdict
 returns-then-not-sum_ok c =

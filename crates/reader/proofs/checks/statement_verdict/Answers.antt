@@ -18,11 +18,6 @@ returns-in-Some c =
     let line = ap (λ (n : ℕ). n + c.in-Some.s) c.first_line.ensures.is ∙ statement_line_lem c.args.outline.now.numbers.now c.in-Some.s in
     rw (line, f.0, f.1)
 
-pub last_of-last-requires : goal.last_of-last-requires
-last_of-last-requires c =
-    let f = below_some _ _ _ (sym c.in-Some-running_on.is ∙ c.running_on.ensures) in
-    omega (arith, f.1, ltb-true _ _ f.0, c.args.outline.now.statements_begin.sized.routines_most)
-
 pub overflow_add-result-in-Some-running_on : goal.overflow_add-result-in-Some-running_on
 overflow_add-result-in-Some-running_on c =
     record { fits = omega (arith, c.last_of-last.ensures, begin_early c.args.outline.now.statements_begin (c.in-Some-running_on.r + 1), c.first_line-in-Some-running_on.ensures.small) }

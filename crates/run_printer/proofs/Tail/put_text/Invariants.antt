@@ -1,7 +1,5 @@
 -- `run_printer::Tail::put_text` meets its contract. Assumes nothing.
-use Rattle.std.specs.Prelude.{◌≡◌}
 use Rattle.std.specs.Prelude.{ℕ, List, [], ◌∷◌}
-use Rattle.run_printer.specs.PutBefore.{ended}
 use Rattle.run_printer.proofs.WordsLaws.{Backing}
 use Rattle.run_printer.proofs.Tail.put_text.Given as goal
 
@@ -10,4 +8,4 @@ abbrev pub alone : ℕ → ℕ → List ℕ
 alone i b = b ∷ []
 
 abbrev pub invariant-loop-i : goal.invariant-loop-i
-invariant-loop-i l = Backing alone l.text (ended l.initial.self) l.i (ended l.self) × (l.self.out.ghost_name ≡ l.initial.self.out.ghost_name)
+invariant-loop-i l = Backing alone l.text l.initial.self l.i l.self

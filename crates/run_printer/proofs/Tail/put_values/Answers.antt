@@ -1,24 +1,18 @@
 -- `run_printer::Tail::put_values` meets its contract. Assumes nothing.
-use Rattle.std.proofs.Common.{refl, arith, ◌∙◌, rules, w32, to_z-of_z}
+use Rattle.std.proofs.Common.{rules, w32, to_z-of_z}
 use Rattle.std.specs.Prelude.{pos, slice_index_or, ◌-◌}
 use Rattle.run_printer.specs.Words.{values_text}
-use Rattle.run_printer.proofs.WordsLaws.{backing_start, backing_next, backing_done, put_before}
+use Rattle.run_printer.proofs.WordsLaws.{backing_start, backing_next, backing_done}
 use Rattle.run_printer.proofs.Tail.put_values.Goals as goal
 
 pub loop-i-init : goal.loop-i-init
-loop-i-init c = (backing_start _ _ _, refl)
-
-pub bounds-values-i : goal.bounds-values-i
-bounds-values-i c = omega (arith, c.loop-i.invariant.0.inside)
+loop-i-init c = backing_start _ _ _
 
 pub loop-i-preserved : goal.loop-i-preserved
 loop-i-preserved c =
-    let put = c.put_number.ensures in (
-      backing_next _ _ _ (pos 0) c.loop-i.invariant.0 c.loop-i-test.true
-          (rw (to_z-of_z {w = w32} {z = slice_index_or c.args.values.now (c.loop-i.i - 1) (pos 0)} (search rules)) at put.is),
-      put.same ∙ c.loop-i.invariant.1,
-    )
+    backing_next _ _ _ (pos 0) c.loop-i.invariant c.loop-i-test.true
+    (rw (to_z-of_z {w = w32} {z = slice_index_or c.args.values.now (c.loop-i.i - 1) (pos 0)} (search rules)) at c.put_number.ensures)
 
 pub returns : goal.returns
 unfolding values_text
-returns c = put_before c.loop-i.invariant.1 (backing_done _ _ _ c.loop-i.invariant.0 c.loop-i-test.false)
+returns c = backing_done _ _ _ c.loop-i.invariant c.loop-i-test.false

@@ -5,6 +5,3 @@ use Rattle.solver.proofs.worklist.follow_edge.Goals as goal
 
 pub returns-then-k-len : goal.returns-then-k-len
 returns-then-k-len c = solving_put _ _ _ (omega arith) (solving_start _ _ _) c.put_edge-changed.ensures
-
-pub returns-else-k-len : goal.returns-else-k-len
-returns-else-k-len c = solving_start _ _ _

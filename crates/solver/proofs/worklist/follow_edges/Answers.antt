@@ -1,7 +1,6 @@
 -- `solver::worklist::follow_edges` meets its contract. Its loop has gone along some edges, and each next one comes later. Assumes nothing.
 use Rattle.std.specs.Prelude.{Option, Some, None, IfSome, ℕ, ◌-◌, ◌^◌, ◌<◌}
 use Rattle.std.proofs.Common.{sym, subst, arith}
-use Rattle.passes.specs.PassLaws.{solving_start, solving_both}
 use Rattle.solver.proofs.worklist.follow_edges.Goals as goal
 
 left : Option ℕ → ℕ
@@ -12,17 +11,8 @@ unfolding left
 later_less k None h later = omega arith
 later_less k (Some j) h later = omega arith
 
-pub loop-next-init : goal.loop-next-init
-loop-next-init c = solving_start _ _ _
-
-pub loop-next-preserved : goal.loop-next-preserved
-loop-next-preserved c = solving_both _ _ c.loop-next.invariant c.follow_pair.ensures
-
 pub loop-next-smaller : goal.loop-next-smaller
 unfolding left
 loop-next-smaller c =
     subst (λ (o : Option ℕ). left c.linked_behind-next.result < left o) (sym c.in-Some.is)
     (later_less c.in-Some.k c.linked_behind-next.result (omega arith) c.linked_behind-next.ensures)
-
-pub returns : goal.returns
-returns c = c.loop-next.invariant

@@ -1,4 +1,4 @@
--- `declarations::parameter_counts` meets its contract. Assumes nothing.
+-- `declarations::fill_parameter_counts` meets its contract. Assumes nothing.
 use native.Mathlib.Omega.{arith}
 use mathlib.Core.Path.{subst⁻¹, ◌∙◌}
 use Prim.Native.Nat.{ℕ, ◌+◌, ◌≤◌, ◌<◌, zero-le}
@@ -7,19 +7,13 @@ use Rattle.table.specs.Handles.{handles_from}
 use Rattle.declarations.specs.ListLaws.{parameters_is}
 use Rattle.table.proofs.UntilLaws.{until_range}
 use Rattle.table.proofs.TabulateLaws.{begun_none, begun_next, begun_below, entry_below}
-use Rattle.declarations.proofs.parameter_counts.Goals as goal
+use Rattle.declarations.proofs.fill_parameter_counts.Goals as goal
 
 pub loop-r-init : goal.loop-r-init
 loop-r-init c = (zero-le, begun_none _ 32)
 
 pub overflow_sub-counts : goal.overflow_sub-counts
 overflow_sub-counts c = subst⁻¹ (λ (n : ℕ). c.value_at-from.result ≤ n) c.skip-end.ensures (until_range _ _ _).0
-
-pub offset_bounds-counts-r : goal.offset_bounds-counts-r
-offset_bounds-counts-r c = record { fits = omega (arith, c.routine_count-count.ensures, c.loop-r-test.true) }
-
-pub bounds-counts-r : goal.bounds-counts-r
-bounds-counts-r c = omega (arith, c.routine_count-count.ensures, c.loop-r-test.true)
 
 pub loop-r-preserved : goal.loop-r-preserved
 loop-r-preserved c =
