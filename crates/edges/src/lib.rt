@@ -1,8 +1,8 @@
 #![tactic(auto)]
 // The edges of a dataflow equation, in the order of its definition. An edge is one number: 65,536 times the place that it comes from, and the place
 // that it leads to. Each function appends to a list that the caller lends; four places a statement are room enough.
-// A statement `s` and its routine `c` go beside the program as indices beside a list. (`lock_edges::Here` is a struct, since it holds a view that four
-// functions read; here each reads an attribute or two.) `append_naming` and `append_calls` differ in the attribute that they read, and each has an equation
+// A statement `s` and its routine `c` go beside the program as indices beside a list. (`lock_edges::Here` is a struct, since it holds a view that six
+// functions read; here each reads the few attributes that it needs.) `append_naming` and `append_calls` differ in the attribute that they read, and each has an equation
 // of its own.
 ghost use Rattle.std.specs.Prelude.{◌≡◌, [], ◌∷◌, ◌<◌, ◌≤◌, ◌+◌, ◌^◌};
 ghost use Rattle.table.specs.Header.{statements, statement_line};

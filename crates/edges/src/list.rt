@@ -1,4 +1,4 @@
-// A list of edges, filled from the front in room that a caller lends. It is made by its fields, in one place a function: `used` is where the caller begins.
+// A list of edges, filled from the front in room that a caller lends. It is made by its fields: a function for that would say what they say.
 // Casts are by `as` where `From` has no way and `TryFrom` would answer with a `Result` that cannot fail.
 ghost use Rattle.std.specs.Prelude.{◌≡◌, [], ◌∷◌, ◌≤◌, ◌+◌, length, take};
 

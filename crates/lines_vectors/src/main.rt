@@ -1,28 +1,24 @@
-// Reads and prints fields, lines and pages, and writes what came out.
+// Reads and prints fields, lines and pages, and writes what came out. Where to print goes beside what is printed, which is another thing each time.
 #![tactic(auto)]
 
 use line_printer::PrintError;
 use std::io;
 
-fn say(rt: &impl Print, text: &[u8]) -> io::Result<()> {
-    rt.write_all(text)
-}
-
 // Eight numbers as a printed line.
 fn show_numbers(rt: &impl Print, numbers: [i32; 8]) -> io::Result<()> {
     let mut out = [b'?'; 49];
     let _ = line_printer::print_line(&mut out, 0, numbers);
-    say(rt, &out)
+    rt.write_all(&out)
 }
 
 // A field, and its number as the first of a line.
 fn show_field(rt: &impl Print, text: &[u8]) -> io::Result<()> {
-    say(rt, b"[")?;
-    say(rt, text)?;
-    say(rt, b"] ")?;
+    rt.write_all(b"[")?;
+    rt.write_all(text)?;
+    rt.write_all(b"] ")?;
     match fields::read_field(text, 0) {
         Some(z) => show_numbers(rt, [z, 0, 0, 0, 0, 0, 0, 0]),
-        None => say(rt, b"bad\n"),
+        None => rt.write_all(b"bad\n"),
     }
 }
 
@@ -30,19 +26,19 @@ fn show_field(rt: &impl Print, text: &[u8]) -> io::Result<()> {
 fn show_line(rt: &impl Print, text: &[u8], at: usize) -> io::Result<()> {
     match lines::read_line(text, at) {
         Some(numbers) => {
-            say(rt, b"line ")?;
+            rt.write_all(b"line ")?;
             show_numbers(rt, numbers)
         }
-        None => say(rt, b"line bad\n"),
+        None => rt.write_all(b"line bad\n"),
     }
 }
 
 // The first bad line of a text, or that there is none.
 fn show_page(rt: &impl Print, text: &[u8]) -> io::Result<()> {
     match lines::read_page(text) {
-        Ok(_) => say(rt, b"page good\n"),
+        Ok(_) => rt.write_all(b"page good\n"),
         Err(i) => {
-            say(rt, b"page bad at line ")?;
+            rt.write_all(b"page bad at line ")?;
             println!(rt; "{i}")
         }
     }
@@ -52,12 +48,12 @@ fn show_page(rt: &impl Print, text: &[u8]) -> io::Result<()> {
 fn show_printed(rt: &impl Print, at: usize, numbers: [i32; 8]) -> io::Result<()> {
     let mut out = [b'.'; 60];
     match line_printer::print_line(&mut out, at, numbers) {
-        Ok(()) => say(rt, b"whole ")?,
-        Err(PrintError::NoRoom) => say(rt, b"no room ")?,
-        Err(PrintError::NoField) => say(rt, b"no field ")?,
+        Ok(()) => rt.write_all(b"whole ")?,
+        Err(PrintError::NoRoom) => rt.write_all(b"no room ")?,
+        Err(PrintError::NoField) => rt.write_all(b"no field ")?,
     }
-    say(rt, &out)?;
-    say(rt, b"\n")
+    rt.write_all(&out)?;
+    rt.write_all(b"\n")
 }
 
 fn good_fields(rt: &impl Print) -> io::Result<()> {

@@ -1,6 +1,7 @@
 #![tactic(auto)]
 // TAKE, TAKER and GIVE. A lock's word is a set: reader n is element n, writer n is element 16 + n; 0 is nobody.
-// That there are 16 locks at most is asked here: an operation gets their number, and not the table that bounds it.
+// That there are 16 locks at most is asked here: an operation gets their number and no `Loaded`, and serves for any state and any count that its array has.
+// A handle, a place, that number and the state go into each function as indices and a list do.
 ghost use Rattle.std.specs.Prelude.{ℕ, ◌≡◌, ◌<◌, ◌≤◌, get_or, Result};
 ghost use Rattle.run_state.specs.Lists.{locks_in};
 ghost use Rattle.run_state.specs.Shown.{value_place};

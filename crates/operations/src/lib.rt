@@ -1,6 +1,7 @@
 #![tactic(auto)]
 // The operations of document 01 on the state of a run, but for those on locks, one function each, and what a step is answered with. A place and the state go
-// into each as an index and a list do, and a routine with its arguments as the statement has them.
+// into each as an index and a list do, and a routine with its arguments as the statement has them. READ and WRITE take a
+// count of cells and no `Loaded`: they serve for any state, and any count that its array has.
 pub mod place;
 
 ghost use Rattle.std.specs.Prelude.{◌≡◌, cond, ◌+◌, ◌*◌, ◌-◌, ◌<◌, ◌≤◌, pos, ◌+ℤ◌, get_or, set, Ok, Some, None};

@@ -1,8 +1,8 @@
 #![tactic(auto)]
 // Round-robin passes over the plain edges of a list of sets, from the last edge to the first, until a pass changes nothing. The ends of an edge are one
 // number: 65,536 times the place that it comes from, and the place that it leads to. Sets and edges stay two parameters, though each function asks that the
-// edges are among the sets: of a struct of both each contract would have to say too that they are the same lists. The loop over passes counts nothing: it
-// ends when a pass changes nothing.
+// edges are among the sets: of a struct of both each contract would have to say too that they are the same lists. The loop over passes goes by no
+// index: it ends when a pass changes nothing, and how many it made is what it answers.
 ghost use Rattle.std.specs.Prelude.{◌≡◌, not, map, ◌-◌, ◌<◌, ◌≤◌, length};
 ghost use Rattle.sets.specs.Least.{edge_of, same, settled};
 ghost use Rattle.passes.specs.Pass.{Put};

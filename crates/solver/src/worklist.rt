@@ -100,7 +100,7 @@ fn next_word(i: usize, n: usize, order: Order) -> usize
     }
 }
 
-// Takes places off the worklist, 64 a word in the first `words` words, where the sets' places are, and goes along their edges, until none is left or it was long.
+// Takes places off the worklist, 64 a word in the first `words` words (the list goes on whole to `passes`), and goes along their edges, until none is left or it was long.
 // The word `i` goes round and not along, and `idle` counts the words that had none, one behind the other.
 fn follow_places(
     sets: &mut [u64],

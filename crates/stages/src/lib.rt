@@ -1,7 +1,7 @@
 #![tactic(auto)]
 // The report of an accepted table: its sets, each out of those before it, what is found with them, and its lines. Flow and held sets stay as they
 // are found.
-// What stands in `work`, and what `reads`, `writes` and `shared` are, goes from each function to the next, where it is asked for once or twice.
+// What stands in `work`, and what `reads`, `writes` and `shared` are, goes from each function to the next, and is asked for in three at most.
 // The room is lent from above, since there is no heap, and lent on in parts, so each function says how much it needs: of a struct
 // of program and room each contract would have to say too that they are the same lists.
 ghost use Rattle.std.specs.Prelude.{◌≡◌, ◌+◌, ◌*◌, ◌≤◌, length, take, drop};

@@ -1,5 +1,5 @@
 // Steps a table by a schedule and prints a line a step: 55, thread, answer, five zeros, and then each cell's value; or line 50 on refusal. The first argument names a file with the
-// table text, the second a file with the schedule, each byte a thread number.
+// table text, the second a file with the schedule, each byte a thread number. Where to print goes beside what is printed, which is another thing each time.
 #![tactic(auto)]
 
 use std::io;
