@@ -15,7 +15,9 @@ use declarations::program::Program;
 use run_state::{Loaded, State};
 use table::Refusal;
 
-// The run of an accepted table by a schedule, with a list that is as long as the table has cells.
+// The run of an accepted table by a schedule, with a list that is as long as the table has cells. Not inlined, so that its state is not on the stack while the
+// text is read.
+#[inline(never)]
 fn run_accepted(numbers: &[i32], schedule: &[u8], answers: &mut [u8], cells: &mut [i32])
     requires { Accepted (table_of numbers.now) × (length numbers.now ≡ 8 * statement_line numbers.now (statements numbers.now)) × (length schedule.now ≤ length answers.old) × (length cells.old ≡ (table_of numbers.now).cells) }
     ensures answers_after { answers.new ≡ answersOf (table_of numbers.now) (start (table_of numbers.now)) schedule.now ++ drop (length schedule.now) answers.old }
