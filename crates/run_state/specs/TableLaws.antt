@@ -13,6 +13,8 @@ use Rattle.table.proofs.LookupLaws.{routines_length}
 use Rattle.table.proofs.UntilLaws.{until_range}
 use Rattle.table.specs.Table.{table_of, declaration, routine, statement, declaration_of, routine_at, statement_of}
 use Rattle.table.specs.Accepted.{Accepted, HandleFacts}
+use Rattle.declarations.specs.declared.outline.Extents.{Extents}
+use Rattle.declarations.specs.Laid.{Laid}
 use Rattle.run_state.specs.Shown.{HandlesThere, value_place, entry_value}
 
 pub declaration_read : (f : List ℤ) (h : ℕ) → h < length (table_of f).handles → declaration (table_of f) h ≡ declaration_of f h
@@ -122,3 +124,7 @@ module _ (f : List ℤ) (accepted : Accepted (table_of f)) where
       go false e =
           let none = entry_behind 33 (routines f + 1) (handles_from f) (first_handles f) (r + 1) refl (omega (arith, ltb-false r (routines f) e)) in
           record { first_low = first_most r; few = omega (arith, none); there = omega (arith, none) }
+
+-- a routine's first statement, as a program's extents have it
+pub first_small : {f : List ℤ} {base : ℕ} {x : Extents} → Laid f base x → (r : ℕ) → get_or x.first r 0 ≤ 512
+first_small l r = rw l.measured.firsts (bounds _ l.accepted r).first_low

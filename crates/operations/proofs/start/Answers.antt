@@ -1,13 +1,11 @@
 -- `operations::start` meets its contract. Assumes nothing.
 use Rattle.std.proofs.Common.{refl, inr, arith}
 use Rattle.declarations.specs.Laid.{laid_for}
-use Rattle.run_state.specs.TableLaws.{bounds}
+use Rattle.run_state.specs.TableLaws.{first_small}
 use Rattle.operations.proofs.start.Goals as goal
 
 pub overflow_cast-state : goal.overflow_cast-state
-overflow_cast-state c =
-    let l = laid_for c.program.view_is c.program.invariant in
-    rw l.measured.firsts (record { fits = omega (arith, (bounds _ l.accepted c.args.routine).first_low) })
+overflow_cast-state c = record { fits = omega (arith, first_small c.program.invariant c.args.routine) }
 
 pub returns : goal.returns
 returns c =
