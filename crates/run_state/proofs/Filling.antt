@@ -53,16 +53,6 @@ setting_next t values new slot caller from end h v arguments s few low l e =
     at k a b (no q) =
         get_or-set_other new (value_place slot h) (value_place slot k) v 0 (λ same. omega (arith, q, same)) ∙ s.entered.set_here k a (omega (arith, q))
 
-pub setting_done : {t : Table} {values new : List ℕ} {slot caller from end h : ℕ} {arguments : Arguments} → Setting t values new slot caller from end h arguments
-    → end ≤ h → Entered t values new slot caller from end arguments
-setting_done s l =
-    record {
-      long = s.entered.long;
-      set_here = λ k a b. s.entered.set_here k a (omega (arith, l));
-      kept_below = s.entered.kept_below;
-      kept_above = s.entered.kept_above;
-    }
-
 -- what `entry_value` gives in a turn is what the values at entry give
 pub value_kept : (t : Table) (values new : List ℕ) (slot caller from end h : ℕ) (arguments : Arguments) (g : ℕ) → Setting t values new slot caller from end h arguments
     → (caller ≡ slot → ⊥) → entry_value t new caller g h ≡ entry_value t values caller g h

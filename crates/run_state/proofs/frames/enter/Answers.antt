@@ -6,7 +6,7 @@ use Rattle.table.specs.Table.{table_of}
 use Rattle.declarations.specs.Laid.{laid_for}
 use Rattle.run_state.specs.Shown.{entry_value}
 use Rattle.run_state.specs.TableLaws.{handles_there, bounds}
-use Rattle.run_state.proofs.Filling.{setting_next, setting_done, value_kept}
+use Rattle.run_state.proofs.Filling.{setting_next, value_kept}
 use Rattle.run_state.proofs.frames.enter.Goals as goal
 
 pub entry_value-v-requires : goal.entry_value-v-requires
@@ -23,8 +23,3 @@ loop-h-preserved c =
     (setting_next _ _ _ _ _ _ _ _ _ _ s (rw l.measured.handles_first (bounds _ l.accepted c.args.routine).few) c.requires.1 c.loop-h-test.true
     ((rw c.program.view_is at c.entry_value-v.ensures.0) ∙ value_kept _ _ _ _ _ _ _ _ _ _ s c.requires.3
     ∙ ap (λ (g : ℕ). entry_value (table_of c.args.loaded.now.program) c.args.values.now c.args.caller g c.loop-h.h) c.at-g.ensures))
-
-pub returns : goal.returns
-returns c =
-    let l = laid_for c.program.view_is c.program.invariant in
-    record { accepted = l.accepted; entered = rw (← l.measured.handles_first) (setting_done c.loop-h.invariant c.loop-h-test.false) }
