@@ -4,6 +4,3 @@ use Rattle.flow_vectors.proofs.passes_of.Goals as goal
 
 pub passes_through-requires : goal.passes_through-requires
 passes_through-requires c = rw c.new.ensures (edges_fit c.args.numbers.now c.requires)
-
-pub returns : goal.returns
-returns c = rw c.new.ensures at c.passes_through.ensures
