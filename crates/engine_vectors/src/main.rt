@@ -10,12 +10,20 @@ use table::Refusal;
 
 // All the cells, a space before each.
 fn say_cells(rt: &impl Print, cells: &[i32]) -> io::Result<()> {
-    say_words(rt, b", cells", |tail| tail.put_values(cells))
+    say_words(
+        &mut io::writer(rt),
+        b", cells",
+        |tail| tail.put_values(cells),
+    )
 }
 
 // All the answers, a space before each.
 fn say_answers(rt: &impl Print, answers: &[u8]) -> io::Result<()> {
-    say_words(rt, b", answers", |tail| tail.put_answers(answers))
+    say_words(
+        &mut io::writer(rt),
+        b", answers",
+        |tail| tail.put_answers(answers),
+    )
 }
 
 // The number and the line of a call.

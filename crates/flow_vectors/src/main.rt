@@ -64,7 +64,8 @@ fn print_passes(rt: &impl Print, path: &[u8], text: &[u8]) -> io::Result<()> {
 
 // One argument: the line of the file that it names.
 fn try_argument(rt: &(impl Files + Print + Eprint), path: &[u8]) -> io::Result<()> {
-    run_printer::with_file(rt, path, |text| print_passes(rt, path, text))
+    run_printer::with_file(rt, path, |text| print_passes(rt, path, text))?;
+    Ok(())
 }
 
 fn main(rt: HostRuntime) -> io::Result<()> {

@@ -12,7 +12,8 @@ fn print_answer(rt: &impl Print, text: &[u8]) -> io::Result<()> {
 
 // One argument: the report of the file that it names.
 fn try_argument(rt: &(impl Files + Print + Eprint), path: &[u8]) -> io::Result<()> {
-    run_printer::with_file(rt, path, |text| print_answer(rt, text))
+    run_printer::with_file(rt, path, |text| print_answer(rt, text))?;
+    Ok(())
 }
 
 fn main(rt: HostRuntime) -> io::Result<()> {

@@ -180,26 +180,33 @@ pub fn load<R: Files + Eprint>(rt: &R, path: &[u8], buffer: &mut [u8]) -> io::Re
     }
 }
 
-// Hands the bytes of a file, 65,536 at most, to `take`; nothing where it cannot be opened, which is said on standard error. What a file holds no contract of
-// std's says, so of `take` nothing is promised, as in `say_words`, since `Print` says nothing of what is printed.
+// Hands the bytes of a file, 65,536 at most, to `take`; none where it cannot be opened, which is said on standard error, as a name that is not UTF-8 cannot be.
+// What a file holds no contract of std's says.
 pub fn with_file<R: Files + Eprint, F: FnOnce(&[u8]) -> io::Result<()>>(
     rt: &R,
     path: &[u8],
     take: F,
-) -> io::Result<()>
+) -> io::Result<Option<()>>
     requires { F.IsAlwaysCallable take }
+    ensures { IfOk result (λ taken. IfSome taken (λ done. IsUtf8 path.now)) }
 {
     let Some(mut file) = open(rt, path)? else {
-        return Ok(());
+        return Ok(None);
     };
     let mut bytes = [0u8; 65536];
     let n = read_full(&mut file, &mut bytes)?;
-    take(&bytes[..n])
+    take(&bytes[..n])?;
+    Ok(Some(()))
 }
 
-// Prints a text and behind it what `put` puts, 2,048 bytes at most.
-pub fn say_words<R: Print, F: FnOnce(&mut Tail<'_>)>(rt: &R, text: &[u8], put: F) -> io::Result<()>
+// Writes a text and behind it what `put` puts, 2,048 bytes at most.
+pub fn say_words<W: Write, F: FnOnce(&mut Tail<'_>)>(
+    to: &mut W,
+    text: &[u8],
+    put: F,
+) -> io::Result<()>
     requires { F.IsAlwaysCallable put }
+    ensures { (put_there : Tail) × (said : Tail) × PutBefore put_there said text.now × OnOk result (Appends (W.contents to.old) (W.contents to.new) (drop said.start said.out.now)) }
 {
     let mut out = [0u8; 2048];
     let mut tail = Tail {
@@ -208,7 +215,7 @@ pub fn say_words<R: Print, F: FnOnce(&mut Tail<'_>)>(rt: &R, text: &[u8], put: F
     };
     put(&mut tail);
     tail.put_text(text);
-    rt.write_all(tail.text())
+    to.write_all(tail.text())
 }
 
 // Reads argument `i` into a buffer, and says how many bytes it has; none where there is no such argument. One that is longer than the buffer counts as empty.

@@ -26,7 +26,7 @@ fn print_steps(rt: &impl Print, schedule: &[u8], answers: &[u8]) -> io::Result<(
 // The cells of an accepted text: as many as its header says, 20 bytes each at most.
 fn print_cells_of(rt: &impl Print, text: &[u8], cells: &[i32]) -> io::Result<()> {
     let own = lists::front(cells, table::cell_count(text));
-    run_printer::say_words(rt, b"", |tail| tail.put_cells(own))
+    run_printer::say_words(&mut io::writer(rt), b"", |tail| tail.put_cells(own))
 }
 
 fn step_through(rt: &impl Print, text: &[u8], schedule: &[u8]) -> io::Result<()> {
@@ -56,7 +56,8 @@ fn with_argument<R: Files + Eprint + Env, F: FnOnce(&[u8]) -> io::Result<()>>(
 {
     let mut path = [0u8; 4096];
     let n = run_printer::read_argument(rt, i, &mut path).unwrap_or(0);
-    run_printer::with_file(rt, &path[..n], take)
+    run_printer::with_file(rt, &path[..n], take)?;
+    Ok(())
 }
 
 fn with_table(rt: &(impl Files + Print + Eprint + Env), text: &[u8]) -> io::Result<()> {

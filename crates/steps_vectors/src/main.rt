@@ -19,12 +19,12 @@ use std::rt::Files;
 
 // A text and numbers behind it, a space before each.
 fn say_numbers(rt: &impl Print, text: &[u8], numbers: &[u8]) -> io::Result<()> {
-    say_words(rt, text, |tail| tail.put_answers(numbers))
+    say_words(&mut io::writer(rt), text, |tail| tail.put_answers(numbers))
 }
 
 // `, cells` and the values of the cells, a space before each; a line feed.
 fn say_left(rt: &impl Print, cells: &[i32]) -> io::Result<()> {
-    say_words(rt, b", cells", |tail| {
+    say_words(&mut io::writer(rt), b", cells", |tail| {
         tail.put_text(b"\n");
         tail.put_values(cells);
     })

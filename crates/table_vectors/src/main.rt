@@ -19,7 +19,8 @@ fn print_verdict(rt: &impl Print, text: &[u8]) -> io::Result<()> {
 fn try_argument(rt: &(impl Files + Print + Eprint), path: &[u8]) -> io::Result<()> {
     rt.write_all(path)?;
     rt.write_all(b"\n")?;
-    run_printer::with_file(rt, path, |text| print_verdict(rt, text))
+    run_printer::with_file(rt, path, |text| print_verdict(rt, text))?;
+    Ok(())
 }
 
 fn main(rt: HostRuntime) -> io::Result<()> {
