@@ -2,6 +2,7 @@
 // The operations of document 01 on the state of a run, but for those on locks, one function each, and what a step is answered with. A place and the state go
 // into each as an index and a list do, and a routine with its arguments as the statement has them. READ and WRITE take a
 // count of cells and no `Loaded`: they serve for any state, and any count that its array has.
+mod numbers;
 pub mod place;
 
 ghost use Rattle.std.specs.Prelude.{◌≡◌, cond, ◌+◌, ◌*◌, ◌-◌, ◌<◌, ◌≤◌, pos, ◌+ℤ◌, get_or, set, Ok, Some, None};
@@ -12,6 +13,7 @@ ghost use Rattle.run_state.specs.Shown.{value_place};
 ghost use Rattle.operations.specs.Step.{refusal_number};
 ghost use Rattle.operations.specs.Operation.{Newest, on, Called, Started};
 
+use numbers::saturating_sum;
 pub use place::Place;
 use run_state::frames::{enter, put_value, value_of};
 use run_state::{Loaded, State};
@@ -92,7 +94,7 @@ pub fn set(number: i32, at: Place, state: &mut State) -> Move
 pub fn add(number: i32, at: Place, state: &mut State) -> Move
     ensures { (result ≡ on at) × (state.new ≡ record state.old { accumulators = set state.old.accumulators at.thread (saturate (get_or state.old.accumulators at.thread (pos 0) +ℤ number)) }) }
 {
-    let sum = state.accumulators[at.thread].saturating_add(number);
+    let sum = saturating_sum(state.accumulators[at.thread], number);
     state.accumulators[at.thread] = sum;
     going_on(at)
 }

@@ -125,6 +125,12 @@ module _ (f : List ℤ) (accepted : Accepted (table_of f)) where
           let none = entry_behind 33 (routines f + 1) (handles_from f) (first_handles f) (r + 1) refl (omega (arith, ltb-false r (routines f) e)) in
           record { first_low = first_most r; few = omega (arith, none); there = omega (arith, none) }
 
+  -- of a routine that is there, the first statement is one of the table's
+  pub first_inside : (r : ℕ) → r < length (table_of f).routines → get_or (first_statements f) r 0 < 512
+  first_inside r l =
+      let facts = accepted.routine_facts r l in
+      omega (arith, (looked_up r l).first_is, facts.some_statement, facts.statements_there, accepted.statements_most)
+
 -- a routine's first statement, as a program's extents have it
 pub first_small : {f : List ℤ} {base : ℕ} {x : Extents} → Laid f base x → (r : ℕ) → get_or x.first r 0 ≤ 512
 first_small l r = rw l.measured.firsts (bounds _ l.accepted r).first_low

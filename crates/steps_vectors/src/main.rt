@@ -127,13 +127,17 @@ fn show_turns(
     )
 }
 
-// A run by itself: its answers, and as many cells as its header says.
+// A run by itself: its answers, and as many cells as its header says; nothing of them where it says more than a table can have.
 fn show_alone(rt: &impl Print, text: &[u8], schedule: &[u8]) -> io::Result<()> {
     let mut answers = [0u8; 300];
     let mut cells = [0i32; 64];
     let _ = engine::run(text, schedule, &mut answers, &mut cells);
     say_numbers(rt, b"answers", lists::front(&answers, schedule.len()))?;
-    say_left(rt, lists::front(&cells, table::cell_count(text)))
+    let count = table::cell_count(text);
+    if cells.len() < count {
+        return Ok(());
+    }
+    say_left(rt, &cells[..count])
 }
 
 // The tables and schedules of these names, in turn and by themselves.

@@ -22,4 +22,4 @@ loop-h-preserved c =
     rw c.put_value.ensures
     (setting_next _ _ _ _ _ _ _ _ _ _ s (rw l.measured.handles_first (bounds _ l.accepted c.args.routine).few) c.requires.1 c.loop-h-test.true
     ((rw c.program.view_is at c.entry_value-v.ensures.0) ∙ value_kept _ _ _ _ _ _ _ _ _ _ s c.requires.3
-    ∙ ap (λ (g : ℕ). entry_value (table_of c.args.loaded.now.program) c.args.values.now c.args.caller g c.loop-h.h) c.at-g.ensures))
+    ∙ ap (λ (g : ℕ). entry_value (table_of c.args.loaded.now.program) c.args.values.now c.args.caller g c.loop-h.h) c.value_at-g.ensures))
